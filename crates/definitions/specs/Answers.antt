@@ -1,0 +1,45 @@
+-- What every search checks first, in order, and what it answers.
+-- Assumes nothing.
+use Prim.Native.Nat.{ℕ, _*_, _-_}
+use mathlib.Core.Bool.{Bool, true, false, not, _&&_}
+use mathlib.Core.List.{List}
+use lib.Dec.{leb, eqb}
+use lib.ListN.{length}
+use Rattle.definitions.specs.Basics.{pick, every}
+use Rattle.definitions.specs.Charts.{Chart, readChart}
+use Rattle.definitions.specs.Diagrams.{Diagram, size, readDiagram}
+use Rattle.definitions.specs.declared.Answer.{Answer}
+
+-- both files and the space pass, or a refusal: its number, file and place
+pub data Load : Type 0 where
+  ready : Chart → Diagram → Load
+  turned : ℕ → ℕ → ℕ → Load
+
+-- how many entries each work slice needs, and how many the plan slice needs
+abbrev pub workNeed : Chart → Diagram → ℕ
+workNeed c d = c .stages * size d
+
+abbrev pub planNeed : Chart → ℕ
+planNeed c = c .stages - 1
+
+-- the lengths of the work slices and of the plan slice are enough
+abbrev pub spaceFits : Chart → Diagram → List ℕ → ℕ → Bool
+spaceFits c d works plan = every (leb (workNeed c d)) works && leb (planNeed c) plan
+
+-- the chart (file 1), then the diagram (file 2), then the space (7)
+unfoldable pub load : List ℕ → List ℕ → List ℕ → ℕ → Load
+load chart rules works plan =
+    let c = readChart chart in
+    let d = readDiagram rules (length (c .chart .steps)) in
+    pick (not (eqb (c .number) 0)) (turned (c .number) 1 (c .place))
+    (pick (not (eqb (d .number) 0)) (turned (d .number) 2 (d .place))
+    (pick (not (spaceFits (c .chart) (d .diagram) works plan)) (turned 7 0 0)
+    (ready (c .chart) (d .diagram))))
+
+-- a refusal has cost 0 and length 0
+abbrev pub refusal : ℕ → ℕ → ℕ → ℕ → Answer
+refusal number file place count = record { number = number; file = file; place = place; cost = 0; length = 0; count = count }
+
+-- an accepted answer has number, file and place 0
+abbrev pub accepted : ℕ → ℕ → ℕ → Answer
+accepted cost length count = record { number = 0; file = 0; place = 0; cost = cost; length = length; count = count }

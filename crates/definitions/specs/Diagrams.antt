@@ -1,0 +1,106 @@
+-- The rule diagram (an ordered binary decision diagram), its file, and how it is walked.
+-- Assumes nothing.
+use Prim.Native.Nat.{ℕ, zero, suc, _+_, _-_}
+use mathlib.Core.Bool.{Bool, true, false, not, _&&_, _||_}
+use mathlib.Core.List.{List, []}
+use lib.Dec.{leb, ltb, eqb}
+use lib.ListN.{length, getD}
+use Rattle.definitions.specs.Basics.{pick}
+use Rattle.definitions.specs.Fields.{two, part, fieldAt, onField, Scan, scan}
+
+-- an inner node
+pub record InnerNode : Type 0 where
+  pub step : ℕ
+  pub lo : ℕ
+  pub hi : ℕ
+
+pub record Diagram : Type 0 where
+  pub root : ℕ
+  pub nodes : List InnerNode
+
+-- past the inner nodes
+abbrev pub noNode : InnerNode
+noNode = record { step = 0; lo = 0; hi = 0 }
+
+-- N: the count of inner nodes plus 2
+abbrev pub size : Diagram → ℕ
+size d = length (d .nodes) + 2
+
+-- the inner node of a number from 2 on
+abbrev pub inner : Diagram → ℕ → InnerNode
+inner d n = getD (d .nodes) (n - 2) noNode
+
+-- ---- the file
+
+-- r may be a child of the node numbered `own`: it is below `own` and, if inner, has a larger step. `stepAt` is the step of each node before
+abbrev pub childFits : (ℕ → ℕ) → ℕ → ℕ → ℕ → Bool
+childFits stepAt own step r = ltb r own && (ltb r 2 || ltb step (stepAt r))
+
+-- what is wrong with a node's body after `count` nodes, in a chart of so many steps; 0: nothing.
+-- At most 510 inner nodes; the step exists in the chart; lo and hi may be its children
+unfoldable pub nodeFault : ℕ → (ℕ → ℕ) → ℕ → List ℕ → ℕ
+nodeFault steps stepAt count b =
+    pick (leb 510 count) 6
+    (pick (leb steps (two b 0)) 6
+    (pick (not (childFits stepAt (count + 2) (two b 0) (two b 2))) 6
+    (pick (not (childFits stepAt (count + 2) (two b 0) (two b 4))) 6 0)))
+
+-- a node's body: step, lo, hi
+abbrev pub nodeOf : List ℕ → InnerNode
+nodeOf b = record { step = two b 0; lo = two b 2; hi = two b 4 }
+
+abbrev pub nodeFaultAfter : ℕ → List InnerNode → List ℕ → ℕ
+nodeFaultAfter steps before b = nodeFault steps (λ r. getD before (r - 2) noNode .step) (length before) b
+
+-- A diagram file, read: the refusal's number and place, 0 and 0 where it is accepted, and the diagram as far as its fields passed
+pub record DiagramRead : Type 0 where
+  pub number : ℕ
+  pub place : ℕ
+  pub diagram : Diagram
+
+abbrev pub diagramRead : ℕ → ℕ → ℕ → List InnerNode → DiagramRead
+diagramRead number place root nodes = record { number = number; place = place; diagram = record { root = root; nodes = nodes } }
+
+-- the root comes after all nodes: 6 at place 0 where it is not below N
+abbrev pub withNodes : ℕ → Scan InnerNode → DiagramRead
+withNodes root x =
+    pick (not (eqb (x .number) 0)) (diagramRead (x .number) (x .place) root (x .passed))
+    (pick (leb (length (x .passed) + 2) root) (diagramRead 6 0 root (x .passed))
+    (diagramRead 0 0 root (x .passed)))
+
+-- the nodes of a diagram file over a chart of so many steps, from a place on
+abbrev pub scanNodes : List ℕ → ℕ → ℕ → Scan InnerNode
+scanNodes s steps at = scan s 18 6 (nodeFaultAfter steps) nodeOf (length s) at []
+
+-- the head first, once; then nodes to the file's end. An empty file is 2 at place 0
+unfoldable pub readDiagram : List ℕ → ℕ → DiagramRead
+readDiagram s steps =
+    onField (fieldAt s 0 17 2) (diagramRead 2 0 0 []) (λ number. diagramRead number 0 0 [])
+    (λ start end. withNodes (two (part s start end) 0) (scanNodes s steps end))
+
+-- ---- the walk
+
+-- Recursion down the diagram: `at` the numbers 0 and 1, and `inside` from an inner node's number, the node, and what its lo and hi give.
+-- Children have lower numbers, so the number itself bounds the depth
+module _ {A : Type 0} (d : Diagram) (at : ℕ → A) (inside : ℕ → InnerNode → A → A → A) where
+  unfoldable pub descendIn : ℕ → ℕ → A
+  descendIn zero n = at n
+  descendIn (suc k) n =
+      let l = descendIn k (inner d n .lo) in
+      let h = descendIn k (inner d n .hi) in
+      pick (ltb n 2) (at n) (inside n (inner d n) l h)
+
+  unfoldable pub descend : ℕ → A
+  descend n = descendIn n n
+
+-- To advance a node by step e: to lo while the node is inner and its step is below e; if it is then inner and its step is e, to hi
+unfoldable pub advance : Diagram → ℕ → ℕ → ℕ
+advance d e n = descend d (λ n. n) (λ n x lo hi. pick (ltb (x .step) e) lo (pick (eqb (x .step) e) (x .hi) n)) n
+
+-- To finish a node: to lo until 0 or 1
+unfoldable pub finish : Diagram → ℕ → ℕ
+finish d n = descend d (λ n. n) (λ n x lo hi. lo) n
+
+-- The verdict on a set of steps, from a node on: to hi where the node's step is in the set, else to lo, until 0 or 1
+unfoldable pub verdict : Diagram → (ℕ → Bool) → ℕ → ℕ
+verdict d set n = descend d (λ n. n) (λ n x lo hi. pick (set (x .step)) hi lo) n

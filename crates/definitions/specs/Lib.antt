@@ -1,0 +1,12 @@
+pub mod Basics
+pub mod Fields
+pub mod Charts
+pub mod Diagrams
+pub mod Ways
+pub mod Pairs
+pub mod Plans
+pub mod Limits
+pub mod Answers
+pub mod Promises
+pub mod Examples
+pub mod Marked

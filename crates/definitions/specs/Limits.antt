@@ -1,0 +1,32 @@
+-- The limits of document 01 as statements. They hold of every chart and diagram that the readers accept.
+-- Assumes nothing.
+use Prim.Native.Nat.{ℕ, _≤_, _<_}
+use lib.ListN.{length}
+use Rattle.definitions.specs.Diagrams.{Diagram, size, inner}
+use Rattle.definitions.specs.Ways.{Graph}
+
+-- of a chart, as the graph that the searches walk
+pub record Valid (g : Graph) : Type 0 where
+  pub some-stages : 1 ≤ g .stages
+  pub few-stages : g .stages ≤ 256
+  pub start-inside : g .start < g .stages
+  pub end-inside : g .end < g .stages
+  pub few : g .count ≤ 1024
+  pub forward : (e : ℕ) → e < g .count → g .from e < g .to e
+  pub inside : (e : ℕ) → e < g .count → g .to e < g .stages
+  pub sorted : (e f : ℕ) → e ≤ f → f < g .count → g .from e ≤ g .from f
+  pub cheap : (e : ℕ) → e < g .count → g .cost e ≤ 1000000
+
+-- of a diagram's nodes: children have lower numbers and, if inner, larger steps. Past the nodes it holds of `noNode`
+pub record Ordered (d : Diagram) : Type 0 where
+  pub lo-below : (n : ℕ) → 2 ≤ n → inner d n .lo < n
+  pub hi-below : (n : ℕ) → 2 ≤ n → inner d n .hi < n
+  pub lo-later : (n : ℕ) → 2 ≤ n → 2 ≤ inner d n .lo → inner d n .step < inner d (inner d n .lo) .step
+  pub hi-later : (n : ℕ) → 2 ≤ n → 2 ≤ inner d n .hi → inner d n .step < inner d (inner d n .hi) .step
+
+-- of a diagram over a chart of so many steps
+pub record Sound (steps : ℕ) (d : Diagram) : Type 0 where
+  pub ordered : Ordered d
+  pub exist : (n : ℕ) → 2 ≤ n → n < size d → inner d n .step < steps
+  pub few : length (d .nodes) ≤ 510
+  pub root-inside : d .root < size d

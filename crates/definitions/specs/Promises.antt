@@ -1,0 +1,126 @@
+-- What the searches promise: their answer, and every lent slice after the call (plan′, log′ ..) by what it was before it (plan, log ..).
+-- Left free are which of several cheapest plans is given, the order of equal sums in the log, and the entries that `Scratch` names.
+-- Assumes nothing.
+use Prim.Native.Nat.{ℕ, zero, suc, _+_, _-_, _≤_, _<_}
+use mathlib.Core.Path.{_≡_}
+use mathlib.Core.Bool.{Bool, true, false}
+use mathlib.Core.List.{List, _++_, map, List·Memᴰ}
+use mathlib.Core.Option.{Option, none, some}
+use lib.Dec.{eqb}
+use lib.ListN.{length, getD, take, drop}
+use Rattle.definitions.specs.Basics.{upto}
+use Rattle.definitions.specs.Charts.{Chart}
+use Rattle.definitions.specs.Diagrams.{Diagram}
+use Rattle.definitions.specs.Ways.{Graph, wayCost}
+use Rattle.definitions.specs.Pairs.{Automaton, Estimate, pair, pairs, stageOf, nodeOf, leastCost, goal, sum, reachedPairs}
+use Rattle.definitions.specs.Plans.{graph, automaton, Legal, cheapest, estimate}
+use Rattle.definitions.specs.Answers.{Load, ready, turned, workNeed, refusal, accepted}
+use Rattle.definitions.specs.declared.Answer.{Answer}
+
+-- ---- the plan slice, for both searches
+
+-- the first l entries are a legal plan that costs m, the further entries stay
+pub record Planned (c : Chart) (d : Diagram) (m l : ℕ) (plan plan′ : List ℕ) : Type 0 where
+  pub fits : l ≤ length plan
+  pub legal : Legal c d (take l plan′)
+  pub costs : wayCost (graph c) (take l plan′) ≡ m
+  pub long : length plan′ ≡ length plan
+  pub rest : drop l plan′ ≡ drop l plan
+
+-- The answer with its count k, by the cost of a cheapest legal plan: 8 exactly where there is none, and then the plan slice stays;
+-- else a legal plan of that cost
+abbrev pub Outcome : Option ℕ → Chart → Diagram → ℕ → List ℕ → List ℕ → Answer → Type 0
+Outcome none c d k plan plan′ r = (r ≡ refusal 8 0 0 k) × (plan′ ≡ plan)
+Outcome (some m) c d k plan plan′ r = (r ≡ accepted m (r .length) k) × Planned c d m (r .length) plan plan′
+
+-- ---- work slices
+
+-- a work slice of which only this is promised: a refusal other than 8 leaves it, and so do the entries past stage count × N.
+-- Its first stage count × N entries are left free
+abbrev pub Scratch : Load → List ℕ → List ℕ → Type 0
+Scratch (turned number file place) work work′ = work′ ≡ work
+Scratch (ready c d) work work′ = (length work′ ≡ length work) × (drop (workNeed c d) work′ ≡ drop (workNeed c d) work)
+
+-- ---- the sweep (dynamic programming in topological order)
+
+-- what the cost slice holds at a pair: the least cost if it is reached, else 4,294,967,295
+abbrev pub shown : Option ℕ → ℕ
+shown none = 4294967295
+shown (some m) = m
+
+unfoldable pub leastCosts : Graph → Automaton → List ℕ
+leastCosts g a = map (λ p. shown (leastCost g a (stageOf a p) (nodeOf a p))) (upto (pairs g a))
+
+-- the plan slice and the cost slice before and after, and the answer. The count is the number of reached pairs
+abbrev pub Swept : Load → List ℕ → List ℕ → List ℕ → List ℕ → Answer → Type 0
+Swept (turned number file place) plan plan′ costs costs′ r = (r ≡ refusal number file place 0) × (plan′ ≡ plan) × (costs′ ≡ costs)
+Swept (ready c d) plan plan′ costs costs′ r =
+    Outcome (cheapest c d) c d (length (reachedPairs (graph c) (automaton c d))) plan plan′ r
+    × (costs′ ≡ leastCosts (graph c) (automaton c d) ++ drop (workNeed c d) costs)
+
+-- ---- the guided search (A*), over any estimate h
+
+module _ (g : Graph) (a : Automaton) (h : Estimate) where
+  -- the least cost and the sum of a pair's number, and whether it is a goal pair
+  abbrev pub leastCostAt : ℕ → Option ℕ
+  leastCostAt p = leastCost g a (stageOf a p) (nodeOf a p)
+
+  abbrev pub sumAt : ℕ → Option ℕ
+  sumAt p = sum g a h (stageOf a p) (nodeOf a p)
+
+  abbrev pub goalAt : ℕ → Bool
+  goalAt p = goal g a (stageOf a p) (nodeOf a p)
+
+  -- q follows from p by one step, on a way of least cost to it
+  pub record Follows (p q : ℕ) : Type 0 where
+    pub step : ℕ
+    pub exists : step < g .count
+    pub leaves : g .from step ≡ stageOf a p
+    pub enters : q ≡ pair a (g .to step) (a .next step (nodeOf a p))
+    pub before : ℕ
+    pub least-before : leastCostAt p ≡ some before
+    pub least : leastCostAt q ≡ some (before + g .cost step)
+
+  -- The log of the settled pairs: the first is the pair of start and root; each is a reached pair with an estimate (it has a sum); the sums never fall;
+  -- none stands twice; each after the first follows from an earlier one
+  pub record Settled (log : List ℕ) : Type 0 where
+    pub first : 0 < length log → getD log 0 0 ≡ pair a (g .start) (a .root)
+    pub inside : (i : ℕ) → i < length log → getD log i 0 < pairs g a
+    pub sums : (i : ℕ) → i < length log → (k : ℕ) × (sumAt (getD log i 0) ≡ some k)
+    pub rises : (i j k m : ℕ) → i ≤ j → j < length log → sumAt (getD log i 0) ≡ some k → sumAt (getD log j 0) ≡ some m → k ≤ m
+    pub once : (i j : ℕ) → i < j → j < length log → getD log i 0 ≡ getD log j 0 → ⊥
+    pub follows : (j : ℕ) → 0 < j → j < length log → (i : ℕ) × (i < j) × Follows (getD log i 0) (getD log j 0)
+
+  -- every reached pair whose sum has the property Q is in the log
+  abbrev pub Complete : (ℕ → Type 0) → List ℕ → Type 0
+  Complete Q log = (p : ℕ) → p < pairs g a → (k : ℕ) → sumAt p ≡ some k → Q k → List·Memᴰ p log
+
+  -- With a legal plan of the least cost m: the last entry is the only goal pair, its least cost is m, every reached pair whose sum is below m is in the log
+  -- and none whose sum is above m
+  pub record Found (m : ℕ) (log : List ℕ) : Type 0 where
+    pub some-entry : 0 < length log
+    pub only-goal : (i : ℕ) → i < length log → goalAt (getD log i 0) ≡ eqb (suc i) (length log)
+    pub goal-cost : leastCostAt (getD log (length log - 1) 0) ≡ some m
+    pub below : Complete (λ k. k < m) log
+    pub none-above : (i k : ℕ) → i < length log → sumAt (getD log i 0) ≡ some k → k ≤ m
+
+  -- how the search ends, by the cost of a cheapest legal plan; where there is none, every reached pair with an estimate is in the log
+  abbrev pub Ended : Option ℕ → List ℕ → Type 0
+  Ended none log = Complete (λ k. Unit {0}) log
+  Ended (some m) log = Found m log
+
+  -- the log slice before and after: its first `count` entries are the log, its further entries stay; no more pairs are settled than are reached
+  pub record Logged (best : Option ℕ) (count : ℕ) (log log′ : List ℕ) : Type 0 where
+    pub fits : count ≤ length log
+    pub settled : Settled (take count log′)
+    pub ended : Ended best (take count log′)
+    pub few : count ≤ length (reachedPairs g a)
+    pub long : length log′ ≡ length log
+    pub rest : drop count log′ ≡ drop count log
+
+-- the plan slice and the log slice before and after, and the answer. The count is the log's length
+abbrev pub Guided : Load → List ℕ → List ℕ → List ℕ → List ℕ → Answer → Type 0
+Guided (turned number file place) plan plan′ log log′ r = (r ≡ refusal number file place 0) × (plan′ ≡ plan) × (log′ ≡ log)
+Guided (ready c d) plan plan′ log log′ r =
+    Outcome (cheapest c d) c d (r .count) plan plan′ r
+    × Logged (graph c) (automaton c d) (estimate c d) (cheapest c d) (r .count) log log′

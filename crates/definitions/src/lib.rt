@@ -1,0 +1,36 @@
+// The types that the definitions and the code share. The definitions themselves are in specs/.
+
+// A stage of the chart (a vertex of the graph).
+pub struct Stage(pub u16);
+
+// A step of the chart (an edge), numbered from 0 in file order.
+pub struct Step(pub u16);
+
+// A node of the rule diagram: 0 is "no", 1 is "yes", the inner nodes are 2, 3, 4 .. in file order.
+pub struct Node(pub u16);
+
+// What stands at a place of a file where a field of some tag and length is due.
+pub enum Field {
+    // The file ends at this place.
+    Absent,
+    // The refusal's number.
+    Faulty(u8),
+    // The field is whole: where its body starts, and where it ends and the next field is due.
+    Whole { start: usize, end: usize },
+}
+
+// What a search answers.
+pub struct Answer {
+    // 0, or the refusal's number.
+    pub number: u32,
+    // The file at fault: 1 the chart, 2 the diagram, 0 neither.
+    pub file: u32,
+    // The byte position of the faulty field's tag.
+    pub place: usize,
+    // What the plan costs, in nanoseconds.
+    pub cost: u32,
+    // How many steps the plan has.
+    pub length: usize,
+    // The pairs reached (sweep) or settled (guided search).
+    pub count: usize,
+}
