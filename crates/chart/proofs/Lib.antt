@@ -1,0 +1,5 @@
+pub mod Values
+pub mod Steps
+pub mod Whole
+pub mod Firsts
+pub mod Estimating

@@ -1,0 +1,138 @@
+-- The loop over the steps: its invariant, with one law for each way on.
+-- Assumes nothing.
+use Prim.Native.Nat.{ℕ, _+_, _-_, _*_, _<_}
+use mathlib.Core.Path.{_≡_, refl, sym, _∙_, ap}
+use mathlib.Core.List.{List, [], _∷_, _++_}
+use lib.ListN.{length, set, length-append, length-set}
+use lib.Seq.{getD-append-seam}
+use native.Mathlib.Omega.{arith}
+use mir.Val.{Fits}
+use mir.Syntax.{w64}
+use Rattle.definitions.specs.Fields.{part, fieldAt, stopped}
+use Rattle.definitions.specs.Charts.{ChartStep, noStep, stepFault, stepOf, lastFrom, stepFaultAfter, scanSteps}
+use Rattle.definitions.specs.declared.Field.{Field}
+use Rattle.definitions.specs.declared.Field.the-variants.{Absent, Faulty, Whole}
+use Rattle.fields.specs.Scans.{Reading, reading-start, reading-done, reading-faulty, reading-bad, reading-step}
+use Rattle.chart.specs.Tables.{heldSteps, Room, Filled, stepBody, stepsAnswer}
+use Rattle.chart.specs.Held.{held-grown, rest-grown, nothing-filled}
+use Rattle.chart.specs.Limits.{step-fits}
+use Rattle.chart.specs.declared.reader.StepBody.{StepBody}
+use Rattle.chart.specs.declared.reader.StepsRead.{StepsRead}
+
+-- a step that passes has room in the tables
+module _ (v stages last count : ℕ) (b : List ℕ) (judged : v ≡ stepFault stages last count b) (passes : v ≡ 0) where
+  pub step-below : count < 1024
+  step-below = step-fits stages last count b (sym passes ∙ judged) .below
+
+  pub step-double : Fits w64 (count * 2)
+  step-double = omega (arith, step-below)
+
+  pub step-quad : Fits w64 (count * 4)
+  step-quad = omega (arith, step-below)
+
+  pub step-more : Fits w64 (count + 1)
+  step-more = omega (arith, step-below)
+
+pub ruleset room-laws = (step-below, step-double, step-quad, step-more)
+
+-- the last of some steps, with one more
+last-grown : (before : List ChartStep) (x : ChartStep) → lastFrom (before ++ x ∷ []) ≡ x .from
+last-grown before x =
+    let e : length (before ++ x ∷ []) - 1 ≡ length before = omega (arith, length-append before (x ∷ [])) in
+    rw (lastFrom, e) (ap (λ (y : ChartStep). y .from) (getD-append-seam before x [] noStep))
+
+filled-grown : (before : List ChartStep) (x : ChartStep) (count : ℕ) (from₀ to₀ cost₀ from to cost : List ℕ) → length before ≡ count → count < 1024
+    → Filled before from₀ to₀ cost₀ from to cost
+    → Filled (before ++ x ∷ []) from₀ to₀ cost₀ (set from count (x .from)) (set to count (x .to)) (set cost count (x .cost))
+filled-grown before x count from₀ to₀ cost₀ from to cost counted below now =
+    let long : length (before ++ x ∷ []) ≡ count + 1 = omega (arith, length-append before (x ∷ [])) in
+    let held : heldSteps count from to cost ≡ before = rw (← counted) (now .held) in
+    record {
+      held = rw (long, held-grown count from to cost x (now .room) below, held);
+      from-rest = rw long (rest-grown count (x .from) from from₀ (rw (← counted) (now .from-rest)));
+      to-rest = rw long (rest-grown count (x .to) to to₀ (rw (← counted) (now .to-rest)));
+      cost-rest = rw long (rest-grown count (x .cost) cost cost₀ (rw (← counted) (now .cost-rest)));
+      room = record {
+        froms = length-set from count (x .from) ∙ now .room .froms;
+        tos = length-set to count (x .to) ∙ now .room .tos;
+        costs = length-set cost count (x .cost) ∙ now .room .costs;
+      };
+    }
+
+-- what is read so far, and that the rest of the walk is still to come
+pub record SoFar (s : List ℕ) (first stages : ℕ) (from₀ to₀ cost₀ from to cost : List ℕ) (at last count : ℕ) : Type 0 where
+  pub before : List ChartStep
+  pub reading : Reading s 2 8 (stepFaultAfter stages) stepOf first at before
+  pub counted : length before ≡ count
+  pub latest : lastFrom before ≡ last
+  pub filled : Room from₀ to₀ cost₀ → Filled before from₀ to₀ cost₀ from to cost
+
+module _ (s : List ℕ) (first stages : ℕ) (from₀ to₀ cost₀ : List ℕ) where
+  pub steps-start : SoFar s first stages from₀ to₀ cost₀ from₀ to₀ cost₀ first 0 0
+  unfolding heldSteps
+  steps-start = record {
+    before = [];
+    reading = reading-start s 2 8 (stepFaultAfter stages) stepOf first;
+    counted = refl;
+    latest = refl;
+    filled = nothing-filled from₀ to₀ cost₀;
+  }
+
+  module _ (from to cost : List ℕ) (at last count : ℕ) (now : SoFar s first stages from₀ to₀ cost₀ from to cost at last count) (r : Field)
+      (given : r ≡ fieldAt s at 2 8) where
+    module _ (found : r ≡ Absent) where
+      done : scanSteps s stages first ≡ stopped (now .before) 0 0
+      done = reading-done s 2 8 (stepFaultAfter stages) stepOf first at (now .before) (now .reading) r given found
+
+      pub steps-done : (x : StepsRead) → x ≡ record { number = 0; place = 0; steps = count } → x ≡ stepsAnswer (scanSteps s stages first)
+      steps-done x e = rw (done, now .counted) e
+
+      pub steps-done-filled : Room from₀ to₀ cost₀ → Filled (scanSteps s stages first .passed) from₀ to₀ cost₀ from to cost
+      steps-done-filled = rw done (now .filled)
+
+    module _ (k : ℕ) (found : r ≡ Faulty k) where
+      faulty : scanSteps s stages first ≡ stopped (now .before) k at
+      faulty = reading-faulty s 2 8 (stepFaultAfter stages) stepOf first at (now .before) (now .reading) r given k found
+
+      pub steps-faulty : (x : StepsRead) → x ≡ record { number = k; place = at; steps = count } → x ≡ stepsAnswer (scanSteps s stages first)
+      steps-faulty x e = rw (faulty, now .counted) e
+
+      pub steps-faulty-filled : Room from₀ to₀ cost₀ → Filled (scanSteps s stages first .passed) from₀ to₀ cost₀ from to cost
+      steps-faulty-filled = rw faulty (now .filled)
+
+    module _ (a e : ℕ) (found : r ≡ Whole a e) (v : ℕ) (judged : v ≡ stepFault stages last count (part s a e)) where
+      same-fault : v ≡ stepFaultAfter stages (now .before) (part s a e)
+      same-fault = rw (now .counted, now .latest) judged
+
+      module _ (fails : v ≡ 0 → ⊥) where
+        bad : scanSteps s stages first ≡ stopped (now .before) v at
+        bad = reading-bad s 2 8 (stepFaultAfter stages) stepOf first at (now .before) (now .reading) r given a e found v same-fault fails
+
+        pub steps-bad : (x : StepsRead) → x ≡ record { number = v; place = at; steps = count } → x ≡ stepsAnswer (scanSteps s stages first)
+        steps-bad x e = rw (bad, now .counted) e
+
+        pub steps-bad-filled : Room from₀ to₀ cost₀ → Filled (scanSteps s stages first .passed) from₀ to₀ cost₀ from to cost
+        steps-bad-filled = rw bad (now .filled)
+
+      pub steps-step : v ≡ 0 → (x : StepBody) → x ≡ stepBody (part s a e)
+          → SoFar s first stages from₀ to₀ cost₀ (set from count (x .from)) (set to count (x .to)) (set cost count (x .cost)) e (x .from) (count + 1)
+      steps-step passes x read = rw read (record {
+        before = now .before ++ stepOf (part s a e) ∷ [];
+        reading = reading-step s 2 8 (stepFaultAfter stages) stepOf first at (now .before) (now .reading) r given a e found v same-fault passes;
+        counted = omega (arith, length-append (now .before) (stepOf (part s a e) ∷ []), now .counted);
+        latest = last-grown (now .before) (stepOf (part s a e));
+        filled =
+            λ room.
+            filled-grown (now .before) (stepOf (part s a e)) count from₀ to₀ cost₀ from to cost (now .counted) (step-below v stages last count (part s a e) judged passes) (now .filled room);
+      })
+
+pub ruleset steps-laws = (
+  steps-start,
+  steps-done,
+  steps-done-filled,
+  steps-faulty,
+  steps-faulty-filled,
+  steps-bad,
+  steps-bad-filled,
+  steps-step,
+)

@@ -1,0 +1,81 @@
+-- The whole chart: one law for each way out of `read_chart`, for its answer and for what the tables hold.
+-- Assumes nothing.
+use Prim.Native.Nat.{ℕ}
+use mathlib.Core.Path.{_≡_}
+use mathlib.Core.List.{List}
+use borrow.Author.Tests.{eq-eqb, ne-eqb}
+use Rattle.definitions.specs.Basics.{pick}
+use Rattle.definitions.specs.Fields.{part, fieldAt, onField}
+use Rattle.definitions.specs.Charts.{headFault, badHead, withSteps, scanSteps, readChart}
+use Rattle.definitions.specs.Charts as charts
+use Rattle.definitions.specs.declared.Field.{Field}
+use Rattle.definitions.specs.declared.Field.the-variants.{Absent, Faulty, Whole}
+use Rattle.chart.specs.Held.{nothing-filled}
+use Rattle.chart.specs.Tables.{Room, Filled, headBody, stepsAnswer, chartAnswer}
+use Rattle.chart.specs.declared.reader.ChartRead.{ChartRead}
+use Rattle.chart.specs.declared.reader.HeadBody.{HeadBody}
+use Rattle.chart.specs.declared.reader.StepsRead.{StepsRead}
+
+-- no step passed, and the tables stay
+untouched : (s : List ℕ) (k : ℕ) (from to cost : List ℕ) → readChart s ≡ badHead k → Room from to cost → Filled (readChart s .chart .steps) from to cost from to cost
+untouched s k from to cost p = rw p (nothing-filled from to cost)
+
+module _ (s : List ℕ) (r : Field) (given : r ≡ fieldAt s 0 1 6) where
+  module _ (found : r ≡ Absent) where
+    empty : readChart s ≡ badHead 2
+    unfolding readChart onField
+    empty = rw (← given, found)
+
+    pub chart-empty : (x : ChartRead) → x ≡ chartAnswer (badHead 2) → x ≡ chartAnswer (readChart s)
+    chart-empty x p = rw empty p
+
+    pub chart-empty-filled : (from to cost : List ℕ) → Room from to cost → Filled (readChart s .chart .steps) from to cost from to cost
+    chart-empty-filled from to cost = untouched s 2 from to cost empty
+
+  module _ (k : ℕ) (found : r ≡ Faulty k) where
+    faulty : readChart s ≡ badHead k
+    unfolding readChart onField
+    faulty = rw (← given, found)
+
+    pub chart-faulty : (x : ChartRead) → x ≡ chartAnswer (badHead k) → x ≡ chartAnswer (readChart s)
+    chart-faulty x p = rw faulty p
+
+    pub chart-faulty-filled : (from to cost : List ℕ) → Room from to cost → Filled (readChart s .chart .steps) from to cost from to cost
+    chart-faulty-filled from to cost = untouched s k from to cost faulty
+
+  module _ (a e : ℕ) (found : r ≡ Whole a e) where
+    module _ (v : ℕ) (judged : v ≡ headFault (part s a e)) where
+      module _ (fails : v ≡ 0 → ⊥) where
+        bad : readChart s ≡ badHead v
+        unfolding readChart onField pick
+        bad = rw (← given, found, ← judged, ne-eqb v 0 fails)
+
+        pub chart-bad : (x : ChartRead) → x ≡ chartAnswer (badHead v) → x ≡ chartAnswer (readChart s)
+        chart-bad x p = rw bad p
+
+        pub chart-bad-filled : (from to cost : List ℕ) → Room from to cost → Filled (readChart s .chart .steps) from to cost from to cost
+        chart-bad-filled from to cost = untouched s v from to cost bad
+
+      module _ (passes : v ≡ 0) (h : HeadBody) (read : h ≡ headBody (part s a e)) where
+        good : readChart s ≡ withSteps (part s a e) (scanSteps s (h .stages) e)
+        unfolding readChart onField pick
+        good = rw (← given, found, ← judged, eq-eqb v 0 passes, read)
+
+        pub chart-good : (y : StepsRead) → y ≡ stepsAnswer (scanSteps s (h .stages) e)
+            → record { number = y .number; place = y .place; stages = h .stages; start = h .start; end = h .end; steps = y .steps } ≡ chartAnswer (readChart s)
+        chart-good y ey = rw (good, ey, read)
+
+        pub chart-good-filled : (from to cost from′ to′ cost′ : List ℕ) → (Room from to cost → Filled (scanSteps s (h .stages) e .passed) from to cost from′ to′ cost′)
+            → Room from to cost → Filled (readChart s .chart .steps) from to cost from′ to′ cost′
+        chart-good-filled from to cost from′ to′ cost′ f = rw good f
+
+pub ruleset chart-laws = (
+  chart-empty,
+  chart-empty-filled,
+  chart-faulty,
+  chart-faulty-filled,
+  chart-bad,
+  chart-bad-filled,
+  chart-good,
+  chart-good-filled,
+)

@@ -1,0 +1,206 @@
+// The reader of the chart file: its steps go into three tables.
+ghost use mathlib.Core.Path.{_≡_};
+ghost use lib.ListN.{length};
+ghost use Rattle.definitions.specs.Charts.{headFault, stepFault, badHead, scanSteps, readChart};
+ghost use Rattle.chart.specs.Tables.{Room, Filled, headBody, stepBody, stepsAnswer, chartAnswer};
+use definitions::Field;
+use fields::field_at;
+use fields::read_u16;
+use fields::read_u32;
+
+// What is wrong with a head's body, 0: nothing.
+fn head_fault(b: &[u8]) -> u8
+    requires { ⌜ length (now b) ≡ 6 ⌝ }
+    ensures { λ r. ⌜ r ≡ headFault (now (b .entry)) ⌝ }
+{
+    let stages = read_u16(b, 0);
+    if stages == 0 {
+        return 4;
+    }
+    if 256 < stages {
+        return 4;
+    }
+    let start = read_u16(b, 2);
+    if stages <= start {
+        return 4;
+    }
+    let end = read_u16(b, 4);
+    if stages <= end {
+        return 4;
+    }
+    0
+}
+
+// What a head's body holds.
+pub struct HeadBody {
+    pub stages: u16,
+    pub start: u16,
+    pub end: u16,
+}
+
+fn head_of(b: &[u8]) -> HeadBody
+    requires { ⌜ length (now b) ≡ 6 ⌝ }
+    ensures { λ r. ⌜ r ≡ headBody (now (b .entry)) ⌝ }
+{
+    HeadBody {
+        stages: read_u16(b, 0),
+        start: read_u16(b, 2),
+        end: read_u16(b, 4),
+    }
+}
+
+// What is wrong with a step's body after `count` steps, the last of which leaves the stage `last`; 0: nothing.
+fn step_fault(b: &[u8], stages: u16, last: u16, count: usize) -> u8
+    requires { ⌜ length (now b) ≡ 8 ⌝ }
+    ensures { λ r. ⌜ r ≡ stepFault stages last count (now (b .entry)) ⌝ }
+{
+    if 1024 <= count {
+        return 5;
+    }
+    let from = read_u16(b, 0);
+    let to = read_u16(b, 2);
+    if to <= from {
+        return 5;
+    }
+    if stages <= to {
+        return 5;
+    }
+    if from < last {
+        return 5;
+    }
+    let cost = read_u32(b, 4);
+    if 1000000 < cost {
+        return 5;
+    }
+    0
+}
+
+// What a step's body holds.
+pub struct StepBody {
+    pub from: u16,
+    pub to: u16,
+    pub cost: u32,
+}
+
+fn step_of(b: &[u8]) -> StepBody
+    requires { ⌜ length (now b) ≡ 8 ⌝ }
+    ensures { λ r. ⌜ r ≡ stepBody (now (b .entry)) ⌝ }
+{
+    StepBody {
+        from: read_u16(b, 0),
+        to: read_u16(b, 2),
+        cost: read_u32(b, 4),
+    }
+}
+
+// The refusal's number and place, 0 and 0 where there is none, and how many steps passed.
+pub struct StepsRead {
+    pub number: u8,
+    pub place: usize,
+    pub steps: usize,
+}
+
+fn stopped(steps: usize, number: u8, place: usize) -> StepsRead
+    ensures { λ r. ⌜ r ≡ record { number = number; place = place; steps = steps } ⌝ }
+{
+    StepsRead {
+        number,
+        place,
+        steps,
+    }
+}
+
+// The steps from a place on, into the tables.
+fn read_steps(
+    file: &[u8],
+    first: usize,
+    stages: u16,
+    from: &mut [u16; 1024],
+    to: &mut [u16; 1024],
+    cost: &mut [u32; 1024],
+) -> StepsRead
+    ensures { λ r. ⌜ r ≡ stepsAnswer (scanSteps (now (file .entry)) stages first) ⌝ }
+    ensures { λ r. ⌜ (Room (now (from .entry)) (now (to .entry)) (now (cost .entry)) → Filled (scanSteps (now (file .entry)) stages first .passed) (now (from .entry)) (now (to .entry)) (now (cost .entry)) (now (from .exit)) (now (to .exit)) (now (cost .exit))) ⌝ }
+{
+    let mut at = first;
+    let mut last: u16 = 0;
+    let mut count: usize = 0;
+    loop {
+        match field_at(file, at, 2, 8) {
+            Field::Absent => return stopped(count, 0, 0),
+            Field::Faulty(number) => return stopped(count, number, at),
+            Field::Whole { start, end } => {
+                let body = &file[start..end];
+                let fault = step_fault(body, stages, last, count);
+                if fault != 0 {
+                    return stopped(count, fault, at);
+                }
+                let step = step_of(body);
+                from[count] = step.from;
+                to[count] = step.to;
+                cost[count] = step.cost;
+                last = step.from;
+                count += 1;
+                at = end;
+            }
+        }
+    }
+}
+
+// A chart file, read: the refusal's number and place, 0 and 0 where it is accepted, and the chart as far as its
+// fields passed.
+pub struct ChartRead {
+    pub number: u8,
+    pub place: usize,
+    pub stages: u16,
+    pub start: u16,
+    pub end: u16,
+    pub steps: usize,
+}
+
+// The chart of a file; its steps go into the tables.
+pub fn read_chart(
+    file: &[u8],
+    from: &mut [u16; 1024],
+    to: &mut [u16; 1024],
+    cost: &mut [u32; 1024],
+) -> ChartRead
+    ensures { λ r. ⌜ r ≡ chartAnswer (readChart (now (file .entry))) ⌝ }
+    ensures { λ r. ⌜ (Room (now (from .entry)) (now (to .entry)) (now (cost .entry)) → Filled (readChart (now (file .entry)) .chart .steps) (now (from .entry)) (now (to .entry)) (now (cost .entry)) (now (from .exit)) (now (to .exit)) (now (cost .exit))) ⌝ }
+{
+    match field_at(file, 0, 1, 6) {
+        Field::Absent => bad_head(2),
+        Field::Faulty(number) => bad_head(number),
+        Field::Whole { start, end } => {
+            let body = &file[start..end];
+            let fault = head_fault(body);
+            if fault != 0 {
+                return bad_head(fault);
+            }
+            let head = head_of(body);
+            let read = read_steps(file, end, head.stages, from, to, cost);
+            ChartRead {
+                number: read.number,
+                place: read.place,
+                stages: head.stages,
+                start: head.start,
+                end: head.end,
+                steps: read.steps,
+            }
+        }
+    }
+}
+
+// The answer to a faulty head.
+fn bad_head(number: u8) -> ChartRead
+    ensures { λ r. ⌜ r ≡ chartAnswer (badHead number) ⌝ }
+{
+    ChartRead {
+        number,
+        place: 0,
+        stages: 0,
+        start: 0,
+        end: 0,
+        steps: 0,
+    }
+}

@@ -1,0 +1,34 @@
+// The first step of each stage. Steps are sorted by the stage they leave, so those of one stage follow each other.
+ghost use Prim.Native.Nat.{_≤_, _<_};
+ghost use Rattle.chart.specs.FirstSteps.{SortedTable, FirstTable, Walked};
+
+// The first step from `start` on that leaves stage `s` or a later one; `count` where there is none.
+fn first_from(from: &[u16; 1024], count: usize, start: usize, s: u16) -> usize
+    requires { ⌜ (start ≤ count) × (count ≤ 1024) ⌝ }
+    ensures { λ r. ⌜ Walked count (now (from .entry)) start s r ⌝ }
+{
+    let mut e = start;
+    while e < count {
+        if s <= from[e] {
+            return e;
+        }
+        e += 1;
+    }
+    e
+}
+
+// For each stage, and for the stage count, how many steps leave stages below it: the number of its first step. 0 past them.
+pub fn first_steps(from: &[u16; 1024], count: usize, stages: u16) -> [u16; 257]
+    requires { ⌜ SortedTable count (now from) × (stages ≤ 256) ⌝ }
+    ensures { λ r. ⌜ FirstTable count stages (now (from .entry)) r ⌝ }
+{
+    let mut first = [0u16; 257];
+    let mut e: usize = 0;
+    let mut s: u16 = 0;
+    while s <= stages {
+        e = first_from(from, count, e, s);
+        first[s as usize] = e as u16;
+        s += 1;
+    }
+    first
+}

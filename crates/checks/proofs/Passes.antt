@@ -1,0 +1,163 @@
+-- What is known where both files passed, and one law for each answer of `load`.
+-- Assumes nothing.
+use Prim.Native.Nat.{ℕ, _+_, _-_, _*_, _≤_, _<_}
+use mathlib.Core.Path.{_≡_, refl, sym, _∙_, ap, ap₂, subst}
+use mathlib.Core.Bool.{Bool, true, false, _&&_}
+use mathlib.Core.List.{List, [], _∷_}
+use native.Mathlib.Omega.{arith}
+use native.Mathlib.Nat.{mul-le-mul-right}
+use lib.Dec.{leb}
+use lib.ListN.{length}
+use borrow.Author.Tests.{le-leb, lt-leb}
+use Rattle.definitions.specs.Charts.{Chart, ChartStep, readChart}
+use Rattle.definitions.specs.Charts as charts
+use Rattle.definitions.specs.Diagrams.{Diagram, InnerNode, readDiagram}
+use Rattle.definitions.specs.Diagrams as diagrams
+use Rattle.definitions.specs.Plans.{graph}
+use Rattle.definitions.specs.Limits.{Valid, Sound}
+use Rattle.definitions.specs.Answers.{Load, ready, turned, load, spaceFits, workNeed}
+use Rattle.chart.specs.Tables as chart
+use Rattle.chart.specs.Held.{held-count}
+use Rattle.chart.specs.Accepted.{chart-accepted}
+use Rattle.chart.specs.declared.reader.ChartRead.{ChartRead}
+use Rattle.diagram.specs.Tables as diagram
+use Rattle.diagram.specs.Files as files
+use Rattle.diagram.specs.Held.{held-tables}
+use Rattle.diagram.specs.Accepted.{diagram-accepted}
+use Rattle.diagram.specs.declared.reader.DiagramRead.{DiagramRead}
+use Rattle.checks.specs.Tables.{Room, Tables, LoadsAs, chartIn, diagramIn}
+use Rattle.checks.specs.Outcome.{chart-turns, rules-turn, space-turns, all-ready}
+use Rattle.checks.specs.declared.Shape.{Shape}
+use Rattle.checks.specs.declared.Loaded.{Loaded}
+
+module _ (s t : List ℕ) (work plan : ℕ) (x : ChartRead) (ex : x ≡ chart.chartAnswer (readChart s)) where
+  number-is : x .number ≡ readChart s .number
+  number-is = ap (λ (y : ChartRead). y .number) ex
+
+  pub chart-turned : (from to cost step lo hi : List ℕ) (r : Loaded) → (x .number ≡ 0 → ⊥)
+      → (r .number ≡ x .number) × (r .file ≡ 1) × (r .place ≡ x .place) → LoadsAs (load s t (work ∷ []) plan) from to cost step lo hi r
+  chart-turned from to cost step lo hi r h e =
+      let n : readChart s .number ≡ 0 → ⊥ = λ q. h (number-is ∙ q) in
+      rw (chart-turns s t (work ∷ []) plan n) (e .0 ∙ number-is, e .1, e .2 ∙ ap (λ (y : ChartRead). y .place) ex, n)
+
+  module _ (cx : x .number ≡ 0) where
+    chart-passed : readChart s .number ≡ 0
+    chart-passed = sym number-is ∙ cx
+
+    accepted : Valid (graph (readChart s .chart))
+    accepted = chart-accepted s chart-passed
+
+    stages-is : x .stages ≡ readChart s .chart .stages
+    stages-is = ap (λ (y : ChartRead). y .stages) ex
+
+    steps-is : x .steps ≡ length (readChart s .chart .steps)
+    steps-is = ap (λ (y : ChartRead). y .steps) ex
+
+    pub some-stages : 1 ≤ x .stages
+    some-stages = omega (arith, stages-is, accepted .some-stages)
+
+    module _ (y : DiagramRead) (ey : y ≡ files.diagramAnswer (readDiagram t (x .steps))) where
+      abbrev d : diagrams.DiagramRead
+      d = readDiagram t (length (readChart s .chart .steps))
+
+      same-file : readDiagram t (x .steps) ≡ d
+      same-file = ap (readDiagram t) steps-is
+
+      rules-number : y .number ≡ d .number
+      rules-number = ap (λ (z : DiagramRead). z .number) ey ∙ ap (λ (z : diagrams.DiagramRead). z .number) same-file
+
+      pub rules-turned : (from to cost step lo hi : List ℕ) (r : Loaded) → (y .number ≡ 0 → ⊥)
+          → (r .number ≡ y .number) × (r .file ≡ 2) × (r .place ≡ y .place) → LoadsAs (load s t (work ∷ []) plan) from to cost step lo hi r
+      rules-turned from to cost step lo hi r h e =
+          let n : d .number ≡ 0 → ⊥ = λ q. h (rules-number ∙ q) in
+          let p : y .place ≡ d .place = ap (λ (z : DiagramRead). z .place) ey ∙ ap (λ (z : diagrams.DiagramRead). z .place) same-file in
+          rw (rules-turn s t (work ∷ []) plan chart-passed n) (e .0 ∙ rules-number, e .1, e .2 ∙ p, n)
+
+      module _ (cy : y .number ≡ 0) where
+        rules-passed : d .number ≡ 0
+        rules-passed = sym rules-number ∙ cy
+
+        sound : Sound (length (readChart s .chart .steps)) (d .diagram)
+        sound = diagram-accepted t (length (readChart s .chart .steps)) rules-passed
+
+        nodes-is : y .nodes ≡ length (d .diagram .nodes)
+        nodes-is = ap (λ (z : DiagramRead). z .nodes) ey ∙ ap (λ (z : diagrams.DiagramRead). length (z .diagram .nodes)) same-file
+
+        pub few-nodes : y .nodes ≤ 510
+        few-nodes = omega (arith, nodes-is, sound .few)
+
+        pub few-pairs : x .stages * (y .nodes + 2) ≤ 131072
+        few-pairs =
+            let a : x .stages ≤ 256 = omega (arith, stages-is, accepted .few-stages) in
+            let b = mul-le-mul-right (y .nodes + 2) a in
+            omega (arith, few-nodes)
+
+        need-is : workNeed (readChart s .chart) (d .diagram) ≡ x .stages * (y .nodes + 2)
+        need-is = ap₂ (λ (i j : ℕ). i * (j + 2)) (sym stages-is) (sym nodes-is)
+
+        pub work-turned : (from to cost step lo hi : List ℕ) (r : Loaded) → work < x .stages * (y .nodes + 2)
+            → (r .number ≡ 7) × (r .file ≡ 0) × (r .place ≡ 0) → LoadsAs (load s t (work ∷ []) plan) from to cost step lo hi r
+        work-turned from to cost step lo hi r h e =
+            rw (space-turns s t (work ∷ []) plan chart-passed rules-passed (simp (lt-leb (workNeed (readChart s .chart) (d .diagram)) work (omega (arith, need-is)))))
+            (e .0, e .1, e .2, λ q. omega arith)
+
+        pub plan-turned : (from to cost step lo hi : List ℕ) (r : Loaded) → x .stages * (y .nodes + 2) ≤ work → plan < x .stages - 1
+            → (r .number ≡ 7) × (r .file ≡ 0) × (r .place ≡ 0) → LoadsAs (load s t (work ∷ []) plan) from to cost step lo hi r
+        plan-turned from to cost step lo hi r h k e =
+            rw (space-turns s t (work ∷ []) plan chart-passed rules-passed
+            (simp (le-leb (workNeed (readChart s .chart) (d .diagram)) work (omega (arith, need-is)), lt-leb (readChart s .chart .stages - 1) plan (omega (arith, stages-is)))))
+            (e .0, e .1, e .2, λ q. omega arith)
+
+        module _ (from to cost step lo hi from₀ to₀ cost₀ step₀ lo₀ hi₀ : List ℕ) (fc : chart.Filled (readChart s .chart .steps) from₀ to₀ cost₀ from to cost)
+            (fd : files.Filled (readDiagram t (x .steps) .diagram .nodes) step₀ lo₀ hi₀ step lo hi) (z : Shape)
+            (zs : z .stages ≡ x .stages) (zb : z .start ≡ x .start) (ze : z .end ≡ x .end) (zc : z .steps ≡ x .steps) (zr : z .root ≡ y .root) (zn : z .nodes ≡ y .nodes) where
+          abbrev C : Chart
+          C = readChart s .chart
+
+          abbrev D : Diagram
+          D = d .diagram
+
+          mk : ℕ → ℕ → ℕ → List ChartStep → Chart
+          mk a b c l = record { stages = a; start = b; end = c; steps = l }
+
+          -- the tables hold just what the files say
+          same-steps : chart.heldSteps (z .steps) from to cost ≡ C .steps
+          same-steps = ap (λ (k : ℕ). chart.heldSteps k from to cost) (zc ∙ steps-is) ∙ fc .held
+
+          same-chart : chartIn z from to cost ≡ C
+          unfolding mk
+          same-chart =
+              ap (λ (l : List ChartStep). mk (z .stages) (z .start) (z .end) l) same-steps
+              ∙ ap (λ (k : ℕ). mk k (z .start) (z .end) (C .steps)) (zs ∙ stages-is)
+              ∙ ap (λ (k : ℕ). mk (C .stages) k (z .end) (C .steps)) (zb ∙ ap (λ (y : ChartRead). y .start) ex)
+              ∙ ap (λ (k : ℕ). mk (C .stages) (C .start) k (C .steps)) (ze ∙ ap (λ (y : ChartRead). y .end) ex)
+
+          same-nodes : diagram.heldNodes (z .nodes) step lo hi ≡ D .nodes
+          same-nodes =
+              let l : length (readDiagram t (x .steps) .diagram .nodes) ≡ length (D .nodes) = ap (λ (w : diagrams.DiagramRead). length (w .diagram .nodes)) same-file in
+              ap (λ (k : ℕ). diagram.heldNodes k step lo hi) (zn ∙ nodes-is ∙ sym l) ∙ fd .held ∙ ap (λ (w : diagrams.DiagramRead). w .diagram .nodes) same-file
+
+          root-is : z .root ≡ D .root
+          root-is = zr ∙ ap (λ (w : DiagramRead). w .root) ey ∙ ap (λ (w : diagrams.DiagramRead). w .diagram .root) same-file
+
+          same-diagram : diagramIn z step lo hi ≡ D
+          same-diagram = ap₂ (λ (k : ℕ) (l : List InnerNode). diagram k l) root-is same-nodes
+            where
+              diagram : ℕ → List InnerNode → Diagram
+              diagram k l = record { root = k; nodes = l }
+
+          in-tables : Tables z from to cost step lo hi
+          in-tables =
+              let so : Sound (z .steps) (diagramIn z step lo hi) = subst (λ (k : ℕ). Sound k (diagramIn z step lo hi)) (sym (zc ∙ steps-is)) (subst (Sound (length (C .steps))) (sym same-diagram) sound) in
+              record {
+                room = record { steps = fc .room; nodes = fd .room };
+                valid = subst (λ (c : Chart). Valid (graph c)) (sym same-chart) accepted;
+                sound = so;
+                held = held-tables (z .nodes) step lo hi (z .root) (so .ordered) (omega (arith, few-nodes)) (fd .marked);
+              }
+
+          pub loaded : (r : Loaded) → r .shape ≡ z → r .number ≡ 0 → x .stages * (y .nodes + 2) ≤ work → x .stages - 1 ≤ plan
+              → LoadsAs (load s t (work ∷ []) plan) from to cost step lo hi r
+          loaded r e n h k =
+              let fits : spaceFits C D (work ∷ []) plan ≡ true = simp (le-leb (workNeed C D) work (omega (arith, need-is)), le-leb (C .stages - 1) plan (omega (arith, stages-is))) in
+              rw (all-ready s t (work ∷ []) plan chart-passed rules-passed fits, e) (n, same-chart, same-diagram, in-tables)

@@ -1,0 +1,102 @@
+-- `checks::load` meets its contract: one law for each answer.
+use mathlib.Core.Path.{refl}
+use native.Mathlib.Omega.{arith}
+use Rattle.checks.proofs.Passes.{some-stages, chart-turned, rules-turned, few-nodes, few-pairs, work-turned, plan-turned, loaded}
+use borrow.Author.Needs.{needs}
+use Rattle.checks.proofs.load.Statement.{statement}
+use Rattle.checks.proofs.load.Tie as tie
+use Rattle.checks.proofs.load.Reads as reads
+use Rattle.checks.proofs.load.Lts as lts
+use Rattle.chart.proofs.read_chart.Reads as read-chart-reads
+use Rattle.checks.proofs.turned.Reads as turned-reads
+use Rattle.diagram.proofs.read_diagram.Reads as read-diagram-reads
+
+-- src/lib.rt:65:9
+read-chart-requires : tie.Need-read-chart-requires
+read-chart-requires c κs = search needs
+
+-- src/lib.rt:67:23
+cast-turned : tie.Need-cast-turned
+cast-turned c = search needs
+
+-- src/lib.rt:67:9
+turned-requires : tie.Need-turned-requires
+turned-requires c κs = search needs
+
+-- src/lib.rt:67:9
+returns : tie.Need-returns
+returns c = chart-turned (c .before .before .before .before .before .before .before .before .before .before .args .chart .now) (c .before .before .before .before .before .before .before .before .before .before .args .rules .now) (c .before .before .before .before .before .before .before .before .before .before .args .work) (c .before .before .before .before .before .before .before .before .before .before .args .plan) _ (c .before .before .before .before .read-chart .ensures .0) _ _ _ _ _ _ _ (c .before .before .if1 .taken) (c .turned .ensures)
+
+-- src/lib.rt:69:9
+read-diagram-requires : tie.Need-read-diagram-requires
+read-diagram-requires c κs = search needs
+
+-- src/lib.rt:71:23
+cast-turned-2 : tie.Need-cast-turned-2
+cast-turned-2 c = search needs
+
+-- src/lib.rt:71:9
+turned-requires-2 : tie.Need-turned-requires-2
+turned-requires-2 c κs = search needs
+
+-- src/lib.rt:71:9
+returns-2 : tie.Need-returns-2
+returns-2 c = rules-turned (c .before .before .before .before .before .before .before .before .before .before .before .before .before .before .before .before .args .chart .now) (c .before .before .before .before .before .before .before .before .before .before .before .before .before .before .before .before .args .rules .now) (c .before .before .before .before .before .before .before .before .before .before .before .before .before .before .before .before .args .work) (c .before .before .before .before .before .before .before .before .before .before .before .before .before .before .before .before .args .plan) _ (c .before .before .before .before .before .before .before .before .before .before .read-chart .ensures .0) (c .before .before .before .before .before .before .before .before .if1 .left) _ (c .before .before .before .before .read-diagram .ensures .answer (c .before .before .before .before .before .before .before .before .before .before .before .before .before .before .before .before .pre .nodes)) _ _ _ _ _ _ _ (c .before .before .if2 .taken) (c .turned2 .ensures)
+
+-- src/lib.rt:73:18
+cast-stages : tie.Need-cast-stages
+cast-stages c = search needs
+
+-- src/lib.rt:74:25
+add-if3 : tie.Need-add-if3
+add-if3 c = omega (arith, few-nodes (c .before .before .before .before .before .before .before .before .before .before .before .before .before .before .before .before .args .chart .now) (c .before .before .before .before .before .before .before .before .before .before .before .before .before .before .before .before .args .rules .now) (c .before .before .before .before .before .before .before .before .before .before .before .before .before .before .before .before .args .work) (c .before .before .before .before .before .before .before .before .before .before .before .before .before .before .before .before .args .plan) _ (c .before .before .before .before .before .before .before .before .before .before .read-chart .ensures .0) (c .before .before .before .before .before .before .before .before .if1 .left) _ (c .before .before .before .before .read-diagram .ensures .answer (c .before .before .before .before .before .before .before .before .before .before .before .before .before .before .before .before .pre .nodes)) (c .before .before .if2 .left))
+
+-- src/lib.rt:74:15
+mul-if3 : tie.Need-mul-if3
+mul-if3 c = omega (arith, few-pairs (c .before .before .before .before .before .before .before .before .before .before .before .before .before .before .before .before .args .chart .now) (c .before .before .before .before .before .before .before .before .before .before .before .before .before .before .before .before .args .rules .now) (c .before .before .before .before .before .before .before .before .before .before .before .before .before .before .before .before .args .work) (c .before .before .before .before .before .before .before .before .before .before .before .before .before .before .before .before .args .plan) _ (c .before .before .before .before .before .before .before .before .before .before .read-chart .ensures .0) (c .before .before .before .before .before .before .before .before .if1 .left) _ (c .before .before .before .before .read-diagram .ensures .answer (c .before .before .before .before .before .before .before .before .before .before .before .before .before .before .before .before .pre .nodes)) (c .before .before .if2 .left))
+
+-- src/lib.rt:75:9
+turned-requires-3 : tie.Need-turned-requires-3
+turned-requires-3 c κs = search needs
+
+-- src/lib.rt:75:9
+returns-3 : tie.Need-returns-3
+returns-3 c = work-turned (c .before .before .before .before .before .before .before .before .before .before .before .before .before .before .before .before .before .before .args .chart .now) (c .before .before .before .before .before .before .before .before .before .before .before .before .before .before .before .before .before .before .args .rules .now) (c .before .before .before .before .before .before .before .before .before .before .before .before .before .before .before .before .before .before .args .work) (c .before .before .before .before .before .before .before .before .before .before .before .before .before .before .before .before .before .before .args .plan) _ (c .before .before .before .before .before .before .before .before .before .before .before .before .read-chart .ensures .0) (c .before .before .before .before .before .before .before .before .before .before .if1 .left) _ (c .before .before .before .before .before .before .read-diagram .ensures .answer (c .before .before .before .before .before .before .before .before .before .before .before .before .before .before .before .before .before .before .pre .nodes)) (c .before .before .before .before .if2 .left) _ _ _ _ _ _ _ (c .before .if3 .taken) (c .turned3 .ensures)
+
+-- src/lib.rt:77:15
+sub-if4 : tie.Need-sub-if4
+sub-if4 c = omega (arith, some-stages (c .before .before .before .before .before .before .before .before .before .before .before .before .before .before .before .before .before .args .chart .now) (c .before .before .before .before .before .before .before .before .before .before .before .before .before .before .before .before .before .args .rules .now) (c .before .before .before .before .before .before .before .before .before .before .before .before .before .before .before .before .before .args .work) (c .before .before .before .before .before .before .before .before .before .before .before .before .before .before .before .before .before .args .plan) _ (c .before .before .before .before .before .before .before .before .before .before .before .read-chart .ensures .0) (c .before .before .before .before .before .before .before .before .before .if1 .left))
+
+-- src/lib.rt:78:9
+turned-requires-4 : tie.Need-turned-requires-4
+turned-requires-4 c κs = search needs
+
+-- src/lib.rt:78:9
+returns-4 : tie.Need-returns-4
+returns-4 c = plan-turned (c .before .before .before .before .before .before .before .before .before .before .before .before .before .before .before .before .before .before .before .args .chart .now) (c .before .before .before .before .before .before .before .before .before .before .before .before .before .before .before .before .before .before .before .args .rules .now) (c .before .before .before .before .before .before .before .before .before .before .before .before .before .before .before .before .before .before .before .args .work) (c .before .before .before .before .before .before .before .before .before .before .before .before .before .before .before .before .before .before .before .args .plan) _ (c .before .before .before .before .before .before .before .before .before .before .before .before .before .read-chart .ensures .0) (c .before .before .before .before .before .before .before .before .before .before .before .if1 .left) _ (c .before .before .before .before .before .before .before .read-diagram .ensures .answer (c .before .before .before .before .before .before .before .before .before .before .before .before .before .before .before .before .before .before .before .pre .nodes)) (c .before .before .before .before .before .if2 .left) _ _ _ _ _ _ _ (c .before .before .if3 .left) (c .before .if4 .taken) (c .turned4 .ensures)
+
+-- src/lib.rt:50:1
+returns-5 : tie.Need-returns-5
+returns-5 c = loaded (c .before .before .before .before .before .before .before .before .before .before .before .before .before .before .before .before .before .before .args .chart .now) (c .before .before .before .before .before .before .before .before .before .before .before .before .before .before .before .before .before .before .args .rules .now) (c .before .before .before .before .before .before .before .before .before .before .before .before .before .before .before .before .before .before .args .work) (c .before .before .before .before .before .before .before .before .before .before .before .before .before .before .before .before .before .before .args .plan) _ (c .before .before .before .before .before .before .before .before .before .before .before .before .read-chart .ensures .0) (c .before .before .before .before .before .before .before .before .before .before .if1 .left) _ (c .before .before .before .before .before .before .read-diagram .ensures .answer (c .before .before .before .before .before .before .before .before .before .before .before .before .before .before .before .before .before .before .pre .nodes)) (c .before .before .before .before .if2 .left) _ _ _ _ _ _ _ _ _ _ _ _ (c .before .before .before .before .before .before .before .before .before .before .before .before .read-chart .ensures .1 (c .before .before .before .before .before .before .before .before .before .before .before .before .before .before .before .before .before .before .pre .steps)) (c .before .before .before .before .before .before .read-diagram .ensures .filled (c .before .before .before .before .before .before .before .before .before .before .before .before .before .before .before .before .before .before .pre .nodes)) _ refl refl refl refl refl refl _ refl refl (c .before .if3 .left) (c .if4 .left)
+
+pub load-spec : {M : Type 1} → statement M
+load-spec =
+    tie.close
+    (tie.spec
+    read-chart-requires
+    cast-turned
+    turned-requires
+    returns
+    read-diagram-requires
+    cast-turned-2
+    turned-requires-2
+    returns-2
+    cast-stages
+    add-if3
+    mul-if3
+    turned-requires-3
+    returns-3
+    sub-if4
+    turned-requires-4
+    returns-4
+    returns-5)

@@ -1,0 +1,91 @@
+-- `diagram::read_diagram` meets its contract.
+use borrow.Author.Needs.{needs}
+use Rattle.fields.specs.Positions.{body-laws}
+use Rattle.diagram.proofs.Whole.{whole-laws}
+use Rattle.diagram.proofs.reader.read_diagram.Statement.{statement}
+use Rattle.diagram.proofs.reader.read_diagram.Tie as tie
+
+element-write-step : tie.Need-element-write-step
+element-write-step c = search needs
+
+element-write-step-2 : tie.Need-element-write-step-2
+element-write-step-2 c = search needs
+
+field-at-requires : tie.Need-field-at-requires
+field-at-requires c κs = search needs
+
+enum-told : tie.Need-enum-told
+enum-told c = search needs
+
+bad-head-requires : tie.Need-bad-head-requires
+bad-head-requires c κs = search needs
+
+enum-known-number : tie.Need-enum-known-number
+enum-known-number c = search needs
+
+bad-head-requires-2 : tie.Need-bad-head-requires-2
+bad-head-requires-2 c κs = search needs
+
+enum-known-start : tie.Need-enum-known-start
+enum-known-start c = search needs
+
+sub-read-u16 : tie.Need-sub-read-u16
+sub-read-u16 c = search body-laws
+
+part-read-u16-start : tie.Need-part-read-u16-start
+part-read-u16-start c = search body-laws
+
+part-read-u16-end : tie.Need-part-read-u16-end
+part-read-u16-end c = search body-laws
+
+read-u16-requires : tie.Need-read-u16-requires
+read-u16-requires c κs = search whole-laws
+
+read-nodes-requires : tie.Need-read-nodes-requires
+read-nodes-requires c κs = search needs
+
+returns : tie.Need-returns
+returns c = search whole-laws
+
+add-if2 : tie.Need-add-if2
+add-if2 c = search needs
+
+cast-if2 : tie.Need-cast-if2
+cast-if2 c = search needs
+
+returns-2 : tie.Need-returns-2
+returns-2 c = search whole-laws
+
+returns-3 : tie.Need-returns-3
+returns-3 c = search whole-laws
+
+returns-4 : tie.Need-returns-4
+returns-4 c = search whole-laws
+
+returns-5 : tie.Need-returns-5
+returns-5 c = search whole-laws
+
+pub read-diagram-spec : {M : Type 1} → statement M
+read-diagram-spec =
+    tie.close
+    (tie.spec
+    element-write-step
+    element-write-step-2
+    field-at-requires
+    enum-told
+    bad-head-requires
+    enum-known-number
+    bad-head-requires-2
+    enum-known-start
+    sub-read-u16
+    part-read-u16-start
+    part-read-u16-end
+    read-u16-requires
+    read-nodes-requires
+    returns
+    add-if2
+    cast-if2
+    returns-2
+    returns-3
+    returns-4
+    returns-5)

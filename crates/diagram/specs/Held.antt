@@ -1,0 +1,80 @@
+-- Laws of the tables, by index: what stands at a number is the inner node of that number; and how they grow by a store.
+-- Assumes nothing.
+use Prim.Native.Nat.{ℕ, _+_, _-_, _≤_, _<_}
+use mathlib.Core.Path.{_≡_, sym, _∙_, ap}
+use mathlib.Core.List.{List, [], _∷_, _++_}
+use lib.ListN.{length, getD, set, drop}
+use lib.Seq.{getD-set-same, getD-set-other, drop-set-lt, drop-drop}
+use native.Mathlib.Omega.{arith}
+use Rattle.definitions.specs.Diagrams.{Diagram, InnerNode, noNode, size, inner}
+use Rattle.definitions.specs.Limits.{Ordered}
+use Rattle.fields.specs.Listed.{listed-length, listed-getD, grown}
+use Rattle.diagram.specs.Tables.{entry, heldNodes, heldDiagram, Marked, Held}
+use Rattle.diagram.specs.Files.{Room}
+
+module _ (count : ℕ) (step lo hi : List ℕ) where
+  pub length-held : length (heldNodes count step lo hi) ≡ count
+  unfolding heldNodes
+  length-held = listed-length (λ (i : ℕ). entry step lo hi (i + 2)) count
+
+  pub getD-held : (n : ℕ) → 2 ≤ n → n < count + 2 → getD (heldNodes count step lo hi) (n - 2) noNode ≡ entry step lo hi n
+  unfolding heldNodes
+  getD-held n h l =
+      let q : n - 2 + 2 ≡ n = omega arith in
+      listed-getD (λ (i : ℕ). entry step lo hi (i + 2)) count (n - 2) noNode (omega arith) ∙ ap (entry step lo hi) q
+
+  pub held-tables : (root : ℕ) → Ordered (heldDiagram root count step lo hi) → count ≤ 510 → Marked step → Held (heldDiagram root count step lo hi) step lo hi
+  held-tables root o f m = record {
+    ordered = o;
+    few = omega (arith, length-held);
+    nodes = ap (λ (k : ℕ). heldNodes k step lo hi) length-held;
+    marked = m;
+  }
+
+-- one more node stored
+module _ (count : ℕ) (step lo hi : List ℕ) (x : InnerNode) (room : Room step lo hi) (below : count < 510) where
+  abbrev stored : (ℕ → InnerNode)
+  stored n = entry (set step (count + 2) (x .step)) (set lo (count + 2) (x .lo)) (set hi (count + 2) (x .hi)) n
+
+  stored-before : (i : ℕ) → i < count → stored (i + 2) ≡ entry step lo hi (i + 2)
+  stored-before i l =
+      rw (
+        getD-set-other step (count + 2) (i + 2) (x .step) 0 (λ q. omega arith),
+        getD-set-other lo (count + 2) (i + 2) (x .lo) 0 (λ q. omega arith),
+        getD-set-other hi (count + 2) (i + 2) (x .hi) 0 (λ q. omega arith),
+      )
+
+  stored-here : stored (count + 2) ≡ x
+  stored-here =
+      rw (
+        getD-set-same step (count + 2) (x .step) 0 (omega (arith, room)),
+        getD-set-same lo (count + 2) (x .lo) 0 (omega (arith, room)),
+        getD-set-same hi (count + 2) (x .hi) 0 (omega (arith, room)),
+      )
+
+  pub held-grown : heldNodes (count + 1) (set step (count + 2) (x .step)) (set lo (count + 2) (x .lo)) (set hi (count + 2) (x .hi)) ≡ heldNodes count step lo hi ++ x ∷ []
+  unfolding heldNodes
+  held-grown = grown (λ (i : ℕ). entry step lo hi (i + 2)) (λ (i : ℕ). stored (i + 2)) count x stored-before stored-here
+
+-- what stays past a number stays past a later one, after a store before that
+pub rest-kept : (m n i v : ℕ) (l l₀ : List ℕ) → m ≤ n → i < n → drop m l ≡ drop m l₀ → drop n (set l i v) ≡ drop n l₀
+rest-kept m n i v l l₀ h g e =
+    let q : m + (n - m) ≡ n = omega arith in
+    drop-set-lt n l i v g ∙ rw (← q) (sym (drop-drop (n - m) m l) ∙ ap (drop (n - m)) e ∙ drop-drop (n - m) m l₀)
+
+module _ (d : Diagram) (step lo hi : List ℕ) (held : Held d step lo hi) where
+  pub held-is : d ≡ heldDiagram (d .root) (length (d .nodes)) step lo hi
+  held-is = ap (λ (l : List InnerNode). record { root = d .root; nodes = l }) (sym (held .nodes))
+
+  module _ (n : ℕ) (h : 2 ≤ n) (l : n < size d) where
+    pub held-inner : inner d n ≡ entry step lo hi n
+    held-inner = ap (λ (x : List InnerNode). getD x (n - 2) noNode) (sym (held .nodes)) ∙ getD-held (length (d .nodes)) step lo hi n h l
+
+    pub held-step : inner d n .step ≡ getD step n 0
+    held-step = ap (λ (x : InnerNode). x .step) held-inner
+
+    pub held-lo : inner d n .lo ≡ getD lo n 0
+    held-lo = ap (λ (x : InnerNode). x .lo) held-inner
+
+    pub held-hi : inner d n .hi ≡ getD hi n 0
+    held-hi = ap (λ (x : InnerNode). x .hi) held-inner

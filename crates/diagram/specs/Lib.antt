@@ -1,0 +1,5 @@
+pub mod Tables
+pub mod Held
+pub mod Files
+pub mod Limits
+pub mod Accepted

@@ -1,0 +1,178 @@
+// The reader of the diagram file: its inner nodes go into three tables, each at its number.
+ghost use mathlib.Core.Path.{_≡_};
+ghost use Prim.Native.Nat.{_≤_, _<_};
+ghost use lib.ListN.{length, getD};
+ghost use mathlib.Core.List.{[]};
+ghost use Rattle.definitions.specs.Diagrams.{childFits, nodeFault, nodeOf, diagramRead};
+ghost use Rattle.diagram.specs.Files.{Stored, ReadsNodes, Reads, diagramAnswer};
+use definitions::Field;
+use fields::field_at;
+use fields::read_u16;
+
+// A node may be a child of the node numbered `own` with this step: it is below `own` and, if inner, has a larger step.
+fn child_fits(step: &[u16; 512], own: usize, key: u16, child: u16) -> bool
+    requires { ⌜ own ≤ 512 ⌝ }
+    ensures { λ r. ⌜ r ≡ childFits (λ k. getD (now (step .entry)) k 0) own key child ⌝ }
+{
+    let at = child as usize;
+    if own <= at {
+        return false;
+    }
+    if at < 2 {
+        return true;
+    }
+    key < step[at]
+}
+
+// What is wrong with a node's body after `count` nodes, in a chart of so many steps; 0: nothing.
+fn node_fault(b: &[u8], steps: usize, step: &[u16; 512], count: usize) -> u8
+    requires { ⌜ length (now b) ≡ 6 ⌝ }
+    ensures { λ r. ⌜ r ≡ nodeFault steps (λ k. getD (now (step .entry)) k 0) count (now (b .entry)) ⌝ }
+{
+    if 510 <= count {
+        return 6;
+    }
+    let key = read_u16(b, 0);
+    if steps <= key as usize {
+        return 6;
+    }
+    let low = read_u16(b, 2);
+    if !child_fits(step, count + 2, key, low) {
+        return 6;
+    }
+    let high = read_u16(b, 4);
+    if !child_fits(step, count + 2, key, high) {
+        return 6;
+    }
+    0
+}
+
+// A node's body goes into the tables at its number.
+fn store_node(b: &[u8], own: usize, step: &mut [u16; 512], lo: &mut [u16; 512], hi: &mut [u16; 512])
+    requires { ⌜ (length (now b) ≡ 6) × (own < 512) ⌝ }
+    ensures { λ _. ⌜ Stored (nodeOf (now (b .entry))) own (now (step .entry)) (now (lo .entry)) (now (hi .entry)) (now (step .exit)) (now (lo .exit)) (now (hi .exit)) ⌝ }
+{
+    step[own] = read_u16(b, 0);
+    lo[own] = read_u16(b, 2);
+    hi[own] = read_u16(b, 4);
+}
+
+// The refusal's number and place, 0 and 0 where there is none, and how many nodes passed.
+pub struct NodesRead {
+    pub number: u8,
+    pub place: usize,
+    pub nodes: usize,
+}
+
+// The nodes from a place on, into the tables.
+fn read_nodes(
+    file: &[u8],
+    first: usize,
+    steps: usize,
+    step: &mut [u16; 512],
+    lo: &mut [u16; 512],
+    hi: &mut [u16; 512],
+) -> NodesRead
+    ensures { λ r. ⌜ ReadsNodes (now (file .entry)) steps first (now (step .entry)) (now (lo .entry)) (now (hi .entry)) (now (step .exit)) (now (lo .exit)) (now (hi .exit)) r ⌝ }
+{
+    let mut at = first;
+    let mut count: usize = 0;
+    loop {
+        match field_at(file, at, 18, 6) {
+            Field::Absent => {
+                return NodesRead {
+                    number: 0,
+                    place: 0,
+                    nodes: count,
+                };
+            }
+            Field::Faulty(number) => {
+                return NodesRead {
+                    number,
+                    place: at,
+                    nodes: count,
+                };
+            }
+            Field::Whole { start, end } => {
+                let body = &file[start..end];
+                let fault = node_fault(body, steps, step, count);
+                if fault != 0 {
+                    return NodesRead {
+                        number: fault,
+                        place: at,
+                        nodes: count,
+                    };
+                }
+                count += 1;
+                at = end;
+                // The first node is 2.
+                store_node(body, count + 1, step, lo, hi);
+            }
+        }
+    }
+}
+
+// A diagram file, read: the refusal's number and place, 0 and 0 where it is accepted, and the diagram as far as its
+// fields passed.
+pub struct DiagramRead {
+    pub number: u8,
+    pub place: usize,
+    pub root: u16,
+    pub nodes: usize,
+}
+
+// The answer to a faulty head.
+fn bad_head(number: u8) -> DiagramRead
+    ensures { λ r. ⌜ r ≡ diagramAnswer (diagramRead number 0 0 []) ⌝ }
+{
+    DiagramRead {
+        number,
+        place: 0,
+        root: 0,
+        nodes: 0,
+    }
+}
+
+// The diagram of a file over a chart of so many steps; its inner nodes go into the tables, and the step table is marked.
+pub fn read_diagram(
+    file: &[u8],
+    steps: usize,
+    step: &mut [u16; 512],
+    lo: &mut [u16; 512],
+    hi: &mut [u16; 512],
+) -> DiagramRead
+    ensures { λ r. ⌜ Reads (now (file .entry)) steps (now (step .entry)) (now (lo .entry)) (now (hi .entry)) (now (step .exit)) (now (lo .exit)) (now (hi .exit)) r ⌝ }
+{
+    step[0] = 65535;
+    step[1] = 65535;
+    match field_at(file, 0, 17, 2) {
+        Field::Absent => bad_head(2),
+        Field::Faulty(number) => bad_head(number),
+        Field::Whole { start, end } => {
+            let root = read_u16(&file[start..end], 0);
+            let read = read_nodes(file, end, steps, step, lo, hi);
+            if read.number != 0 {
+                return DiagramRead {
+                    number: read.number,
+                    place: read.place,
+                    root,
+                    nodes: read.nodes,
+                };
+            }
+            if read.nodes + 2 <= root as usize {
+                return DiagramRead {
+                    number: 6,
+                    place: 0,
+                    root,
+                    nodes: read.nodes,
+                };
+            }
+            DiagramRead {
+                number: 0,
+                place: 0,
+                root,
+                nodes: read.nodes,
+            }
+        }
+    }
+}

@@ -1,0 +1,122 @@
+use borrow.Author.Needs.{needs}
+use Rattle.fields.specs.Refused.{refused-laws}
+use Rattle.fields.proofs.refused_field.Statement.{statement}
+use Rattle.fields.proofs.refused_field.Tie as tie
+use Rattle.fields.proofs.refused_field.Reads as reads
+use Rattle.fields.proofs.refused_field.Lts as lts
+use Rattle.fields.proofs.field_end.Reads as field-end-reads
+
+-- src/lib.rt:84:17
+field-end-requires : tie.Need-field-end-requires
+field-end-requires c κs = search needs
+
+-- src/lib.rt:85:20
+sub-result : tie.Need-sub-result
+sub-result c = search needs
+
+-- src/lib.rt:85:20
+part-result-start : tie.Need-part-result-start
+part-result-start c = search needs
+
+-- src/lib.rt:85:20
+part-result-end : tie.Need-part-result-end
+part-result-end c = search needs
+
+-- src/lib.rt:85:13
+returns : tie.Need-returns
+returns c = search refused-laws
+
+-- src/lib.rt:87:16
+sub-result-2 : tie.Need-sub-result-2
+sub-result-2 c = search needs
+
+-- src/lib.rt:87:16
+part-result-start-2 : tie.Need-part-result-start-2
+part-result-start-2 c = search needs
+
+-- src/lib.rt:87:16
+part-result-end-2 : tie.Need-part-result-end-2
+part-result-end-2 c = search needs
+
+-- src/lib.rt:87:9
+returns-2 : tie.Need-returns-2
+returns-2 c = search refused-laws
+
+-- src/lib.rt:91:17
+field-end-requires-2 : tie.Need-field-end-requires-2
+field-end-requires-2 c κs = search needs
+
+-- src/lib.rt:92:20
+sub-result-3 : tie.Need-sub-result-3
+sub-result-3 c = search needs
+
+-- src/lib.rt:92:20
+part-result-start-3 : tie.Need-part-result-start-3
+part-result-start-3 c = search needs
+
+-- src/lib.rt:92:20
+part-result-end-3 : tie.Need-part-result-end-3
+part-result-end-3 c = search needs
+
+-- src/lib.rt:92:13
+returns-3 : tie.Need-returns-3
+returns-3 c = search refused-laws
+
+-- src/lib.rt:94:16
+sub-result-4 : tie.Need-sub-result-4
+sub-result-4 c = search needs
+
+-- src/lib.rt:94:16
+part-result-start-4 : tie.Need-part-result-start-4
+part-result-start-4 c = search needs
+
+-- src/lib.rt:94:16
+part-result-end-4 : tie.Need-part-result-end-4
+part-result-end-4 c = search needs
+
+-- src/lib.rt:94:9
+returns-4 : tie.Need-returns-4
+returns-4 c = search refused-laws
+
+-- src/lib.rt:96:5
+sub-result-5 : tie.Need-sub-result-5
+sub-result-5 c = search needs
+
+-- src/lib.rt:96:5
+part-result-start-5 : tie.Need-part-result-start-5
+part-result-start-5 c = search needs
+
+-- src/lib.rt:96:5
+part-result-end-5 : tie.Need-part-result-end-5
+part-result-end-5 c = search needs
+
+-- src/lib.rt:79:1
+returns-5 : tie.Need-returns-5
+returns-5 c = search refused-laws
+
+pub refused-field-spec : {M : Type 1} → statement M
+refused-field-spec =
+    tie.close
+    (tie.spec
+    field-end-requires
+    sub-result
+    part-result-start
+    part-result-end
+    returns
+    sub-result-2
+    part-result-start-2
+    part-result-end-2
+    returns-2
+    field-end-requires-2
+    sub-result-3
+    part-result-start-3
+    part-result-end-3
+    returns-3
+    sub-result-4
+    part-result-start-4
+    part-result-end-4
+    returns-4
+    sub-result-5
+    part-result-start-5
+    part-result-end-5
+    returns-5)

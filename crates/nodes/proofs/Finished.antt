@@ -1,0 +1,85 @@
+-- The loops of `finish` and of `finishing`: their invariants, with one law for each way on.
+use Prim.Native.Nat.{ℕ, zero, suc, _+_, _-_, _≤_, _<_}
+use mathlib.Core.Path.{_≡_, refl, sym, _∙_, ap}
+use mathlib.Core.Bool.{Bool, true, false}
+use mathlib.Core.List.{List}
+use lib.Dec.{eqb}
+use lib.ListN.{length, getD, set, replicate, length-set, length-replicate}
+use lib.Seq.{getD-set-same, getD-set-other}
+use native.Mathlib.Omega.{arith}
+use borrow.Author.Count.{below-more}
+use Rattle.definitions.specs.Diagrams.{Diagram, size, inner, finish}
+use Rattle.definitions.specs.Limits.{Ordered}
+use Rattle.theory.specs.Diagrams.{finish-leaf, finish-inner}
+use Rattle.diagram.specs.Tables.{Held}
+use Rattle.diagram.specs.Held.{held-lo}
+use Rattle.nodes.specs.Walks.{Falls, Finishes, Finishing}
+use Rattle.nodes.proofs.Children.{child-below}
+
+-- an inner node of a held diagram finishes where the node at its lo does
+finish-lo : (d : Diagram) (step lo hi : List ℕ) → Held d step lo hi → (n : ℕ) → 2 ≤ n → n < size d → finish d n ≡ finish d (getD lo n 0)
+finish-lo d step lo hi h n i l = finish-inner d (h .ordered) n i ∙ ap (finish d) (held-lo d step lo hi h n i l)
+
+-- a walk from node n stands at m, and finishes where n does
+pub record Walked (lo : List ℕ) (n m : ℕ) : Type 0 where
+  pub below : m ≤ n
+  pub same : (d : Diagram) (step hi : List ℕ) → Held d step lo hi → n < size d → finish d m ≡ finish d n
+
+module _ (lo : List ℕ) (n : ℕ) where
+  pub walked-start : Walked lo n n
+  walked-start = record { below = omega arith; same = λ d step hi h l. refl }
+
+  module _ (m : ℕ) (now : Walked lo n m) where
+    pub walked-less : Falls lo n → 2 ≤ m → getD lo m 0 < m
+    walked-less f i = f .below m i (now .below)
+
+    pub walked-next : Falls lo n → 2 ≤ m → Walked lo n (getD lo m 0)
+    walked-next f i = record {
+      below = omega (arith, walked-less f i, now .below);
+      same = λ d step hi h l. sym (finish-lo d step lo hi h m i (omega (arith, now .below))) ∙ now .same d step hi h l;
+    }
+
+    pub walked-done : m < 2 → Finishes lo n m
+    walked-done q = record { leaf = q; is = λ d step hi h l. sym (finish-leaf d (h .ordered) m q) ∙ now .same d step hi h l }
+
+pub ruleset walked-laws = (walked-start, walked-less, walked-next, walked-done)
+
+-- the entries of the nodes below n are right
+pub record Passed (lo : List ℕ) (count : ℕ) (yes : List Bool) (n : ℕ) : Type 0 where
+  pub long : length yes ≡ 512
+  pub few : n ≤ count + 2
+  pub inner : 2 ≤ n
+  pub is : (d : Diagram) (step hi : List ℕ) → Held d step lo hi → length (d .nodes) ≤ count → (k : ℕ) → k < n → k < size d → getD yes k false ≡ eqb (finish d k) 1
+
+module _ (lo : List ℕ) (count : ℕ) where
+  pub passed-start : Passed lo count (set (replicate 512 false) 1 true) 2
+  passed-start = record {
+    long = length-set (replicate 512 false) 1 true ∙ length-replicate 512 false;
+    few = omega arith;
+    inner = omega arith;
+    is = λ d step hi h f. leaves d (h .ordered);
+  }
+    where
+      leaves : (d : Diagram) → Ordered d → (k : ℕ) → k < 2 → k < size d → getD (set (replicate 512 false) 1 true) k false ≡ eqb (finish d k) 1
+      leaves d o zero i l = rw (finish-leaf d o 0 i) refl
+      leaves d o (suc zero) i l = rw (finish-leaf d o 1 i) refl
+      leaves d o (suc (suc k)) i l = absurd (omega arith)
+
+  module _ (yes : List Bool) (n : ℕ) (now : Passed lo count yes n) where
+    pub passed-next : Falls lo (count + 1) → n < count + 2 → Passed lo count (set yes n (getD yes (getD lo n 0) false)) (n + 1)
+    passed-next f l = record {
+      long = length-set yes n (getD yes (getD lo n 0) false) ∙ now .long;
+      few = omega arith;
+      inner = omega (arith, now .inner);
+      is = λ d step hi h g.
+          below-more (λ (k : ℕ). k < size d → getD (set yes n (getD yes (getD lo n 0) false)) k false ≡ eqb (finish d k) 1) n
+          (λ k i j. getD-set-other yes n k (getD yes (getD lo n 0) false) false (λ q. omega arith) ∙ now .is d step hi h g k i j)
+          (λ j. getD-set-same yes n (getD yes (getD lo n 0) false) false (omega (arith, now .long, f .inside))
+          ∙ now .is d step hi h g (getD lo n 0) (child-below lo count n f (now .inner) l) (omega (arith, child-below lo count n f (now .inner) l))
+          ∙ ap (λ (k : ℕ). eqb k 1) (sym (finish-lo d step lo hi h n (now .inner) j)));
+    }
+
+    pub passed-done : count + 2 ≤ n → Finishing lo count yes
+    passed-done q = record { is = λ d step hi h f k l. now .is d step hi h f k (omega arith) l }
+
+pub ruleset passed-laws = (passed-start, passed-next, passed-done)

@@ -1,0 +1,4 @@
+pub mod Children
+pub mod Lowering
+pub mod Finished
+pub mod Estimating

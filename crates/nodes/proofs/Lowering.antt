@@ -1,0 +1,49 @@
+-- The loop of `descend_to`: its invariant, with one law for each way on.
+use Prim.Native.Nat.{ℕ, _≤_, _<_}
+use mathlib.Core.Path.{_≡_, refl, sym, _∙_, ap}
+use mathlib.Core.List.{List}
+use lib.ListN.{getD}
+use native.Mathlib.Omega.{arith}
+use mir.Val.{Fits}
+use mir.Syntax.{w16}
+use Rattle.definitions.specs.Diagrams.{Diagram, size}
+use Rattle.theory.specs.Basics.{either, lt-or-le}
+use Rattle.diagram.specs.Tables.{Marked, Held}
+use Rattle.diagram.specs.Held.{held-step, held-lo}
+use Rattle.nodes.specs.Walks.{Falls, lowered, Lowers}
+use Rattle.nodes.specs.Lowered.{lowered-leaf, lowered-below, lowered-stop}
+use Rattle.nodes.specs.Advancing.{unmarked}
+
+-- a walk from node n stands at m, and has as far to go as from n
+pub record Lowering (step lo : List ℕ) (e n m : ℕ) : Type 0 where
+  pub below : m ≤ n
+  pub same : (d : Diagram) (hi : List ℕ) → Held d step lo hi → n < size d → lowered d e m ≡ lowered d e n
+
+module _ (step lo : List ℕ) (e n : ℕ) where
+  pub lowering-start : Lowering step lo e n n
+  lowering-start = record { below = omega arith; same = λ d hi h l. refl }
+
+  module _ (m : ℕ) (marked : Marked step) (falls : Falls lo n) (now : Lowering step lo e n m) where
+    pub lowering-less : Fits w16 e → getD step m 0 < e → getD lo m 0 < m
+    lowering-less f q = falls .below m (unmarked step m marked (omega arith)) (now .below)
+
+    pub lowering-next : Fits w16 e → getD step m 0 < e → Lowering step lo e n (getD lo m 0)
+    lowering-next f q = record {
+      below = omega (arith, lowering-less f q, now .below);
+      same = λ d hi h l.
+          let i : 2 ≤ m = unmarked step m marked (omega arith) in
+          let s = held-step d step lo hi h m i (omega (arith, now .below)) in
+          ap (lowered d e) (sym (held-lo d step lo hi h m i (omega (arith, now .below))))
+          ∙ sym (lowered-below d (h .ordered) e m i (omega arith)) ∙ now .same d hi h l;
+    }
+
+    pub lowering-done : e ≤ getD step m 0 → Lowers step lo e n m
+    lowering-done q = record {
+      below = now .below;
+      is = λ d hi h l.
+          sym (either (lt-or-le m 2) (lowered-leaf d (h .ordered) e m)
+          (λ i. lowered-stop d (h .ordered) e m i (omega (arith, held-step d step lo hi h m i (omega (arith, now .below))))))
+          ∙ now .same d hi h l;
+    }
+
+pub ruleset lowering-laws = (lowering-start, lowering-less, lowering-next, lowering-done)

@@ -1,0 +1,68 @@
+-- `nodes::finishing` meets its contract.
+use borrow.Author.Needs.{needs}
+use Prim.Native.Nat.{_+_, _-_}
+use Rattle.nodes.proofs.Children.{child-laws}
+use Rattle.nodes.proofs.Finished.{Passed, passed-laws}
+use Rattle.nodes.proofs.walks.finishing.Statement.{statement}
+use Rattle.nodes.proofs.walks.finishing.Tie as tie
+
+abbrev Inv-loop : tie.InvT-loop
+Inv-loop lo count yes₀ n₀ n-end yes' n = Passed lo count yes' n
+
+abbrev μ-loop : tie.MeasureT-loop
+μ-loop lo count yes₀ n₀ n-end yes' n = count + 2 - n
+
+array-write-yes : tie.Need-array-write-yes Inv-loop μ-loop
+array-write-yes c = search needs
+
+add-n-end : tie.Need-add-n-end Inv-loop μ-loop
+add-n-end c = search needs
+
+loop-holds : tie.Need-loop-holds Inv-loop μ-loop
+loop-holds c = search passed-laws
+
+mul-child : tie.Need-mul-child Inv-loop μ-loop
+mul-child c = search needs
+
+element-copy-out-child : tie.Need-element-copy-out-child Inv-loop μ-loop
+element-copy-out-child c = search needs
+
+cast-child : tie.Need-cast-child Inv-loop μ-loop
+cast-child c = search child-laws
+
+array-read-yes : tie.Need-array-read-yes Inv-loop μ-loop
+array-read-yes c = search child-laws
+
+array-write-yes-2 : tie.Need-array-write-yes-2 Inv-loop μ-loop
+array-write-yes-2 c = search needs
+
+add-n : tie.Need-add-n Inv-loop μ-loop
+add-n c = search needs
+
+loop-less : tie.Need-loop-less Inv-loop μ-loop
+loop-less c = search needs
+
+loop-again : tie.Need-loop-again Inv-loop μ-loop
+loop-again c = search passed-laws
+
+returns : tie.Need-returns Inv-loop μ-loop
+returns c = search passed-laws
+
+pub finishing-spec : {M : Type 1} → statement M
+finishing-spec =
+    tie.close
+    (tie.spec
+    Inv-loop
+    μ-loop
+    array-write-yes
+    add-n-end
+    loop-holds
+    mul-child
+    element-copy-out-child
+    cast-child
+    array-read-yes
+    array-write-yes-2
+    add-n
+    loop-less
+    loop-again
+    returns)

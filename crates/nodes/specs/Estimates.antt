@@ -1,0 +1,33 @@
+-- The diagram's estimates in a table.
+-- Assumes nothing.
+use Prim.Native.Nat.{ℕ, _+_, _*_, _≤_, _<_, min}
+use mathlib.Core.Path.{_≡_}
+use mathlib.Core.List.{List}
+use lib.ListN.{length, getD}
+use Rattle.definitions.specs.Charts.{Chart}
+use Rattle.definitions.specs.Diagrams.{Diagram, size}
+use Rattle.definitions.specs.Limits.{Sound}
+use Rattle.definitions.specs.Plans.{keyCost, diagramEstimate}
+use Rattle.definitions.specs.Promises.{shown}
+use Rattle.diagram.specs.Tables.{Held}
+
+-- the steps of the nodes stand in the cost table, and cost at most 1,000,000
+pub record Priced (step cost : List ℕ) (count : ℕ) : Type 0 where
+  pub inside : (n : ℕ) → 2 ≤ n → n < count + 2 → getD step n 0 < 1024
+  pub cheap : (n : ℕ) → 2 ≤ n → n < count + 2 → getD cost (getD step n 0) 0 ≤ 1000000
+
+-- a node's estimate from that at its lo, that at its hi and the cost of its step, where 4,294,967,295 stands for none
+pub record Joins (low high cost r : ℕ) : Type 0 where
+  pub alone : 4294967295 ≤ high + cost → r ≡ low
+  pub both : high + cost < 4294967295 → r ≡ min low (high + cost)
+
+-- a table has what the steps of a chart cost
+abbrev pub Costs : Chart → List ℕ → Type 0
+Costs c cost = (k : ℕ) → k < length (c .steps) → getD cost k 0 ≡ keyCost c k
+
+-- A table has the estimate of each node, 4,294,967,295 where there is none, of each diagram of at most `count` inner nodes that stands in the tables,
+-- over each chart whose costs stand in the cost table
+pub record Estimated (step lo hi cost : List ℕ) (count : ℕ) (r : List ℕ) : Type 0 where
+  pub is : (c : Chart) (d : Diagram) → Costs c cost → Held d step lo hi → Sound (length (c .steps)) d → length (d .nodes) ≤ count
+      → (n : ℕ) → n < size d → getD r n 0 ≡ shown (diagramEstimate c d n)
+  pub small : (n : ℕ) → n < count + 2 → getD r n 0 < 4294967295 → getD r n 0 ≤ 1000000 * n

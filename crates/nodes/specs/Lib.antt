@@ -1,0 +1,6 @@
+pub mod Walks
+pub mod Falling
+pub mod Lowered
+pub mod Advancing
+pub mod Estimates
+pub mod Prices

@@ -1,0 +1,23 @@
+-- The steps of a diagram that stands in the tables are priced, where the costs of the chart's steps stand in the cost table.
+-- Assumes nothing.
+use Prim.Native.Nat.{ℕ, _+_, _≤_, _<_}
+use mathlib.Core.List.{List}
+use lib.ListN.{length, getD}
+use native.Mathlib.Omega.{arith}
+use Rattle.definitions.specs.Charts.{Chart}
+use Rattle.definitions.specs.Diagrams.{Diagram}
+use Rattle.definitions.specs.Limits.{Valid, Sound}
+use Rattle.definitions.specs.Plans.{graph}
+use Rattle.diagram.specs.Tables.{Held}
+use Rattle.diagram.specs.Held.{held-step}
+use Rattle.nodes.specs.Estimates.{Priced, Costs}
+
+pub priced : (c : Chart) (d : Diagram) (step lo hi cost : List ℕ) (count : ℕ) → Costs c cost → Held d step lo hi → Valid (graph c) → Sound (length (c .steps)) d
+    → count ≤ length (d .nodes) → Priced step cost count
+priced c d step lo hi cost count costs held v s few = record {
+  inside = λ n g l. omega (arith, exists n g l, v .few);
+  cheap = λ n g l. omega (arith, costs (getD step n 0) (exists n g l), v .cheap (getD step n 0) (exists n g l));
+}
+  where
+    exists : (n : ℕ) → 2 ≤ n → n < count + 2 → getD step n 0 < length (c .steps)
+    exists n g l = omega (arith, held-step d step lo hi held n g (omega arith), s .exist n g (omega arith))

@@ -1,0 +1,9 @@
+// The nodes of a rule diagram that stands in tables: how they are advanced and finished, and their estimates.
+mod estimates;
+mod walks;
+
+pub use estimates::diagram_estimates;
+pub use walks::advance;
+pub use walks::descend_to;
+pub use walks::finish;
+pub use walks::finishing;

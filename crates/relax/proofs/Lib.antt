@@ -1,0 +1,3 @@
+mod Offering
+mod Walking
+mod Rowing

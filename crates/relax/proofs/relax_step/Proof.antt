@@ -1,0 +1,107 @@
+-- `relax::relax_step` meets its contract: to node 0 nothing is offered, else the pair is.
+use mathlib.Core.Path.{refl, sym, _∙_, ap, subst}
+use native.Mathlib.Omega.{arith}
+use Prim.Native.Nat.{ℕ}
+use Rattle.relax.proofs.Walking.{offers, stepped-none, stepped-offer}
+use borrow.Author.Needs.{needs}
+use Rattle.relax.proofs.relax_step.Statement.{statement}
+use Rattle.relax.proofs.relax_step.Tie as tie
+use Rattle.relax.proofs.relax_step.Reads as reads
+use Rattle.relax.proofs.relax_step.Lts as lts
+use Rattle.relax.proofs.offer.Reads as offer-reads
+use Rattle.relax.proofs.wide.Reads as wide-reads
+
+-- src/lib.rt:72:9
+returns : tie.Need-returns
+returns c = stepped-none _ _ _ _ _ _ _ _ (c .if1 .taken)
+
+-- src/lib.rt:74:13
+mul-s : tie.Need-mul-s
+mul-s c = search needs
+
+-- src/lib.rt:74:13
+element-copy-out-s : tie.Need-element-copy-out-s
+element-copy-out-s c = search needs
+
+-- src/lib.rt:74:13
+cast-s : tie.Need-cast-s
+cast-s c = search needs
+
+-- src/lib.rt:75:21
+mul-wide : tie.Need-mul-wide
+mul-wide c = search needs
+
+-- src/lib.rt:75:21
+element-copy-out-wide : tie.Need-element-copy-out-wide
+element-copy-out-wide c = search needs
+
+-- src/lib.rt:75:9
+wide-requires : tie.Need-wide-requires
+wide-requires c κs = search needs
+
+-- src/lib.rt:76:16
+cast-mark : tie.Need-cast-mark
+cast-mark c = search needs
+
+-- src/lib.rt:76:16
+mul-mark : tie.Need-mul-mark
+mul-mark c = search needs
+
+-- src/lib.rt:76:16
+add-mark : tie.Need-add-mark
+add-mark c = search needs
+
+-- src/lib.rt:77:63
+mul-offer : tie.Need-mul-offer
+mul-offer c = search needs
+
+-- src/lib.rt:77:63
+element-copy-out-offer : tie.Need-element-copy-out-offer
+element-copy-out-offer c = search needs
+
+-- src/lib.rt:77:59
+add-offer : tie.Need-add-offer
+add-offer c = search needs
+
+-- src/lib.rt:77:5
+offer-requires : tie.Need-offer-requires
+offer-requires c κs = offers _ _ _ _ _ _ _ _ _ _ _ (c .before .before .before .before .before .before .before .before .before .before .before .before .pre) (c .before .before .before .before .before .before .before .before .if1 .left) _ (c .before .before .before .before .before .wide .ensures .0)
+
+-- src/lib.rt:55:1
+same-length : tie.Need-same-length
+same-length c = search needs
+
+-- src/lib.rt:55:1
+same-length-2 : tie.Need-same-length-2
+same-length-2 c = search needs
+
+-- src/lib.rt:55:1
+same-length-3 : tie.Need-same-length-3
+same-length-3 c = search needs
+
+-- src/lib.rt:55:1
+returns-2 : tie.Need-returns-2
+returns-2 c = stepped-offer _ _ _ _ _ _ _ _ _ _ (c .before .before .before .before .before .before .before .before .before .before .before .before .before .before .before .if1 .left) (c .before .before .before .before .before .before .before .before .before .before .before .before .wide .ensures .0) (c .before .before .before .before .before .before .offer .ensures)
+
+pub relax-step-spec : {M : Type 1} → statement M
+relax-step-spec =
+    tie.close
+    (tie.spec
+    returns
+    mul-s
+    element-copy-out-s
+    cast-s
+    mul-wide
+    element-copy-out-wide
+    wide-requires
+    cast-mark
+    mul-mark
+    add-mark
+    mul-offer
+    element-copy-out-offer
+    add-offer
+    offer-requires
+    same-length
+    same-length-2
+    same-length-3
+    returns-2)

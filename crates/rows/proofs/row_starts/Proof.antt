@@ -1,0 +1,67 @@
+-- `rows::row_starts` meets its contract: the rows below s are filled.
+use Prim.Native.Nat.{_+_, _-_, _*_, _≤_}
+use native.Mathlib.Omega.{arith}
+use borrow.Author.Needs.{needs}
+use Rattle.rows.specs.Rows.{Filled, filled-none, filled-more, filled-all}
+use Rattle.rows.proofs.row_starts.Statement.{statement}
+use Rattle.rows.proofs.row_starts.Tie as tie
+use Rattle.rows.proofs.row_starts.Reads as reads
+use Rattle.rows.proofs.row_starts.Lts as lts
+
+abbrev Inv-loop : tie.InvT-loop
+Inv-loop stages width row₀ step at₀ s₀ row at s = (s ≤ stages) × Filled stages width s at row
+
+abbrev μ-loop : tie.MeasureT-loop
+μ-loop stages width row₀ step at₀ s₀ row at s = stages - s
+
+-- src/lib.rt:12:16
+cast-step : tie.Need-cast-step Inv-loop μ-loop
+cast-step c = search needs
+
+-- src/lib.rt:15:5
+loop-holds : tie.Need-loop-holds Inv-loop μ-loop
+loop-holds c = (search needs, filled-none _ _)
+
+-- src/lib.rt:16:9
+mul-row : tie.Need-mul-row Inv-loop μ-loop
+mul-row c = search needs
+
+-- src/lib.rt:16:9
+array-write-row : tie.Need-array-write-row Inv-loop μ-loop
+array-write-row c = search needs
+
+-- src/lib.rt:17:9
+add-at : tie.Need-add-at Inv-loop μ-loop
+add-at c = search needs
+
+-- src/lib.rt:18:9
+add-s : tie.Need-add-s Inv-loop μ-loop
+add-s c = search needs
+
+-- src/lib.rt:15:5
+loop-less : tie.Need-loop-less Inv-loop μ-loop
+loop-less c = search needs
+
+-- src/lib.rt:15:5
+loop-again : tie.Need-loop-again Inv-loop μ-loop
+loop-again c = (search needs, filled-more _ _ _ _ _ (search needs) (search needs) (c .before .loop .inv .1))
+
+-- src/lib.rt:7:1
+returns : tie.Need-returns Inv-loop μ-loop
+returns c = filled-all _ _ _ _ _ (search needs) (search needs) (c .before .loop .inv .1)
+
+pub row-starts-spec : {M : Type 1} → statement M
+row-starts-spec =
+    tie.close
+    (tie.spec
+    Inv-loop
+    μ-loop
+    cast-step
+    loop-holds
+    mul-row
+    array-write-row
+    add-at
+    add-s
+    loop-less
+    loop-again
+    returns)

@@ -1,0 +1,111 @@
+-- Laws of `sweep_rows`: the cleared tables with the start's pair are those that the rows are relaxed from.
+-- Assumes nothing.
+use Prim.Native.Nat.{ℕ, zero, suc, _+_, _-_, _*_, _≤_, _<_}
+use mathlib.Core.Path.{_≡_, refl, sym, _∙_, ap, ap₂, subst}
+use mathlib.Core.Bool.{Bool, true, false}
+use mathlib.Core.List.{List, _++_}
+use native.Mathlib.Omega.{arith}
+use lib.Dec.{eqb}
+use lib.ListN.{length, getD, set, drop, replicate, length-append, length-replicate, length-drop, getD-replicate, List·getD-append}
+use Rattle.definitions.specs.Basics.{pick}
+use Rattle.definitions.specs.Ways.{Graph}
+use Rattle.definitions.specs.Pairs.{Automaton, pair, pairs}
+use Rattle.theory.specs.Pairs.{pair-inside}
+use Rattle.sweep_model.specs.Model.{unreached, Rows, rows, begun, swept, relaxRows}
+use Rattle.sweep_model.specs.Rows.{Table}
+use Rattle.sweep_model.specs.Sweeps.{FirstSteps}
+use Rattle.sweep_model.specs.Result.{Fresh, begun-table}
+use Rattle.checks.specs.Ready.{Ready, graphIn, automatonIn, count-is, width-is, lawful-in, few-stages, few-nodes, first-leave, first-all, row-start}
+use Rattle.checks.specs.declared.Shape.{Shape}
+use Rattle.relax.specs.Standing.{Row}
+use Rattle.sweep.specs.Begin.{Begun}
+use Rattle.sweep.specs.Goals.{at}
+use Rattle.sweep.specs.Runs.{pairsIn, Space, Blank, cleared}
+
+module _ (z : Shape) (from to cost first row step lo hi : List ℕ) (y : Ready z from to cost first row step lo hi) where
+  abbrev g : Graph
+  g = graphIn z from to cost
+
+  abbrev a : Automaton
+  a = automatonIn z from to cost step lo hi
+
+  pub pairs-is : pairs g a ≡ pairsIn z
+  pairs-is = ap (λ (w : ℕ). z .stages * w) (width-is z from to cost step lo hi (y .tables))
+
+  pub firsts : FirstSteps g (at first)
+  firsts = record {
+    leave = λ s e h i j.
+        let q : suc s ≡ s + 1 = omega arith in
+        let x = first-leave z from to cost first row step lo hi y s e h i (omega (arith, ap (at first) q)) in
+        (omega (arith, x .0, count-is z from to cost step lo hi (y .tables)), x .1);
+    all = λ s e h i j.
+        let q : suc s ≡ s + 1 = omega arith in
+        let x = first-all z from to cost first row step lo hi y s e h i j in
+        (x .0, omega (arith, x .1, ap (at first) q));
+  }
+
+  module _ (costs via nodes counts : List ℕ) (sp : Space z costs via nodes) (bl : Blank counts) where
+    filled-long : length (replicate (pairsIn z) unreached ++ drop (pairsIn z) costs) ≡ length costs
+    filled-long =
+        length-append (replicate (pairsIn z) unreached) (drop (pairsIn z) costs)
+        ∙ omega (arith, length-replicate (pairsIn z) unreached, length-drop (pairsIn z) costs, sp .cost-fits)
+
+    pub cleared-fresh : Fresh g a (cleared z costs via nodes counts)
+    cleared-fresh = record {
+      cost-fits = omega (arith, pairs-is, filled-long, sp .cost-fits);
+      via-fits = omega (arith, pairs-is, sp .via-fits);
+      nodes-fits = omega (arith, pairs-is, sp .nodes-fits);
+      counts-fits = omega (arith, bl .long, few-stages z from to cost step lo hi (y .tables));
+      no-cost = λ p h.
+          let k : p < pairsIn z = omega (arith, pairs-is) in
+          List·getD-append (replicate (pairsIn z) unreached) (drop (pairsIn z) costs) 0 p (omega (arith, length-replicate (pairsIn z) unreached))
+          ∙ getD-replicate (pairsIn z) p unreached 0 k;
+      no-node = λ s h. bl .none s (omega (arith, few-stages z from to cost step lo hi (y .tables)));
+    }
+
+    module _ (costs₁ : List ℕ) (e₁ : costs₁ ≡ replicate (pairsIn z) unreached ++ drop (pairsIn z) costs) (base : ℕ) (eb : base ≡ getD row (z .start) 0) where
+      base-is : base ≡ z .start * a .size
+      base-is =
+          eb ∙ row-start z from to cost first row step lo hi y (z .start) (y .tables .valid .start-inside)
+          ∙ ap (λ (w : ℕ). z .start * w) (sym (width-is z from to cost step lo hi (y .tables)))
+
+      pub begin-fits : (z .start < 256) × (base + z .root < length costs₁) × (base < length nodes)
+      begin-fits =
+          let p = pair-inside g a (z .start) (z .root) (y .tables .valid .start-inside) (y .tables .sound .root-inside) in
+          let s = y .tables .valid .start-inside in (
+            omega (arith, few-stages z from to cost step lo hi (y .tables)),
+            omega (arith, base-is, pairs-is, ap length e₁, filled-long, sp .cost-fits),
+            omega (arith, base-is, pairs-is, sp .nodes-fits),
+          )
+
+      pub begun-is : (costs₂ nodes₂ counts₂ : List ℕ) → Begun base (z .start) (z .root) costs₁ nodes counts costs₂ nodes₂ counts₂
+          → rows costs₂ via nodes₂ counts₂ ≡ begun g a (cleared z costs via nodes counts)
+      unfolding begun pick
+      begun-is costs₂ nodes₂ counts₂ b = go (eqb (z .root) 0) (b .cost) (b .node) (b .count)
+        where
+          zero-place : base ≡ pair a (z .start) 0
+          zero-place = omega (arith, base-is)
+
+          go : (t : Bool) → costs₂ ≡ pick t costs₁ (set costs₁ (base + z .root) 0) → nodes₂ ≡ pick t nodes (set nodes base (z .root)) → counts₂ ≡ pick t counts (set counts (z .start) 1)
+              → rows costs₂ via nodes₂ counts₂ ≡ pick t (cleared z costs via nodes counts)
+              (rows (set (replicate (pairsIn z) unreached ++ drop (pairsIn z) costs) (pair a (z .start) (z .root)) 0) via (set nodes (pair a (z .start) 0) (z .root)) (set counts (z .start) 1))
+          go true p q r =
+              ap (λ (l : List ℕ). rows l via nodes₂ counts₂) (p ∙ e₁) ∙ ap₂ (λ (m l : List ℕ). rows (replicate (pairsIn z) unreached ++ drop (pairsIn z) costs) via m l) q r
+          go false p q r =
+              ap (λ (l : List ℕ). rows l via nodes₂ counts₂) (p ∙ ap₂ (λ (l : List ℕ) (i : ℕ). set l (i + z .root) 0) e₁ base-is)
+              ∙ ap₂ (λ (m l : List ℕ). rows (set (replicate (pairsIn z) unreached ++ drop (pairsIn z) costs) (pair a (z .start) (z .root)) 0) via m l) (q ∙ ap (λ (i : ℕ). set nodes i (z .root)) zero-place) r
+
+      pub begun-row : (costs₂ nodes₂ counts₂ : List ℕ) → Begun base (z .start) (z .root) costs₁ nodes counts costs₂ nodes₂ counts₂
+          → Row z from to cost first row step lo hi (z .start) (rows costs₂ via nodes₂ counts₂)
+      begun-row costs₂ nodes₂ counts₂ b = record {
+        ready = y;
+        table = subst (Table g a (z .start)) (sym (begun-is costs₂ nodes₂ counts₂ b))
+            (begun-table g a (y .tables .valid) (lawful-in z from to cost step lo hi (y .tables)) (cleared z costs via nodes counts) cleared-fresh (at first) firsts);
+        stage = omega (arith, y .tables .valid .start-inside);
+      }
+
+      pub swept-is : (costs₂ nodes₂ counts₂ : List ℕ) → Begun base (z .start) (z .root) costs₁ nodes counts costs₂ nodes₂ counts₂ → (r : Rows)
+          → r ≡ relaxRows g a (at first) (z .start) (z .stages - z .start) (rows costs₂ via nodes₂ counts₂)
+          → r ≡ swept g a (at first) (cleared z costs via nodes counts)
+      unfolding swept
+      swept-is costs₂ nodes₂ counts₂ b r e = e ∙ ap (relaxRows g a (at first) (z .start) (z .stages - z .start)) (begun-is costs₂ nodes₂ counts₂ b)

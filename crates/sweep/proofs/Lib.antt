@@ -1,0 +1,4 @@
+mod Leaves
+mod Beginning
+mod Concluding
+mod Whole

@@ -1,0 +1,73 @@
+-- `sweep::total_count` meets its contract.
+use Prim.Native.Nat.{ℕ, _+_, _-_, _*_, _≤_}
+use mathlib.Core.Path.{_≡_, refl, sym, _∙_, ap}
+use mathlib.Core.List.{_++_}
+use native.Mathlib.Omega.{arith}
+use borrow.Author.Needs.{needs}
+use lib.ListN.{length, drop, replicate}
+use Rattle.sweep_model.specs.Totals.{total}
+use Rattle.sweep.specs.Goals.{at}
+use Rattle.sweep.proofs.Leaves.{total-none, total-more}
+use Rattle.sweep.proofs.goals.total_count.Statement.{statement}
+use Rattle.sweep.proofs.goals.total_count.Tie as tie
+use Rattle.sweep.proofs.goals.total_count.Reads as reads
+use Rattle.sweep.proofs.goals.total_count.Lts as lts
+use Rattle.sweep.proofs.goals.wide.Reads as wide-reads
+
+abbrev Inv-loop : tie.InvT-loop
+Inv-loop counts stages sum₀ s₀ sum s = (s ≤ stages) × (sum ≡ total (at counts) s) × (sum ≤ s * 4294967296)
+
+abbrev μ-loop : tie.MeasureT-loop
+μ-loop counts stages sum₀ s₀ sum s = stages - s
+
+-- src/goals.rt:69:5
+loop-holds : tie.Need-loop-holds Inv-loop μ-loop
+loop-holds c = (search needs, total-none _, search needs)
+
+-- src/goals.rt:70:21
+mul-wide : tie.Need-mul-wide Inv-loop μ-loop
+mul-wide c = search needs
+
+-- src/goals.rt:70:21
+element-copy-out-wide : tie.Need-element-copy-out-wide Inv-loop μ-loop
+element-copy-out-wide c = search needs
+
+-- src/goals.rt:70:16
+wide-requires : tie.Need-wide-requires Inv-loop μ-loop
+wide-requires c κs = search needs
+
+-- src/goals.rt:70:9
+add-sum : tie.Need-add-sum Inv-loop μ-loop
+add-sum c = omega (arith, c .wide .ensures .1, c .before .before .before .loop .inv .2, c .before .before .before .before .pre)
+
+-- src/goals.rt:71:9
+add-s : tie.Need-add-s Inv-loop μ-loop
+add-s c = search needs
+
+-- src/goals.rt:69:5
+loop-less : tie.Need-loop-less Inv-loop μ-loop
+loop-less c = search needs
+
+-- src/goals.rt:69:5
+loop-again : tie.Need-loop-again Inv-loop μ-loop
+loop-again c = (search needs, total-more _ _ _ _ (c .before .before .before .loop .inv .1) (c .wide .ensures .0), omega (arith, c .wide .ensures .1, c .before .before .before .loop .inv .2))
+
+-- src/goals.rt:63:1
+returns : tie.Need-returns Inv-loop μ-loop
+returns c = let e : c .before .loop .s ≡ c .before .before .args .stages = omega (arith, c .before .loop .inv .0) in c .before .loop .inv .1 ∙ ap (total (at (c .before .before .args .counts .now))) e
+
+pub total-count-spec : {M : Type 1} → statement M
+total-count-spec =
+    tie.close
+    (tie.spec
+    Inv-loop
+    μ-loop
+    loop-holds
+    mul-wide
+    element-copy-out-wide
+    wide-requires
+    add-sum
+    add-s
+    loop-less
+    loop-again
+    returns)

@@ -1,0 +1,4 @@
+pub mod Begin
+pub mod Goals
+pub mod Conclusion
+pub mod Runs

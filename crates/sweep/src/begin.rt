@@ -1,0 +1,41 @@
+// The tables before the first row: no pair is reached but that of start and root.
+ghost use mathlib.Core.Path.{_≡_};
+ghost use mathlib.Core.List.{_++_};
+ghost use Prim.Native.Nat.{_+_, _≤_, _<_};
+ghost use lib.ListN.{length, drop, replicate};
+ghost use Rattle.sweep.specs.Begin.{Begun};
+
+// The cost of a pair that is not reached.
+const NONE: u32 = 4294967295;
+
+// The first `pairs` costs become NONE.
+pub fn clear(costs: &mut [u32], pairs: usize)
+    requires { ⌜ pairs ≤ length (now costs) ⌝ }
+    ensures { λ _. ⌜ now (costs .exit) ≡ replicate pairs 4294967295 ++ drop pairs (now (costs .entry)) ⌝ }
+{
+    let mut i: usize = 0;
+    while i < pairs {
+        costs[i] = NONE;
+        i += 1;
+    }
+}
+
+// The pair of the start, whose row starts at `base`, and the root costs 0; a root that is 0 is not reached.
+pub fn begin(
+    costs: &mut [u32],
+    nodes: &mut [u32],
+    counts: &mut [u32; 256],
+    base: usize,
+    start: usize,
+    root: u16,
+)
+    requires { ⌜ (start < 256) × (base + root < length (now costs)) × (base < length (now nodes)) ⌝ }
+    ensures { λ _. ⌜ Begun base start root (now (costs .entry)) (now (nodes .entry)) (now (counts .entry)) (now (costs .exit)) (now (nodes .exit)) (now (counts .exit)) ⌝ }
+{
+    if root == 0 {
+        return;
+    }
+    costs[base + root as usize] = 0;
+    nodes[base] = root as u32;
+    counts[start] = 1;
+}

@@ -1,0 +1,74 @@
+// The cheapest goal pair of the end stage's row, and the count of the reached pairs.
+ghost use mathlib.Core.Path.{_≡_};
+ghost use Prim.Native.Nat.{_+_, _≤_, _<_};
+ghost use lib.ListN.{length, getD};
+ghost use Rattle.sweep_model.specs.Totals.{total};
+ghost use Rattle.sweep.specs.Goals.{Better, Chosen, Listed, at};
+
+// The cost of a pair that is not reached.
+const NONE: u32 = 4294967295;
+
+// A goal pair's cost, NONE where there is none yet, and its node.
+pub struct Best {
+    pub cost: u32,
+    pub node: u16,
+}
+
+fn wide(x: u32) -> usize
+    ensures { λ r. ⌜ (r ≡ x) × (r < 4294967296) ⌝ }
+{
+    x as usize
+}
+
+// The better of the best goal pair so far and node n at cost v, if that is one.
+fn better(best: Best, n: u16, v: u32, yes: bool) -> Best
+    ensures { λ r. ⌜ Better best n v yes r ⌝ }
+{
+    let cost = best.cost;
+    if cost <= v {
+        return best;
+    }
+    if yes {
+        return Best { cost: v, node: n };
+    }
+    best
+}
+
+// The cheapest goal pair among the first `count` nodes of the list of the row that starts at `base`.
+pub fn cheapest_goal<'a>(
+    costs: &'a [u32],
+    nodes: &'a [u32],
+    yes: &'a [bool; 512],
+    base: usize,
+    count: usize,
+) -> Best
+    requires { ⌜ Listed base count (now costs) (now nodes) ⌝ }
+    ensures { λ r. ⌜ Chosen base count (now (costs .entry)) (now (nodes .entry)) (now (yes .entry)) r ⌝ }
+{
+    let mut best = Best {
+        cost: NONE,
+        node: 0,
+    };
+    let mut k: usize = 0;
+    while k < count {
+        let n = wide(nodes[base + k]);
+        let v = costs[base + n];
+        best = better(best, n as u16, v, yes[n]);
+        k += 1;
+    }
+    best
+}
+
+// How many pairs are reached: the sum of the lengths of the rows' lists.
+pub fn total_count(counts: &[u32; 256], stages: usize) -> usize
+    requires { ⌜ stages ≤ 256 ⌝ }
+    ensures { λ r. ⌜ r ≡ total (at (now (counts .entry))) stages ⌝ }
+{
+    let mut sum: usize = 0;
+    let mut s: usize = 0;
+    while s < stages {
+        sum += wide(counts[s]);
+        s += 1;
+    }
+    sum
+}

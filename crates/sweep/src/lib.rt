@@ -1,0 +1,6 @@
+// The sweep: the least cost of every pair, row by row, and a cheapest legal plan.
+mod begin;
+mod goals;
+mod run;
+
+pub use run::sweep;

@@ -1,0 +1,7 @@
+pub mod Totals
+pub mod Model
+pub mod Rows
+pub mod Offers
+pub mod Sweeps
+pub mod Result
+pub mod Paths

@@ -1,0 +1,12 @@
+pub mod Basics
+pub mod Diagrams
+pub mod Least
+pub mod Ways
+pub mod Pairs
+pub mod Plans
+pub mod Estimates
+pub mod BestFirst
+pub mod Product
+pub mod Counting
+pub mod Sweeps
+pub mod Agreement

@@ -1,0 +1,37 @@
+-- The trail from a pair back to the start: each pair keeps the step and the node by which it was reached, packed in one number.
+-- Assumes nothing.
+use Prim.Native.Nat.{ℕ, zero, suc, _+_, _*_, _/_, _%_, _≤_, _<_}
+use mathlib.Core.Path.{_≡_, refl, sym, _∙_, ap}
+use mathlib.Core.List.{List, [], _∷_, _++_}
+use lib.ListN.{length, getD, drop}
+use Rattle.rows.specs.Rows.{rowStarts}
+
+-- a step and a node in one number
+abbrev pub packed : ℕ → ℕ → ℕ
+packed e n = e * 512 + n
+
+-- The steps w lead from the start to the pair of stage s and node n of rows of `width` nodes: `via` has at each pair but those of the start stage the step that
+-- leads there and the node that it leaves, `from` the stage that it leaves
+pub data Trail (via from : List ℕ) (width start : ℕ) : ℕ → ℕ → List ℕ → Type 0 where
+  begin : {n : ℕ} → Trail via from width start start n []
+  more : {s n e m : ℕ} {w : List ℕ} → start < s → e < 1024 → m < width → getD from e 0 < s → getD via (s * width + n) 0 ≡ packed e m
+      → Trail via from width start (getD from e 0) m w → Trail via from width start s n (w ++ e ∷ [])
+
+-- a pair can be traced back, by these tables
+pub record Traceable (via from row : List ℕ) (width stages start s n : ℕ) : Type 0 where
+  pub rows : row ≡ rowStarts stages width
+  pub few : stages ≤ 256
+  pub narrow : width ≤ 512
+  pub fits : stages * width ≤ length via
+  pub stage : s < stages
+  pub node : n < width
+  pub steps : List ℕ
+  pub trail : Trail via from width start s n steps
+
+-- r is the length of the trail to a pair
+abbrev pub LongAs : List ℕ → List ℕ → ℕ → ℕ → ℕ → ℕ → ℕ → Type 0
+LongAs via from width start s n r = (w : List ℕ) → Trail via from width start s n w → r ≡ length w
+
+-- the plan begins with the trail to a pair, as many steps as count, and goes on as before
+abbrev pub Written : List ℕ → List ℕ → ℕ → ℕ → ℕ → ℕ → ℕ → List ℕ → List ℕ → Type 0
+Written via from width start s n count plan plan′ = (w : List ℕ) → Trail via from width start s n w → plan′ ≡ w ++ drop count plan
