@@ -10,11 +10,12 @@ use Rattle.definitions.specs.Pairs.{Automaton, pair, pairs}
 use Rattle.theory.specs.Pairs.{Lawful, pair-inside}
 use Rattle.sweep_model.specs.Model.{unreached, Rows, costAt, nodeAt, countAt, relaxSteps, relaxNode, relaxNodes, relaxRows}
 use Rattle.sweep_model.specs.Rows.{Table, table-more, count-fits}
-use Rattle.sweep_model.specs.Sweeps.{FirstSteps, steps-made, nodes-made}
+use Rattle.sweep_model.specs.Sweeps.{steps-made, nodes-made}
 use Rattle.checks.specs.Tables.{Tables}
-use Rattle.checks.specs.Ready.{Ready, graphIn, automatonIn, count-is, width-is, lawful-in, few-stages, few-nodes, first-leave, first-all, first-order, row-start}
+use Rattle.checks.specs.Ready.{Ready, graphIn, automatonIn, width-is, lawful-in, few-stages, few-nodes, row-start}
 use Rattle.checks.specs.declared.Shape.{Shape}
 use Rattle.relax.specs.Standing.{Standing, Row, at}
+use Rattle.relax.specs.Leaving.{first-steps}
 
 module _ (z : Shape) (from to cost first row step lo hi : List ℕ) where
   abbrev g : Graph
@@ -27,18 +28,6 @@ module _ (z : Shape) (from to cost first row step lo hi : List ℕ) where
   w = a .size
 
   module _ (y : Ready z from to cost first row step lo hi) where
-    pub first-steps : FirstSteps g (at first)
-    first-steps = record {
-      leave = λ s e h i j.
-          let q : suc s ≡ s + 1 = omega arith in
-          let x = first-leave z from to cost first row step lo hi y s e h i (omega (arith, ap (at first) q)) in
-          (omega (arith, x .0, count-is z from to cost step lo hi (y .tables)), x .1);
-      all = λ s e h i j.
-          let q : suc s ≡ s + 1 = omega arith in
-          let x = first-all z from to cost first row step lo hi y s e h i j in
-          (x .0, omega (arith, x .1, ap (at first) q));
-    }
-
     pub small-stage : (s : ℕ) → s < z .stages → s < 256
     small-stage s h = omega (arith, few-stages z from to cost step lo hi (y .tables))
 
@@ -107,7 +96,7 @@ module _ (z : Shape) (from to cost first row step lo hi : List ℕ) where
           unfolding relaxNodes relaxNode
           row-more start until r′ es eu er =
               let q : s + 1 ≡ suc s = omega arith in
-              let f = first-steps (x .ready) in
+              let f = first-steps z from to cost first row step lo hi (x .ready) in
               let one = steps-made g a (x .ready .tables .valid) (lawful-in z from to cost step lo hi (x .ready .tables)) s (nodeAt w r s k) (costAt w r s (nodeAt w r s k)) (x .stage) (listed .0) (listed .1)
               (at first (suc s) - at first s) (at first s) r (x .table) refl (λ e i j. f .leave s e (x .stage) i (omega arith)) in
               let e : r′ ≡ relaxSteps g a (nodeAt w r s k) (costAt w r s (nodeAt w r s k)) (at first s) (at first (suc s) - at first s) r =
@@ -145,7 +134,7 @@ module _ (z : Shape) (from to cost first row step lo hi : List ℕ) where
       let y = x .stands in
       let q : suc s ≡ s + 1 = omega arith in
       let j : stages - s ≡ suc (stages - (s + 1)) = omega arith in
-      let one = nodes-made g a (y .ready .tables .valid) (lawful-in z from to cost step lo hi (y .ready .tables)) (at first) (first-steps (y .ready)) s (omega arith)
+      let one = nodes-made g a (y .ready .tables .valid) (lawful-in z from to cost step lo hi (y .ready .tables)) (at first) (first-steps z from to cost first row step lo hi (y .ready)) s (omega arith)
       (countAt r s) 0 r (table-more g a s (suc s) r (omega arith) (y .table)) (omega arith) in
       record {
         stands = record { ready = y .ready; table = subst (λ (i : ℕ). Table g a i r′) q (subst (Table g a (suc s)) (sym e) (one .table)); stage = omega arith };

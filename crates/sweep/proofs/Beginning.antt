@@ -13,13 +13,12 @@ use Rattle.definitions.specs.Pairs.{Automaton, pair, pairs}
 use Rattle.theory.specs.Pairs.{pair-inside}
 use Rattle.sweep_model.specs.Model.{unreached, Rows, rows, begun, swept, relaxRows}
 use Rattle.sweep_model.specs.Rows.{Table}
-use Rattle.sweep_model.specs.Sweeps.{FirstSteps}
 use Rattle.sweep_model.specs.Result.{Fresh, begun-table}
-use Rattle.checks.specs.Ready.{Ready, graphIn, automatonIn, count-is, width-is, lawful-in, few-stages, few-nodes, first-leave, first-all, row-start}
+use Rattle.checks.specs.Ready.{Ready, graphIn, automatonIn, width-is, lawful-in, few-stages, row-start}
 use Rattle.checks.specs.declared.Shape.{Shape}
-use Rattle.relax.specs.Standing.{Row}
+use Rattle.relax.specs.Standing.{Row, at}
+use Rattle.relax.specs.Leaving.{first-steps}
 use Rattle.sweep.specs.Begin.{Begun}
-use Rattle.sweep.specs.Goals.{at}
 use Rattle.sweep.specs.Runs.{pairsIn, Space, Blank, cleared}
 
 module _ (z : Shape) (from to cost first row step lo hi : List ℕ) (y : Ready z from to cost first row step lo hi) where
@@ -31,18 +30,6 @@ module _ (z : Shape) (from to cost first row step lo hi : List ℕ) (y : Ready z
 
   pub pairs-is : pairs g a ≡ pairsIn z
   pairs-is = ap (λ (w : ℕ). z .stages * w) (width-is z from to cost step lo hi (y .tables))
-
-  pub firsts : FirstSteps g (at first)
-  firsts = record {
-    leave = λ s e h i j.
-        let q : suc s ≡ s + 1 = omega arith in
-        let x = first-leave z from to cost first row step lo hi y s e h i (omega (arith, ap (at first) q)) in
-        (omega (arith, x .0, count-is z from to cost step lo hi (y .tables)), x .1);
-    all = λ s e h i j.
-        let q : suc s ≡ s + 1 = omega arith in
-        let x = first-all z from to cost first row step lo hi y s e h i j in
-        (x .0, omega (arith, x .1, ap (at first) q));
-  }
 
   module _ (costs via nodes counts : List ℕ) (sp : Space z costs via nodes) (bl : Blank counts) where
     filled-long : length (replicate (pairsIn z) unreached ++ drop (pairsIn z) costs) ≡ length costs
@@ -100,7 +87,7 @@ module _ (z : Shape) (from to cost first row step lo hi : List ℕ) (y : Ready z
       begun-row costs₂ nodes₂ counts₂ b = record {
         ready = y;
         table = subst (Table g a (z .start)) (sym (begun-is costs₂ nodes₂ counts₂ b))
-            (begun-table g a (y .tables .valid) (lawful-in z from to cost step lo hi (y .tables)) (cleared z costs via nodes counts) cleared-fresh (at first) firsts);
+            (begun-table g a (y .tables .valid) (lawful-in z from to cost step lo hi (y .tables)) (cleared z costs via nodes counts) cleared-fresh (at first) (first-steps z from to cost first row step lo hi y));
         stage = omega (arith, y .tables .valid .start-inside);
       }
 

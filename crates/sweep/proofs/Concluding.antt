@@ -27,11 +27,12 @@ use Rattle.sweep_model.specs.Result.{Fresh, final-table, final-count}
 use Rattle.checks.specs.Tables.{Tables, chartIn, diagramIn}
 use Rattle.checks.specs.Ready.{Ready, graphIn, automatonIn, count-is, width-is, sound-in, few-stages, few-nodes, from-at, row-start, lawful-in}
 use Rattle.checks.specs.declared.Shape.{Shape}
-use Rattle.sweep.specs.Goals.{at, Listed, Chosen}
+use Rattle.sweep.specs.Goals.{Listed, Chosen}
 use Rattle.sweep.specs.Conclusion.{goals-listed, best-inside, best-steps, best-trail, best-short, best-planned, none-planned}
 use Rattle.sweep.specs.Runs.{Final, Concludes}
 use Rattle.sweep.specs.declared.goals.Best.{Best}
-use Rattle.sweep.proofs.Beginning.{firsts}
+use Rattle.relax.specs.Standing.{at}
+use Rattle.relax.specs.Leaving.{first-steps}
 
 module _ (z : Shape) (from to cost first row step lo hi costs via nodes counts : List ℕ) (f : Final z from to cost first row step lo hi costs via nodes counts) where
   abbrev c : Chart
@@ -53,7 +54,7 @@ module _ (z : Shape) (from to cost first row step lo hi costs via nodes counts :
   tb = y .tables
 
   abbrev F : FirstSteps g (at first)
-  F = firsts z from to cost first row step lo hi y
+  F = first-steps z from to cost first row step lo hi y
 
   abbrev r : Rows
   r = swept g a (at first) (f .before)

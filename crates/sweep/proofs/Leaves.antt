@@ -11,7 +11,7 @@ use borrow.Author.Tests.{eq-eqb, ne-eqb}
 use Rattle.theory.specs.Basics.{pick-true, pick-false, either, lt-or-le, same-or-not, true-not-false}
 use Rattle.sweep_model.specs.Totals.{total}
 use Rattle.sweep.specs.Begin.{Begun}
-use Rattle.sweep.specs.Goals.{at, Better, Listed, Chosen}
+use Rattle.sweep.specs.Goals.{Better, Listed, Chosen}
 use Rattle.sweep.specs.declared.goals.Best.{Best}
 
 module _ (base start root : ℕ) (costs nodes counts : List ℕ) where

@@ -26,9 +26,10 @@ use Rattle.checks.specs.Tables.{Tables, LoadsAs, chartIn, diagramIn}
 use Rattle.checks.specs.Ready.{Ready, graphIn, automatonIn, lawful-in, few-stages, few-nodes}
 use Rattle.checks.specs.declared.Shape.{Shape}
 use Rattle.checks.specs.declared.Loaded.{Loaded}
-use Rattle.sweep.specs.Goals.{at}
+use Rattle.relax.specs.Standing.{at}
+use Rattle.relax.specs.Leaving.{first-steps}
 use Rattle.sweep.specs.Runs.{pairsIn, Space, Blank, cleared, Final, Concludes, Runs}
-use Rattle.sweep.proofs.Beginning.{pairs-is, firsts, cleared-fresh}
+use Rattle.sweep.proofs.Beginning.{pairs-is, cleared-fresh}
 
 pub blank : Blank (replicate 256 0)
 blank = record { long = length-replicate {A = ℕ} 256 0; none = λ s h. getD-replicate {A = ℕ} 256 s 0 0 h }
@@ -64,7 +65,7 @@ module _ (z : Shape) (from to cost step lo hi : List ℕ) (t : Tables z from to 
       }
 
       past : Past g a (cleared z costs via nodes counts) (swept g a (at first) (cleared z costs via nodes counts))
-      past = final-past g a (t .valid) (lawful-in z from to cost step lo hi t) (cleared z costs via nodes counts) fresh (at first) (firsts z from to cost first row step lo hi run-ready)
+      past = final-past g a (t .valid) (lawful-in z from to cost step lo hi t) (cleared z costs via nodes counts) fresh (at first) (first-steps z from to cost first row step lo hi run-ready)
 
       same : pairs g a ≡ pairsIn z
       same = pairs-is z from to cost first row step lo hi run-ready
@@ -81,7 +82,7 @@ module _ (z : Shape) (from to cost step lo hi : List ℕ) (t : Tables z from to 
         concludes = x;
         cost-slice =
             ap (λ (w : Rows). w .cost) es
-            ∙ final-costs g a (t .valid) (lawful-in z from to cost step lo hi t) (cleared z costs via nodes counts) fresh (at first) (firsts z from to cost first row step lo hi run-ready)
+            ∙ final-costs g a (t .valid) (lawful-in z from to cost step lo hi t) (cleared z costs via nodes counts) fresh (at first) (first-steps z from to cost first row step lo hi run-ready)
             ∙ ap (λ (l : List ℕ). leastCosts g a ++ l) cleared-past;
         via-past = ap (λ (k : ℕ). drop k via′) (sym same) ∙ ap (λ (w : Rows). drop (pairs g a) (w .via)) es ∙ past .via-past ∙ ap (λ (k : ℕ). drop k via) same;
         nodes-past = ap (λ (k : ℕ). drop k nodes′) (sym same) ∙ ap (λ (w : Rows). drop (pairs g a) (w .nodes)) es ∙ past .nodes-past ∙ ap (λ (k : ℕ). drop k nodes) same;

@@ -7,10 +7,6 @@ use mathlib.Core.List.{List}
 use lib.ListN.{length, getD}
 use Rattle.sweep.specs.declared.goals.Best.{Best}
 
--- a table as a function
-abbrev pub at : List ℕ → ℕ → ℕ
-at table s = getD table s 0
-
 -- the better of the best so far and node n at cost v, if that is a goal
 pub record Better (best : Best) (n v : ℕ) (yes : Bool) (r : Best) : Type 0 where
   pub taken : v < best .cost → yes ≡ true → (r .cost ≡ v) × (r .node ≡ n)

@@ -13,7 +13,7 @@ use Rattle.sweep_model.specs.Result.{Fresh}
 use Rattle.checks.specs.Tables.{chartIn, diagramIn}
 use Rattle.checks.specs.Ready.{Ready, graphIn, automatonIn}
 use Rattle.checks.specs.declared.Shape.{Shape}
-use Rattle.sweep.specs.Goals.{at}
+use Rattle.relax.specs.Standing.{at}
 
 -- how many pairs there are
 abbrev pub pairsIn : Shape → ℕ

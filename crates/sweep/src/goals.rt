@@ -3,7 +3,8 @@ ghost use mathlib.Core.Path.{_≡_};
 ghost use Prim.Native.Nat.{_+_, _≤_, _<_};
 ghost use lib.ListN.{length, getD};
 ghost use Rattle.sweep_model.specs.Totals.{total};
-ghost use Rattle.sweep.specs.Goals.{Better, Chosen, Listed, at};
+ghost use Rattle.sweep.specs.Goals.{Better, Chosen, Listed};
+ghost use Rattle.relax.specs.Standing.{at};
 
 // The cost of a pair that is not reached.
 const NONE: u32 = 4294967295;

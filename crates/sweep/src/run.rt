@@ -8,7 +8,7 @@ ghost use Rattle.definitions.specs.Promises.{Swept, Scratch};
 ghost use Rattle.sweep_model.specs.Model.{rows, swept};
 ghost use Rattle.checks.specs.Tables.{Tables};
 ghost use Rattle.checks.specs.Ready.{Ready, graphIn, automatonIn};
-ghost use Rattle.sweep.specs.Goals.{at};
+ghost use Rattle.relax.specs.Standing.{at};
 ghost use Rattle.sweep.specs.Runs.{Space, Blank, cleared, Final, Concludes, Runs};
 use crate::begin::begin;
 use crate::begin::clear;

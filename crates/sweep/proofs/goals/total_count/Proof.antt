@@ -6,7 +6,7 @@ use native.Mathlib.Omega.{arith}
 use borrow.Author.Needs.{needs}
 use lib.ListN.{length, drop, replicate}
 use Rattle.sweep_model.specs.Totals.{total}
-use Rattle.sweep.specs.Goals.{at}
+use Rattle.relax.specs.Standing.{at}
 use Rattle.sweep.proofs.Leaves.{total-none, total-more}
 use Rattle.sweep.proofs.goals.total_count.Statement.{statement}
 use Rattle.sweep.proofs.goals.total_count.Tie as tie
