@@ -63,14 +63,23 @@ one-of : (b : Bool) → cond b true false ≡ true → b ≡ true
 one-of true e = refl
 one-of false e = e
 
--- where all checks pass, the space is enough
-pub ready-space : (s t : List ℕ) (work plan : ℕ) (c : Chart) (d : Diagram) → load s t (work ∷ []) plan ≡ ready c d → (workNeed c d ≤ work) × (planNeed c ≤ plan)
+-- where all checks pass, the chart and the diagram are those of the files, and the space is enough
+ready-parts : (s t works : List ℕ) (plan : ℕ) (c : Chart) (d : Diagram) → load s t works plan ≡ ready c d
+    → (readChart s .chart ≡ c) × (readDiagram t (length (readChart s .chart .steps)) .diagram ≡ d)
+    × (spaceFits (readChart s .chart) (readDiagram t (length (readChart s .chart .steps)) .diagram) works plan ≡ true)
 unfolding load
-ready-space s t work plan c d e =
+ready-parts s t works plan c d e =
     either (pick-cases _ _ _ _ e) (λ x. absurd (turned-not-ready _ _ _ c d (x .1)))
     (λ x. either (pick-cases _ _ _ _ (x .1)) (λ y. absurd (turned-not-ready _ _ _ c d (y .1)))
     (λ y. either (pick-cases _ _ _ _ (y .1)) (λ w. absurd (turned-not-ready _ _ _ c d (w .1)))
-    (λ w. fits _ _ (not-false _ (w .0)) (ready-left _ _ c d (w .1)) (ready-right _ _ c d (w .1)))))
+    (λ w. (ready-left _ _ c d (w .1), ready-right _ _ c d (w .1), not-false _ (w .0)))))
+
+pub ready-files : (s t works : List ℕ) (plan : ℕ) (c : Chart) (d : Diagram) → load s t works plan ≡ ready c d
+    → (c ≡ readChart s .chart) × (d ≡ readDiagram t (length (readChart s .chart .steps)) .diagram)
+ready-files s t works plan c d e = let x = ready-parts s t works plan c d e in (sym (x .0), sym (x .1))
+
+pub ready-space : (s t : List ℕ) (work plan : ℕ) (c : Chart) (d : Diagram) → load s t (work ∷ []) plan ≡ ready c d → (workNeed c d ≤ work) × (planNeed c ≤ plan)
+ready-space s t work plan c d e = let x = ready-parts s t (work ∷ []) plan c d e in fits _ _ (x .2) (x .0) (x .1)
   where
     fits : (c′ : Chart) (d′ : Diagram) → spaceFits c′ d′ (work ∷ []) plan ≡ true → c′ ≡ c → d′ ≡ d → (workNeed c d ≤ work) × (planNeed c ≤ plan)
     fits c′ d′ h p q =

@@ -1,0 +1,3 @@
+mod Placing
+pub mod Beginning
+mod Turning

@@ -1,0 +1,61 @@
+-- `astar::place_of` meets its contract.
+use mathlib.Core.Path.{sym, _∙_}
+use native.Mathlib.Omega.{arith}
+use Rattle.astar.proofs.Placing.{at-begin, placed-begin, placed-step, placed-stage}
+use borrow.Author.Needs.{needs}
+use Rattle.astar.proofs.places.place_of.Statement.{statement}
+use Rattle.astar.proofs.places.place_of.Tie as tie
+use Rattle.astar.proofs.places.place_of.Reads as reads
+use Rattle.astar.proofs.places.place_of.Lts as lts
+use Rattle.astar.proofs.places.place_in.Reads as place-in-reads
+use Rattle.astar.proofs.places.wide.Reads as wide-reads
+
+-- src/places.rt:46:9
+place-in-requires : tie.Need-place-in-requires
+place-in-requires c κs = placed-begin (c .before .before .pre) (c .if1 .taken)
+
+-- src/places.rt:46:9
+returns : tie.Need-returns
+returns c = (c .place-in .ensures .0 ∙ sym (at-begin _ _ _ _ _ (c .before .if1 .taken)), c .place-in .ensures .1)
+
+-- src/places.rt:48:18
+mul-wide : tie.Need-mul-wide
+mul-wide c = omega (arith, c .before .before .pre .fits)
+
+-- src/places.rt:48:18
+shared-slice-read-wide : tie.Need-shared-slice-read-wide
+shared-slice-read-wide c = c .before .before .before .pre .fits
+
+-- src/places.rt:48:9
+wide-requires : tie.Need-wide-requires
+wide-requires c κs = search needs
+
+-- src/places.rt:49:19
+mul-place-in : tie.Need-mul-place-in
+mul-place-in c = omega (arith, c .wide .ensures, c .before .before .before .before .pre .by-step (c .before .before .if1 .left))
+
+-- src/places.rt:49:19
+element-copy-out-place-in : tie.Need-element-copy-out-place-in
+element-copy-out-place-in c = omega (arith, c .wide .ensures, c .before .before .before .before .pre .by-step (c .before .before .if1 .left))
+
+-- src/places.rt:49:5
+place-in-requires-2 : tie.Need-place-in-requires-2
+place-in-requires-2 c κs = placed-step (c .before .before .before .before .before .pre) _ (c .before .before .before .if1 .left) (c .before .wide .ensures)
+
+-- src/places.rt:34:1
+returns-2 : tie.Need-returns-2
+returns-2 c = (c .place-in2 .ensures .0 ∙ placed-stage (c .before .before .before .before .before .before .pre) _ (c .before .before .before .before .if1 .left) (c .before .before .wide .ensures), c .place-in2 .ensures .1)
+
+pub place-of-spec : {M : Type 1} → statement M
+place-of-spec =
+    tie.close
+    (tie.spec
+    place-in-requires
+    returns
+    mul-wide
+    shared-slice-read-wide
+    wide-requires
+    mul-place-in
+    element-copy-out-place-in
+    place-in-requires-2
+    returns-2)

@@ -1,0 +1,3 @@
+mod Relaxing
+mod Stepping
+mod Walking

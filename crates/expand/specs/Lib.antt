@@ -1,0 +1,4 @@
+pub mod Estimates
+pub mod Tables
+pub mod Kept
+pub mod Opening

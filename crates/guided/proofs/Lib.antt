@@ -1,0 +1,4 @@
+mod Clearing
+mod Finding
+mod Preparing
+mod Loading

@@ -1,0 +1,10 @@
+pub mod State
+pub mod Moves
+pub mod Logs
+pub mod Bounds
+pub mod Chosen
+pub mod Turns
+pub mod Ends
+pub mod Traces
+pub mod Settling
+pub mod Charts

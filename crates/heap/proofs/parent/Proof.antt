@@ -1,0 +1,14 @@
+-- `parent` meets its contract.
+-- Assumes nothing.
+use borrow.Author.Needs.{needs}
+use Rattle.heap.proofs.parent.Statement.{statement}
+use Rattle.heap.proofs.parent.Tie as tie
+
+sub-result : tie.Need-sub-result
+sub-result c = search needs
+
+returns : tie.Need-returns
+returns c = search needs
+
+pub parent-spec : {M : Type 1} → statement M
+parent-spec = tie.close (tie.spec sub-result returns)

@@ -1,0 +1,49 @@
+-- What one call that runs both searches promises: each search's own promise, and that they agree where all checks pass for both.
+-- Assumes nothing.
+use Prim.Native.Nat.{ℕ, _≤_}
+use mathlib.Core.Path.{_≡_, refl, sym, _∙_, ap, subst, subst₂}
+use mathlib.Core.List.{List, [], _∷_}
+use lib.ListN.{length}
+use Rattle.definitions.specs.Charts.{Chart, readChart}
+use Rattle.definitions.specs.Diagrams.{Diagram, readDiagram}
+use Rattle.definitions.specs.Answers.{Load, ready, turned, load}
+use Rattle.definitions.specs.Promises.{Swept, Guided, Scratch}
+use Rattle.definitions.specs.declared.Answer.{Answer}
+use Rattle.theory.specs.Agreement.{Agree, agreement}
+use Rattle.checks.specs.Outcome.{ready-files}
+
+-- the sweep's promise, for its slices before and after
+pub record SweepKept (s t plan plan′ cost cost′ via via′ nodes nodes′ : List ℕ) (r : Answer) : Type 0 where
+  pub answers : Swept (load s t (length cost ∷ length via ∷ length nodes ∷ []) (length plan)) plan plan′ cost cost′ r
+  pub via-kept : Scratch (load s t (length cost ∷ length via ∷ length nodes ∷ []) (length plan)) via via′
+  pub nodes-kept : Scratch (load s t (length cost ∷ length via ∷ length nodes ∷ []) (length plan)) nodes nodes′
+
+-- the guided search's promise, for its slices before and after
+pub record GuidedKept (s t plan plan′ keys keys′ via via′ heap heap′ pos pos′ stack stack′ log log′ : List ℕ) (r : Answer) : Type 0 where
+  pub answers : Guided (load s t (length keys ∷ length via ∷ length heap ∷ length pos ∷ length stack ∷ length log ∷ []) (length plan)) plan plan′ log log′ r
+  pub keys-kept : Scratch (load s t (length keys ∷ length via ∷ length heap ∷ length pos ∷ length stack ∷ length log ∷ []) (length plan)) keys keys′
+  pub via-kept : Scratch (load s t (length keys ∷ length via ∷ length heap ∷ length pos ∷ length stack ∷ length log ∷ []) (length plan)) via via′
+  pub heap-kept : Scratch (load s t (length keys ∷ length via ∷ length heap ∷ length pos ∷ length stack ∷ length log ∷ []) (length plan)) heap heap′
+  pub pos-kept : Scratch (load s t (length keys ∷ length via ∷ length heap ∷ length pos ∷ length stack ∷ length log ∷ []) (length plan)) pos pos′
+  pub stack-kept : Scratch (load s t (length keys ∷ length via ∷ length heap ∷ length pos ∷ length stack ∷ length log ∷ []) (length plan)) stack stack′
+
+-- where all checks pass for both, they agree: both give a legal plan or both give 8, the costs are equal, and the guided count is at most the sweep's
+abbrev pub AgreeOn : Load → Load → Answer → Answer → Type 0
+AgreeOn (ready c d) (ready c′ d′) r q = Agree r q
+AgreeOn (ready c d) (turned number file place) r q = Unit {0}
+AgreeOn (turned number file place) o r q = Unit {0}
+
+-- both searches keep their promises on the same files: they agree
+pub both-agree : (s t works works′ : List ℕ) (p p′ : ℕ) (plan plan′ costs costs′ : List ℕ) (r : Answer) (trip trip′ log log′ : List ℕ) (q : Answer)
+    → Swept (load s t works p) plan plan′ costs costs′ r → Guided (load s t works′ p′) trip trip′ log log′ q
+    → AgreeOn (load s t works p) (load s t works′ p′) r q
+both-agree s t works works′ p p′ plan plan′ costs costs′ r trip trip′ log log′ q = go (load s t works p) refl (load s t works′ p′) refl
+  where
+    go : (o : Load) → load s t works p ≡ o → (o′ : Load) → load s t works′ p′ ≡ o′ → Swept o plan plan′ costs costs′ r → Guided o′ trip trip′ log log′ q → AgreeOn o o′ r q
+    go (turned number file place) e o′ e′ x y = tt
+    go (ready c d) e (turned number file place) e′ x y = tt
+    go (ready c d) e (ready c′ d′) e′ x y =
+        let a = ready-files s t works p c d e in
+        let b = ready-files s t works′ p′ c′ d′ e′ in
+        agreement c d plan plan′ costs costs′ r trip trip′ log log′ q x
+        (subst₂ (λ (i : Chart) (j : Diagram). Guided (ready i j) trip trip′ log log′ q) (b .0 ∙ sym (a .0)) (b .1 ∙ sym (a .1)) y)

@@ -1,0 +1,50 @@
+-- What a caller may cite of the queue: the empty queue, and what is known of a pair that is in it.
+-- Assumes nothing.
+use mathlib.Core.Path.{_≡_, ap}
+use mathlib.Core.List.{List}
+use Prim.Native.Nat.{ℕ, _≤_, _<_}
+use native.Mathlib.Omega.{arith}
+use lib.ListN.{length, getD}
+use Rattle.heap.specs.Heap.{Heap}
+use Rattle.heap.proofs.Places.{in-pair}
+use Rattle.heap.proofs.Calls.{heap-empty}
+use Rattle.queue.specs.declared.Counts.{Counts}
+use Rattle.queue.specs.Queue.{heaped, Contains, Queue, Empty}
+
+-- the empty queue, whatever stands in the slices
+pub queue-empty : {keys heap pos stack : List ℕ} {p : ℕ} {c : Counts} → Empty c
+    → p ≤ 4294967296 → p ≤ length keys → p ≤ length heap → p ≤ length pos → p ≤ length stack
+    → Queue keys heap pos stack p c
+queue-empty {keys} {heap} {pos} {stack} {p} {c} x s a b d e = record {
+  ordered = let n : 0 ≡ heaped c = omega (arith, x .none-held) in rw n at h;
+  top-held = omega (arith, x .none-stacked);
+  stack-fits = e;
+  pairs = λ i l. absurd (omega (arith, x .none-stacked));
+  distinct = λ i j l m q. absurd (omega (arith, x .none-stacked));
+  level = λ i l. absurd (omega (arith, x .none-stacked));
+  apart = λ i l w. omega (arith, x .none-stacked);
+  above = λ q w. absurd (omega (arith, x .none-held, w .place));
+}
+  where
+    h : Heap keys heap pos p 0
+    h = heap-empty s a b d
+
+module _ {keys heap pos stack : List ℕ} {p : ℕ} {c : Counts} (x : Queue keys heap pos stack p c) where
+  -- each pair has a key
+  pub keys-fit : p ≤ length keys
+  keys-fit = x .ordered .keys-fit
+
+  -- a queue that holds no pair contains none
+  pub contains-none : {q : ℕ} → c .held ≡ 0 → Contains heap pos stack c q → ⊥
+  contains-none e (Contains.in-heap w) = omega (arith, w .place)
+  contains-none e (Contains.on-stack i l d) = omega (arith, x .top-held)
+
+  -- what is in the queue is a pair
+  pub contains-pair : {q : ℕ} → Contains heap pos stack c q → q < p
+  contains-pair {q} (Contains.in-heap w) = in-pair (x .ordered .indexed) q w
+  contains-pair (Contains.on-stack i l d) = omega (arith, x .pairs i l)
+
+  -- and its key is at least the one last taken
+  pub floor-le : {q : ℕ} → Contains heap pos stack c q → c .floor ≤ getD keys q 0
+  floor-le {q} (Contains.in-heap w) = x .above q w
+  floor-le (Contains.on-stack i l d) = omega (arith, x .level i l, ap (λ (k : ℕ). getD keys k 0) d)

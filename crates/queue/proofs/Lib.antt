@@ -1,0 +1,5 @@
+-- The laws of the queue: what a caller may cite, the order of recent pairs, and what each call leaves.
+pub mod Facts
+mod Recent
+mod Inserting
+mod Taking

@@ -1,0 +1,193 @@
+-- What `decrease` and `take` leave, on plain lists.
+-- Assumes nothing.
+use mathlib.Core.Path.{_≡_, refl, sym, ap, _∙_}
+use mathlib.Core.Logic.{_≢_}
+use mathlib.Core.List.{List, [], _∷_}
+use Prim.Native.Nat.{ℕ, _-_, _≤_, _<_}
+use native.Mathlib.Decide.{ℕ-discrete}
+use native.Mathlib.Omega.{arith}
+use lib.ListN.{length, getD}
+use lib.Seq.{getD-set-same, getD-set-other}
+use Rattle.theory.specs.Counting.{pigeons}
+use Rattle.heap.specs.Heap.{In, Heap, Popped}
+use Rattle.heap.specs.Heap as heap-specs
+use Rattle.queue.specs.declared.Counts.{Counts}
+use Rattle.queue.specs.Queue.{heaped, Contains, Queue, recent, Decreased, Taken}
+use Rattle.queue.proofs.Facts.{contains-pair, floor-le}
+use Rattle.queue.proofs.Recent.{recent-last, recent-none}
+
+-- ---- `decrease`: a pair whose key is above the floor is in the heap
+module _ {keys heap pos stack : List ℕ} {p : ℕ} {c : Counts} {q v : ℕ} (x : Queue keys heap pos stack p c) (w : Contains heap pos stack c q) (g : c .floor ≤ v) (less : v < getD keys q 0) where
+  pub in-the-heap : In heap pos (heaped c) q
+  in-the-heap = go w
+    where
+      go : Contains heap pos stack c q → In heap pos (heaped c) q
+      go (Contains.in-heap i) = i
+      go (Contains.on-stack i h d) = absurd (omega (arith, x .level i h, ap (λ (k : ℕ). getD keys k 0) d))
+
+  module _ {keys′ heap′ pos′ : List ℕ} (u : heap-specs.Decreased p (heaped c) q v keys heap pos keys′ heap′ pos′) where
+    lower-queue : Queue keys′ heap′ pos′ stack p c
+    lower-queue = record {
+      ordered = u .ordered;
+      top-held = x .top-held;
+      stack-fits = x .stack-fits;
+      pairs = x .pairs;
+      distinct = x .distinct;
+      level = λ i h. rw (u .stored) (getD-set-other keys q (getD stack i 0) v 0 (λ d. x .apart i h (rw d in-the-heap)) ∙ x .level i h);
+      apart = λ i h a. x .apart i h (u .only (getD stack i 0) a);
+      above = λ k a. above k a (ℕ-discrete k q);
+    }
+      where
+        above : (k : ℕ) → In heap′ pos′ (heaped c) k → Dec (k ≡ q) → c .floor ≤ getD keys′ k 0
+        above k a (yes d) = rw (u .stored, d) (omega (arith, getD-set-same keys q v 0 (omega (arith, contains-pair x w, x .ordered .keys-fit))))
+        above k a (no nd) = rw (u .stored) (omega (arith, getD-set-other keys q k v 0 nd, x .above k (u .only k a)))
+
+    pub decrease-done : Decreased p c q v keys heap pos stack keys′ heap′ pos′
+    decrease-done = record {
+      stored = u .stored;
+      queue = lower-queue;
+      kept = kept;
+      only = only;
+      heap-past = u .past .heap-past;
+      pos-past = u .past .pos-past;
+    }
+      where
+        kept : (k : ℕ) → Contains heap pos stack c k → Contains heap′ pos′ stack c k
+        kept k (Contains.in-heap i) = Contains.in-heap (u .kept k i)
+        kept k (Contains.on-stack i h d) = Contains.on-stack i h d
+
+        only : (k : ℕ) → Contains heap′ pos′ stack c k → Contains heap pos stack c k
+        only k (Contains.in-heap i) = Contains.in-heap (u .only k i)
+        only k (Contains.on-stack i h d) = Contains.on-stack i h d
+
+module _ {keys heap pos stack : List ℕ} {p : ℕ} {c : Counts} (x : Queue keys heap pos stack p c) where
+  -- the stack is within its slice
+  pub stack-within : c .top ≤ length stack
+  stack-within = omega (arith, pigeons p (c .top) (λ (i : ℕ). getD stack i 0) (x .pairs) (x .distinct), x .stack-fits)
+
+  -- ---- `take` from the stack
+  abbrev popped : Counts
+  popped = record { held = c .held - 1; top = c .top - 1; floor = c .floor }
+
+  module _ {r : ℕ} (z : 0 < c .top) (e : r ≡ getD stack (c .top - 1) 0) where
+    same-heap : heaped popped ≡ heaped c
+    same-heap = omega (arith, x .top-held)
+
+    was-in : {k : ℕ} → In heap pos (heaped popped) k → In heap pos (heaped c) k
+    was-in w = rw same-heap at w
+
+    level : getD keys r 0 ≡ c .floor
+    level = ap (λ (k : ℕ). getD keys k 0) e ∙ x .level (c .top - 1) (omega arith)
+
+    was : Contains heap pos stack c r
+    was = Contains.on-stack (c .top - 1) (omega arith) (sym e)
+
+    gone : Contains heap pos stack popped r → ⊥
+    gone (Contains.in-heap w) = x .apart (c .top - 1) (omega arith) (rw e at (was-in w))
+    gone (Contains.on-stack i h d) = omega (arith, x .distinct i (c .top - 1) (omega arith) (omega arith) (d ∙ e))
+
+    kept : (k : ℕ) → Contains heap pos stack c k → k ≢ r → Contains heap pos stack popped k
+    kept k (Contains.in-heap w) ne = Contains.in-heap (rw same-heap w)
+    kept k (Contains.on-stack i h d) ne = go (ℕ-discrete i (c .top - 1))
+      where
+        go : Dec (i ≡ c .top - 1) → Contains heap pos stack popped k
+        go (yes a) = absurd (ne (sym d ∙ ap (λ (j : ℕ). getD stack j 0) a ∙ sym e))
+        go (no a) = Contains.on-stack i (omega arith) d
+
+    only : (k : ℕ) → Contains heap pos stack popped k → Contains heap pos stack c k
+    only k (Contains.in-heap w) = Contains.in-heap (was-in w)
+    only k (Contains.on-stack i h d) = Contains.on-stack i (omega arith) d
+
+    list : recent stack c ≡ r ∷ recent stack popped
+    list = rw e (recent-last stack c popped (omega arith))
+
+    pub take-stack : Taken p c r keys heap pos stack heap pos popped
+    take-stack = record {
+      was = was;
+      pair = contains-pair x was;
+      least = λ k w. omega (arith, level, floor-le x w);
+      queue = record {
+        ordered = rw same-heap (x .ordered);
+        top-held = omega (arith, x .top-held);
+        stack-fits = x .stack-fits;
+        pairs = λ i h. x .pairs i (omega arith);
+        distinct = λ i j h g d. x .distinct i j (omega arith) (omega arith) d;
+        level = λ i h. x .level i (omega arith);
+        apart = λ i h w. x .apart i (omega arith) (was-in w);
+        above = λ k w. x .above k (was-in w);
+      };
+      one-fewer = omega (arith, x .top-held);
+      new-floor = sym level;
+      rises = omega arith;
+      gone = gone;
+      kept = kept;
+      only = only;
+      last-in = λ q rest d. let f : r ∷ recent stack popped ≡ q ∷ rest = sym list ∙ d in ((cc), (cc));
+      none-recent = λ d. let f : r ∷ recent stack popped ≡ [] = sym list ∙ d in (cc);
+      heap-past = refl;
+      pos-past = refl;
+    }
+
+  -- ---- `take` from the heap, where the stack is empty
+  module _ (z : c .top ≤ 0) where
+    all : heaped c ≡ c .held
+    all = omega arith
+
+    pub all-heaped : Heap keys heap pos p (c .held)
+    all-heaped = rw all at (x .ordered)
+
+  module _ {r : ℕ} {heap′ pos′ : List ℕ} (z : c .top ≤ 0) (u : Popped p (c .held) r keys heap pos heap′ pos′) where
+    abbrev left : Counts
+    left = record { held = c .held - 1; top = 0; floor = getD keys r 0 }
+
+    others : heaped left ≡ c .held - 1
+    others = omega arith
+
+    was-in′ : {k : ℕ} → In heap′ pos′ (heaped left) k → In heap pos (c .held) k
+    was-in′ {k} w = u .only k (rw others at w)
+
+    kept′ : (k : ℕ) → Contains heap pos stack c k → k ≢ r → Contains heap′ pos′ stack left k
+    kept′ k (Contains.in-heap w) ne = Contains.in-heap (rw others (u .kept k (rw (all z) at w) ne))
+    kept′ k (Contains.on-stack i h d) ne = absurd (omega arith)
+
+    only′ : (k : ℕ) → Contains heap′ pos′ stack left k → Contains heap pos stack c k
+    only′ k (Contains.in-heap w) = Contains.in-heap (rw (all z) (was-in′ w))
+    only′ k (Contains.on-stack i h d) = absurd (omega arith)
+
+    gone′ : Contains heap′ pos′ stack left r → ⊥
+    gone′ (Contains.in-heap w) = u .gone (rw others at w)
+    gone′ (Contains.on-stack i h d) = omega arith
+
+    least : (k : ℕ) → Contains heap pos stack c k → getD keys r 0 ≤ getD keys k 0
+    least k (Contains.in-heap w) = u .least k (rw (all z) at w)
+    least k (Contains.on-stack i h d) = absurd (omega arith)
+
+    none : recent stack c ≡ []
+    none = recent-none stack c (omega arith)
+
+    pub take-heap : 0 < c .held → Taken p c r keys heap pos stack heap′ pos′ left
+    take-heap y = record {
+      was = Contains.in-heap (rw (all z) (u .was));
+      pair = u .pair;
+      least = least;
+      queue = record {
+        ordered = rw others (u .ordered);
+        top-held = omega arith;
+        stack-fits = x .stack-fits;
+        pairs = λ i h. absurd (omega arith);
+        distinct = λ i j h g d. absurd (omega arith);
+        level = λ i h. absurd (omega arith);
+        apart = λ i h w. omega arith;
+        above = λ k w. u .least k (was-in′ w);
+      };
+      one-fewer = omega arith;
+      new-floor = refl;
+      rises = floor-le x (Contains.in-heap (rw (all z) (u .was)));
+      gone = gone′;
+      kept = kept′;
+      only = only′;
+      last-in = λ q rest d. let f : [] ≡ q ∷ rest = sym none ∙ d in ((cc), (cc));
+      none-recent = λ d. recent-none stack left refl;
+      heap-past = u .past .heap-past;
+      pos-past = u .past .pos-past;
+    }

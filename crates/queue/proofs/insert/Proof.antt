@@ -1,0 +1,81 @@
+-- `insert` meets its contract. That there is room is `stack-room` and, in the heap, shown by `push` itself.
+-- Assumes nothing.
+use native.Mathlib.Omega.{arith}
+use borrow.Author.Needs.{needs}
+use Rattle.queue.proofs.Inserting.{stack-room, held-room, insert-stack, insert-heap}
+use Rattle.queue.specs.Queue.{Contains}
+use Rattle.queue.proofs.insert.Statement.{statement}
+use Rattle.queue.proofs.insert.Tie as tie
+
+mul-keys : tie.Need-mul-keys
+mul-keys c = search needs
+
+slice-write-keys : tie.Need-slice-write-keys
+slice-write-keys c = search needs
+
+cast-stack : tie.Need-cast-stack
+cast-stack c = search needs
+
+mul-stack : tie.Need-mul-stack
+mul-stack c = let s = c .before .before .before .before .before in omega (arith, stack-room (s .pre .0) (s .pre .1 .0) (s .pre .1 .2), s .pre .0 .stack-fits)
+
+slice-write-stack : tie.Need-slice-write-stack
+slice-write-stack c = let s = c .before .before .before .before .before in omega (arith, stack-room (s .pre .0) (s .pre .1 .0) (s .pre .1 .2), s .pre .0 .stack-fits)
+
+add-t13 : tie.Need-add-t13
+add-t13 c = let s = c .before .before .before .before .before in omega (arith, held-room (s .pre .0) (s .pre .1 .0) (s .pre .1 .2), s .pre .0 .stack-fits)
+
+add-t17 : tie.Need-add-t17
+add-t17 c = let s = c .before .before .before .before .before in omega (arith, stack-room (s .pre .0) (s .pre .1 .0) (s .pre .1 .2), s .pre .0 .stack-fits)
+
+same-length : tie.Need-same-length
+same-length c = search needs
+
+same-length-2 : tie.Need-same-length-2
+same-length-2 c = search needs
+
+returns : tie.Need-returns
+returns c = search insert-stack
+
+sub-push : tie.Need-sub-push
+sub-push c = search needs
+
+push-requires : tie.Need-push-requires
+push-requires c κs = let s = c .before .before .before .before .before .before .before .before in (s .pre .0 .ordered, (s .pre .1 .0, λ w. s .pre .1 .2 (Contains.in-heap w)))
+
+add-t25 : tie.Need-add-t25
+add-t25 c = let s = c .before .before .before .before .before .before .before .before .before .before .before .before .before .before .before in omega (arith, held-room (s .pre .0) (s .pre .1 .0) (s .pre .1 .2), s .pre .0 .stack-fits)
+
+same-length-3 : tie.Need-same-length-3
+same-length-3 c = search needs
+
+same-length-4 : tie.Need-same-length-4
+same-length-4 c = search needs
+
+same-length-5 : tie.Need-same-length-5
+same-length-5 c = search needs
+
+returns-2 : tie.Need-returns-2
+returns-2 c = search insert-heap
+
+pub insert-spec : {M : Type 1} → statement M
+insert-spec =
+    tie.close
+    (tie.spec
+    mul-keys
+    slice-write-keys
+    cast-stack
+    mul-stack
+    slice-write-stack
+    add-t13
+    add-t17
+    same-length
+    same-length-2
+    returns
+    sub-push
+    push-requires
+    add-t25
+    same-length-3
+    same-length-4
+    same-length-5
+    returns-2)

@@ -1,0 +1,2 @@
+-- The definitions of the queue.
+pub mod Queue

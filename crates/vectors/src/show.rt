@@ -1,0 +1,67 @@
+// What the readers and the refused field answer, written.
+use chart::ChartRead;
+use diagram::DiagramRead;
+
+fn named(word: &[u8], x: u64) {
+    io::write_all(1, word);
+    io::print_decimal(1, x);
+}
+
+fn refused(number: u8, place: usize) {
+    named(b" refused ", number as u64);
+    named(b" place ", place as u64);
+}
+
+fn chart_answer(r: ChartRead) {
+    if r.number != 0 {
+        refused(r.number, r.place);
+        return;
+    }
+    named(b" stages ", r.stages as u64);
+    named(b" start ", r.start as u64);
+    named(b" end ", r.end as u64);
+    named(b" steps ", r.steps as u64);
+}
+
+fn diagram_answer(r: DiagramRead) {
+    if r.number != 0 {
+        refused(r.number, r.place);
+        return;
+    }
+    named(b" root ", r.root as u64);
+    named(b" nodes ", r.nodes as u64);
+}
+
+// A chart file.
+pub fn show_chart(file: &[u8]) {
+    let mut from = [0u16; 1024];
+    let mut to = [0u16; 1024];
+    let mut cost = [0u32; 1024];
+    chart_answer(chart::read_chart(file, &mut from, &mut to, &mut cost));
+}
+
+// A diagram file over a chart of so many steps.
+pub fn show_diagram(file: &[u8], steps: usize) {
+    let mut step = [0u16; 512];
+    let mut lo = [0u16; 512];
+    let mut hi = [0u16; 512];
+    diagram_answer(diagram::read_diagram(file, steps, &mut step, &mut lo, &mut hi));
+}
+
+// The refused field of a file mark and a place: how many bytes, and each in hexadecimal.
+pub fn show_field<'a>(chart: &'a [u8], rules: &'a [u8], mark: u32, place: usize) {
+    let bytes = fields::refused_field(chart, rules, mark, place);
+    named(b" bytes ", bytes.len() as u64);
+    hexadecimal(bytes);
+}
+
+fn byte(x: u8) {
+    io::write_all(1, b" ");
+    io::print_hex(1, x as u64, 2);
+}
+
+fn hexadecimal(bytes: &[u8]) {
+    for i in 0..bytes.len() {
+        byte(bytes[i]);
+    }
+}
