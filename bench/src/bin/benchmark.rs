@@ -1,0 +1,120 @@
+//! Times every implementation on every load.
+
+use std::fs;
+use std::path::PathBuf;
+use std::process::ExitCode;
+
+use planner_bench::loads::{growth, standard, Load};
+use planner_bench::measure::{measure, Measured};
+use planner_bench::planner::{self, Planner};
+use planner_bench::plot::svg;
+use planner_bench::report::{csv, summary, table_head, table_rows};
+
+const HELP: &str = "\
+benchmark: times both searches of every implementation on every load, after their results have
+been checked. Each figure is the median processor time over rounds in which all implementations run
+in turn, from slices that hold what the calls before left in them. Reading both files is part of
+every time. A ratio is the median of the ratios within the rounds.
+
+usage: benchmark [--rounds N] [--only TEXT] [--csv FILE] [--svg FILE]
+
+  --rounds N   samples for each figure (default 31)
+  --only TEXT  only loads whose name has this text
+  --csv FILE   where the figures are written (default benchmark.csv)
+  --svg FILE   where the plot of time against pairs is written (default benchmark.svg)
+  --help       this text
+
+The count is that of the first implementation: reached pairs of a sweep, settled ones of a guided
+search; among equal sums implementations may settle different numbers of pairs. ns/pair is its time
+for each of these.";
+
+struct Options {
+    rounds: usize,
+    only: String,
+    csv: PathBuf,
+    svg: PathBuf,
+    help: bool,
+}
+
+fn main() -> ExitCode {
+    let options = match parse(std::env::args().skip(1)) {
+        Ok(options) => options,
+        Err(text) => {
+            eprintln!("benchmark: {text}\n\n{HELP}");
+            return ExitCode::from(2);
+        }
+    };
+    if options.help {
+        println!("{HELP}");
+        return ExitCode::SUCCESS;
+    }
+    match run(&options) {
+        Ok(()) => ExitCode::SUCCESS,
+        Err(text) => {
+            eprintln!("benchmark: {text}");
+            ExitCode::from(1)
+        }
+    }
+}
+
+fn parse(mut args: impl Iterator<Item = String>) -> Result<Options, String> {
+    let mut options = Options {
+        rounds: 31,
+        only: String::new(),
+        csv: PathBuf::from("benchmark.csv"),
+        svg: PathBuf::from("benchmark.svg"),
+        help: false,
+    };
+    while let Some(arg) = args.next() {
+        let mut value = || args.next().ok_or(format!("{arg} needs a value"));
+        match arg.as_str() {
+            "--rounds" => {
+                let text = value()?;
+                let rounds = text.parse().ok().filter(|rounds| *rounds > 0);
+                options.rounds = rounds.ok_or(format!("--rounds needs a number, not {text}"))?;
+            }
+            "--only" => options.only = value()?,
+            "--csv" => options.csv = PathBuf::from(value()?),
+            "--svg" => options.svg = PathBuf::from(value()?),
+            "--help" | "-h" => options.help = true,
+            _ => return Err(format!("unknown argument {arg}")),
+        }
+    }
+    Ok(options)
+}
+
+fn run(options: &Options) -> Result<(), String> {
+    let planners = planner::all();
+    let names: Vec<&str> = planners.iter().map(|planner| planner.name()).collect();
+    println!("{}", table_head(&names));
+    let main = measure_all(standard(), options, &planners, &names)?;
+    let growing = measure_all(growth(), options, &planners, &names)?;
+    if main.is_empty() && growing.is_empty() {
+        return Err(format!("no load has \"{}\" in its name", options.only));
+    }
+    println!("\n{}", summary(&main, &names));
+    let all = [main, growing].concat();
+    let write = |path: &PathBuf, text: String| {
+        fs::write(path, text).map_err(|error| format!("cannot write {}: {error}", path.display()))
+    };
+    write(&options.csv, csv(&all))?;
+    write(&options.svg, svg(&all, &names))?;
+    println!("written: {}, {}", options.csv.display(), options.svg.display());
+    Ok(())
+}
+
+/// Measures loads one by one and prints each as soon as it is done.
+fn measure_all(
+    loads: Vec<Load>,
+    options: &Options,
+    planners: &[Box<dyn Planner>],
+    names: &[&str],
+) -> Result<Vec<Measured>, String> {
+    let mut all = Vec::new();
+    for load in loads.iter().filter(|load| load.name.contains(&options.only)) {
+        let measured = measure(load, planners, options.rounds)?;
+        println!("{}", table_rows(&measured, names));
+        all.push(measured);
+    }
+    Ok(all)
+}

@@ -1,0 +1,149 @@
+//! The cases of the differential test: first every systematic damage, then random ones. A case is
+//! fixed by the seed and its number.
+
+use crate::files::{write_chart, write_diagram, Chart, Diagram, Node, Problem, Step};
+use crate::files::{MAX_NODES, MAX_STAGES, MAX_STEPS};
+use crate::generate::broken::{at_limits, damaged, noise, systematic, Files};
+use crate::generate::charts::{long_steps, random_chart, Costs, Ends, Shape, Spans};
+use crate::generate::diagrams::{layers_of_width, random_diagram, scattered};
+use crate::generate::load::load;
+use crate::generate::Random;
+
+/// Two files, and the seed from which the lent slices and their content are drawn.
+#[derive(Clone, Debug)]
+pub struct Case {
+    pub kind: &'static str,
+    pub chart: Vec<u8>,
+    pub rules: Vec<u8>,
+    pub dirt: u64,
+}
+
+/// All cases of one seed.
+pub struct Cases {
+    seed: u64,
+    systematic: Vec<Files>,
+}
+
+impl Cases {
+    pub fn new(seed: u64) -> Cases {
+        let mut files = at_limits();
+        files.extend(systematic(&document_problem()));
+        let mut random = Random::of(seed, u64::MAX);
+        for _ in 0..3 {
+            files.extend(systematic(&small_problem(&mut random)));
+        }
+        Cases { seed, systematic: files }
+    }
+
+    /// How many of the cases are systematic damage.
+    pub fn systematic(&self) -> usize {
+        self.systematic.len()
+    }
+
+    /// The case with a number.
+    pub fn case(&self, number: usize) -> Case {
+        let mut random = Random::of(self.seed, number as u64);
+        let (kind, (chart, rules)) = match self.systematic.get(number) {
+            Some(files) => ("systematic damage", files.clone()),
+            None => random_files(&mut random),
+        };
+        Case { kind, chart, rules, dirt: random.word() }
+    }
+}
+
+/// The chart and the diagram that document 01 gives whole.
+pub fn document_problem() -> Problem {
+    let steps = [(0, 1, 40), (0, 1, 90), (1, 2, 200), (1, 3, 30), (2, 3, 20), (3, 4, 50)];
+    let steps = steps.iter().map(|(from, to, cost)| Step { from: *from, to: *to, cost: *cost });
+    let chart = Chart { stages: 5, start: 0, end: 4, steps: steps.collect() };
+    let nodes = vec![Node { step: 2, lo: 0, hi: 1 }, Node { step: 0, lo: 1, hi: 2 }];
+    Problem { chart, diagram: Diagram { root: 3, nodes } }
+}
+
+/// A small problem with at least two steps and two nodes.
+fn small_problem(random: &mut Random) -> Problem {
+    let shape = Shape {
+        stages: random.between(3, 5),
+        steps: random.between(2, 4),
+        costs: Costs::Few,
+        spans: Spans::Short,
+        ends: Ends::Outermost,
+    };
+    loop {
+        let chart = shape.chart(random);
+        let diagram = scattered(random, chart.steps.len(), 4);
+        if diagram.nodes.len() >= 2 {
+            return Problem { chart, diagram };
+        }
+    }
+}
+
+fn random_files(random: &mut Random) -> (&'static str, Files) {
+    match random.below(1_000) {
+        0..=9 => ("full size", full_size(random)),
+        10..=29 => ("large", sized(random, 120, 500, 300)),
+        30..=149 => ("medium", sized(random, 40, 120, 100)),
+        150..=299 => ("damaged", damaged_files(random)),
+        300..=329 => ("noise", (noise(random, 40), noise(random, 30))),
+        330..=399 => ("many ways", many_ways(random)),
+        400..=449 => ("parallel", sized(random, 3, 30, 30)),
+        _ => ("small", sized(random, 8, 14, 12)),
+    }
+}
+
+fn sized(random: &mut Random, stages: usize, steps: usize, nodes: usize) -> Files {
+    let chart = random_chart(random, stages, steps);
+    let diagram = random_diagram(random, &chart, nodes);
+    (write_chart(&chart), write_diagram(&diagram))
+}
+
+/// Steps to the next stage, two or three at each: many ways of equal or nearly equal cost.
+fn many_ways(random: &mut Random) -> Files {
+    let stages = random.between(3, 9);
+    let costs = random.pick(&[Costs::Zero, Costs::Equal, Costs::Few, Costs::MostlyZero]);
+    let steps = 2 * stages;
+    let shape = Shape { stages, steps, costs, spans: Spans::Next, ends: Ends::Outermost };
+    let mut chart = shape.chart(random);
+    for (at, step) in chart.steps.iter_mut().enumerate() {
+        step.from = (at * (stages - 1) / steps) as u16;
+        step.to = step.from + 1;
+    }
+    let diagram = random_diagram(random, &chart, 40);
+    (write_chart(&chart), write_diagram(&diagram))
+}
+
+fn damaged_files(random: &mut Random) -> Files {
+    let (mut chart, mut rules) = sized(random, 6, 5, 5);
+    let which = random.below(8);
+    if which != 0 {
+        rules = damaged(random, &rules);
+    }
+    if which < 4 {
+        chart = damaged(random, &chart);
+    }
+    (chart, rules)
+}
+
+/// Near all limits at once.
+fn full_size(random: &mut Random) -> Files {
+    let stages = random.pick(&[MAX_STAGES as usize, 255, 200, 64, 32, 2]);
+    let chart = match random.below(3) {
+        0 => load(random.word() as u32 | 1, stages as u32).expect("a word and stages in range"),
+        1 => long_steps(random, stages, MAX_STEPS),
+        _ => {
+            let costs = random.pick(&[Costs::Zero, Costs::Equal, Costs::Few, Costs::Wide]);
+            let spans = random.pick(&[Spans::Next, Spans::Short, Spans::Hubs]);
+            Shape { stages, steps: MAX_STEPS, costs, spans, ends: Ends::Outermost }.chart(random)
+        }
+    };
+    let diagram = match random.below(4) {
+        0 => {
+            let width = random.pick(&[1, 2, 10, 51, 102]);
+            let steps = random.subset(chart.steps.len(), MAX_NODES / width);
+            layers_of_width(random, &steps, width)
+        }
+        1 => scattered(random, chart.steps.len(), MAX_NODES),
+        _ => random_diagram(random, &chart, MAX_NODES),
+    };
+    (write_chart(&chart), write_diagram(&diagram))
+}

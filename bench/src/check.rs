@@ -1,0 +1,212 @@
+//! Holds what a search returned and wrote against every sentence of document 01 that speaks of it.
+//! An error text quotes the sentence that fails.
+
+mod log;
+
+use crate::planner::{Answer, GuidedSlices, SweepSlices};
+use crate::reference::rules::verdict;
+use crate::reference::ways::{cost_of, is_plan, set_of};
+use crate::reference::{self, Expected, Facts, Judged};
+
+pub type Checked = Result<(), String>;
+
+const LEFT: &str = "Left as it was: every lent slice";
+const PLAN_LEFT: &str = "no legal plan: Left as it was: the plan slice";
+const STAY: &str = "log entries past the count and all slices past their needed length stay";
+const PLAN_HELD: &str =
+    "The plan slice holds the plan's step numbers in order, its further entries stay.";
+const COST_SLICE: &str =
+    "The sweep's cost slice holds at each pair the least cost if reached, else 4,294,967,295.";
+
+/// Fails with the sentence and what was found instead, where `holds` is false.
+fn demand(holds: bool, sentence: &str, found: impl FnOnce() -> String) -> Checked {
+    if holds {
+        return Ok(());
+    }
+    Err(format!("\"{sentence}\": {}", found()))
+}
+
+/// The first place at which two lists differ, in words.
+fn first_difference<T: PartialEq + std::fmt::Display>(
+    name: &str,
+    want: &[T],
+    found: &[T],
+) -> String {
+    match want.iter().zip(found).position(|(a, b)| a != b) {
+        Some(at) => format!("{name}[{at}] is {} and not {}", found[at], want[at]),
+        None => format!("{name} has {} entries and not {}", found.len(), want.len()),
+    }
+}
+
+/// Demands that two lists are equal.
+fn same<T: PartialEq + std::fmt::Display>(
+    sentence: &str,
+    name: &str,
+    want: &[T],
+    found: &[T],
+) -> Checked {
+    demand(want == found, sentence, || first_difference(name, want, found))
+}
+
+/// Checks a sweep.
+pub fn sweep(
+    judged: &Judged,
+    before: &SweepSlices,
+    after: &SweepSlices,
+    answer: Answer,
+) -> Checked {
+    let work = before.work_lengths();
+    let expected = reference::sweep_answer(judged, &work, before.plan.len());
+    check_answer(&expected, answer, "Its count is the number of reached pairs.")?;
+    let facts = match judged {
+        Ok(facts) if matches!(expected.number, 0 | 8) => facts,
+        _ => return sweep_untouched(before, after),
+    };
+    let pairs = facts.problem.pairs();
+    demand(after.cost.len() == before.cost.len(), STAY, || "cost changed its length".into())?;
+    same(COST_SLICE, "cost", &reference::cost_slice(facts), &after.cost[..pairs])?;
+    same(STAY, "cost", &before.cost[pairs..], &after.cost[pairs..])?;
+    check_free(&before.free(), &after.free(), pairs)?;
+    check_plan(facts, &before.plan, &after.plan, answer)
+}
+
+/// Checks a guided search.
+pub fn guided(
+    judged: &Judged,
+    before: &GuidedSlices,
+    after: &GuidedSlices,
+    answer: Answer,
+) -> Checked {
+    let work = before.work_lengths();
+    let expected = reference::guided_answer(judged, &work, before.plan.len());
+    check_answer(
+        &expected,
+        answer,
+        "its count is the number of settlings, which is the log's length",
+    )?;
+    let facts = match judged {
+        Ok(facts) if matches!(expected.number, 0 | 8) => facts,
+        _ => return guided_untouched(before, after),
+    };
+    check_free(&before.free(), &after.free(), facts.problem.pairs())?;
+    log::check(facts, &before.log, &after.log, answer)?;
+    check_plan(facts, &before.plan, &after.plan, answer)
+}
+
+/// Checks the bytes that a refused-field call handed back.
+pub fn refused_field(chart: &[u8], rules: &[u8], mark: u32, place: u32, found: &[u8]) -> Checked {
+    let sentence = match mark {
+        1 | 2 => "three header bytes and the body by its length, cut at the file's end",
+        _ => "a file mark other than 1 and 2, gives an empty part of the chart",
+    };
+    let want = reference::refused_field(chart, rules, mark, place);
+    same(sentence, &format!("field at mark {mark} place {place}"), want, found)
+}
+
+fn check_answer(expected: &Expected, answer: Answer, count_sentence: &str) -> Checked {
+    let at = (expected.number, expected.file, expected.place);
+    demand(answer.number == expected.number, number_sentence(expected.number), || {
+        format!("number is {} and not {}, file and place {:?}", answer.number, at.0, (at.1, at.2))
+    })?;
+    demand(
+        (answer.file, answer.place) == (expected.file, expected.place),
+        "File is 1 for the chart, 2 for the diagram; a place is the byte position of the field's \
+         tag. Where no field of a given file is at fault both are 0.",
+        || format!("found {answer:?} and not {expected:?}"),
+    )?;
+    let refusal = "A refusal has cost 0 and length 0, and count 0 except under 8.";
+    let accepted = expected.number == 0;
+    demand(
+        answer.cost == expected.cost,
+        if accepted { "Left free: which of several cheapest plans is given" } else { refusal },
+        || format!("cost is {} and not {}", answer.cost, expected.cost),
+    )?;
+    demand(
+        within(answer.length, expected.length),
+        if accepted { "length (the steps of its plan)" } else { refusal },
+        || format!("length is {} and not within {:?}", answer.length, expected.length),
+    )?;
+    demand(
+        within(answer.count, expected.count),
+        if matches!(expected.number, 0 | 8) { count_sentence } else { refusal },
+        || format!("count is {} and not within {:?}", answer.count, expected.count),
+    )
+}
+
+fn within(value: u32, bounds: (u32, u32)) -> bool {
+    (bounds.0..=bounds.1).contains(&value)
+}
+
+/// The row of the table of refusals, or the sentence on accepted answers.
+fn number_sentence(number: u32) -> &'static str {
+    match number {
+        0 => "An accepted answer has number, file and place 0.",
+        1 => "the file ends inside a field | 1",
+        2 => {
+            "the file is empty (place 0), or a field's tag isn't of this file, or the head isn't \
+             first, or comes again | 2"
+        }
+        3 => "the length isn't that of the tag | 3",
+        4 => "a chart head beyond a limit | 4",
+        5 => "a step beyond a limit, the 1,025th step included | 5",
+        6 => "a node beyond a limit, the 511th included; or a root not below N (place 0) | 6",
+        7 => {
+            "a work slice below stage count × N entries, or a plan slice below stage count − 1 | 7"
+        }
+        _ => "no legal plan | 8",
+    }
+}
+
+fn sweep_untouched(before: &SweepSlices, after: &SweepSlices) -> Checked {
+    same(LEFT, "cost", &before.cost, &after.cost)?;
+    free_untouched(&before.free(), &after.free())?;
+    same(LEFT, "plan", &before.plan, &after.plan)
+}
+
+fn guided_untouched(before: &GuidedSlices, after: &GuidedSlices) -> Checked {
+    same(LEFT, "log", &before.log, &after.log)?;
+    free_untouched(&before.free(), &after.free())?;
+    same(LEFT, "plan", &before.plan, &after.plan)
+}
+
+fn free_untouched(before: &[(&'static str, &[u32])], after: &[(&'static str, &[u32])]) -> Checked {
+    let mut slices = before.iter().zip(after);
+    slices.try_for_each(|((name, old), (_, new))| same(LEFT, name, old, new))
+}
+
+/// The slices that are left free up to stage count × N.
+fn check_free(
+    before: &[(&'static str, &[u32])],
+    after: &[(&'static str, &[u32])],
+    pairs: usize,
+) -> Checked {
+    for ((name, old), (_, new)) in before.iter().zip(after) {
+        demand(old.len() == new.len(), STAY, || format!("{name} changed its length"))?;
+        same(STAY, name, &old[pairs..], &new[pairs..])?;
+    }
+    Ok(())
+}
+
+/// The plan slice: a cheapest legal plan and nothing else, or under 8 as it was.
+fn check_plan(facts: &Facts, before: &[u16], after: &[u16], answer: Answer) -> Checked {
+    if answer.number == 8 {
+        return same(PLAN_LEFT, "plan", before, after);
+    }
+    let chart = &facts.problem.chart;
+    let length = answer.length as usize;
+    demand(length <= after.len() && after.len() == before.len(), PLAN_HELD, || {
+        format!("length {length} in a slice of {}, before {}", after.len(), before.len())
+    })?;
+    let plan = &after[..length];
+    demand(is_plan(chart, plan), "A plan is a way from start to end.", || format!("{plan:?}"))?;
+    demand(
+        verdict(&facts.problem.diagram, &set_of(chart, plan)),
+        "It is legal if the diagram says yes to the set of its steps, all other steps being absent.",
+        || format!("{plan:?} is not legal"),
+    )?;
+    let cost = cost_of(chart, plan);
+    demand(cost == answer.cost, PLAN_HELD, || {
+        format!("{plan:?} costs {cost} and the answer says {}", answer.cost)
+    })?;
+    same(PLAN_HELD, "plan past its length", &before[length..], &after[length..])
+}

@@ -1,0 +1,253 @@
+//! Both files of document 01: what they hold, how they are read and refused, how they are written.
+
+pub const MAX_STAGES: u16 = 256;
+pub const MAX_STEPS: usize = 1_024;
+pub const MAX_COST: u32 = 1_000_000;
+pub const MAX_NODES: usize = 510;
+
+pub const CHART_FILE: u32 = 1;
+pub const DIAGRAM_FILE: u32 = 2;
+
+/// The bytes of a field before its body: tag and length.
+pub const HEADER: usize = 3;
+
+/// The tag and the body length of one kind of field.
+#[derive(Clone, Copy, Debug)]
+pub struct Layout {
+    pub tag: u8,
+    pub length: usize,
+}
+
+pub const CHART_HEAD: Layout = Layout { tag: 0x01, length: 6 };
+pub const STEP: Layout = Layout { tag: 0x02, length: 8 };
+pub const DIAGRAM_HEAD: Layout = Layout { tag: 0x11, length: 2 };
+pub const NODE: Layout = Layout { tag: 0x12, length: 6 };
+
+/// An edge of the chart.
+#[derive(Clone, Copy, Debug, PartialEq, Eq)]
+pub struct Step {
+    pub from: u16,
+    pub to: u16,
+    pub cost: u32,
+}
+
+/// A weighted acyclic graph with a start and an end.
+#[derive(Clone, Debug, PartialEq, Eq)]
+pub struct Chart {
+    pub stages: u16,
+    pub start: u16,
+    pub end: u16,
+    pub steps: Vec<Step>,
+}
+
+/// An inner node of the diagram.
+#[derive(Clone, Copy, Debug, PartialEq, Eq, Hash)]
+pub struct Node {
+    pub step: u16,
+    pub lo: u16,
+    pub hi: u16,
+}
+
+/// An ordered binary decision diagram; `nodes[i]` is the node with reference `i + 2`.
+#[derive(Clone, Debug, PartialEq, Eq)]
+pub struct Diagram {
+    pub root: u16,
+    pub nodes: Vec<Node>,
+}
+
+impl Diagram {
+    /// N of document 01: the inner nodes and the two constants.
+    pub fn references(&self) -> usize {
+        self.nodes.len() + 2
+    }
+
+    /// The inner node behind a reference; none for 0 and 1.
+    pub fn inner(&self, reference: u16) -> Option<Node> {
+        let at = usize::from(reference).checked_sub(2)?;
+        self.nodes.get(at).copied()
+    }
+}
+
+/// A chart and a diagram over it, both accepted.
+#[derive(Clone, Debug, PartialEq, Eq)]
+pub struct Problem {
+    pub chart: Chart,
+    pub diagram: Diagram,
+}
+
+impl Problem {
+    /// Stage count times N: what every work slice must hold.
+    pub fn pairs(&self) -> usize {
+        usize::from(self.chart.stages) * self.diagram.references()
+    }
+
+    /// What a plan slice must hold.
+    pub fn longest_plan(&self) -> usize {
+        usize::from(self.chart.stages) - 1
+    }
+}
+
+/// Why and where a file is turned away.
+#[derive(Clone, Copy, Debug, PartialEq, Eq)]
+pub struct Refusal {
+    pub number: u32,
+    pub file: u32,
+    pub place: u32,
+}
+
+impl Refusal {
+    fn at(number: u32, file: u32, place: usize) -> Refusal {
+        Refusal { number, file, place: place as u32 }
+    }
+}
+
+/// Reads the chart, then the diagram.
+pub fn read_both(chart: &[u8], rules: &[u8]) -> Result<Problem, Refusal> {
+    let chart = read_chart(chart)?;
+    let diagram = read_diagram(rules, chart.steps.len())?;
+    Ok(Problem { chart, diagram })
+}
+
+/// Reads a chart file.
+pub fn read_chart(bytes: &[u8]) -> Result<Chart, Refusal> {
+    let head = body(bytes, 0, CHART_HEAD).map_err(|n| Refusal::at(n, CHART_FILE, 0))?;
+    let mut chart = Chart {
+        stages: two_bytes(head, 0),
+        start: two_bytes(head, 2),
+        end: two_bytes(head, 4),
+        steps: Vec::new(),
+    };
+    if !head_within_limits(&chart) {
+        return Err(Refusal::at(4, CHART_FILE, 0));
+    }
+    let mut place = HEADER + CHART_HEAD.length;
+    while place < bytes.len() {
+        let body = body(bytes, place, STEP).map_err(|n| Refusal::at(n, CHART_FILE, place))?;
+        let step =
+            Step { from: two_bytes(body, 0), to: two_bytes(body, 2), cost: four_bytes(body, 4) };
+        if !step_within_limits(&chart, step) {
+            return Err(Refusal::at(5, CHART_FILE, place));
+        }
+        chart.steps.push(step);
+        place += HEADER + STEP.length;
+    }
+    Ok(chart)
+}
+
+/// Reads a diagram file over a chart with that many steps.
+pub fn read_diagram(bytes: &[u8], steps: usize) -> Result<Diagram, Refusal> {
+    let head = body(bytes, 0, DIAGRAM_HEAD).map_err(|n| Refusal::at(n, DIAGRAM_FILE, 0))?;
+    let mut diagram = Diagram { root: two_bytes(head, 0), nodes: Vec::new() };
+    let mut place = HEADER + DIAGRAM_HEAD.length;
+    while place < bytes.len() {
+        let body = body(bytes, place, NODE).map_err(|n| Refusal::at(n, DIAGRAM_FILE, place))?;
+        let node =
+            Node { step: two_bytes(body, 0), lo: two_bytes(body, 2), hi: two_bytes(body, 4) };
+        if !node_within_limits(&diagram, node, steps) {
+            return Err(Refusal::at(6, DIAGRAM_FILE, place));
+        }
+        diagram.nodes.push(node);
+        place += HEADER + NODE.length;
+    }
+    if usize::from(diagram.root) >= diagram.references() {
+        return Err(Refusal::at(6, DIAGRAM_FILE, 0));
+    }
+    Ok(diagram)
+}
+
+/// The body of the field at `place`, or the number of its fault, tested in the order header cut,
+/// tag, length, body cut. The head stands first and never again, so each place allows one layout.
+fn body(bytes: &[u8], place: usize, layout: Layout) -> Result<&[u8], u32> {
+    if bytes.is_empty() {
+        return Err(2);
+    }
+    let rest = &bytes[place..];
+    if rest.len() < HEADER {
+        return Err(1);
+    }
+    if rest[0] != layout.tag {
+        return Err(2);
+    }
+    if usize::from(two_bytes(rest, 1)) != layout.length {
+        return Err(3);
+    }
+    rest.get(HEADER..HEADER + layout.length).ok_or(1)
+}
+
+fn head_within_limits(chart: &Chart) -> bool {
+    (1..=MAX_STAGES).contains(&chart.stages)
+        && chart.start < chart.stages
+        && chart.end < chart.stages
+}
+
+fn step_within_limits(chart: &Chart, step: Step) -> bool {
+    chart.steps.len() < MAX_STEPS
+        && step.from < step.to
+        && step.to < chart.stages
+        && step.cost <= MAX_COST
+        && chart.steps.last().is_none_or(|before| before.from <= step.from)
+}
+
+fn node_within_limits(diagram: &Diagram, node: Node, steps: usize) -> bool {
+    let own_number = diagram.references();
+    let child_fits = |child: u16| {
+        usize::from(child) < own_number
+            && diagram.inner(child).is_none_or(|below| below.step > node.step)
+    };
+    diagram.nodes.len() < MAX_NODES
+        && usize::from(node.step) < steps
+        && child_fits(node.lo)
+        && child_fits(node.hi)
+}
+
+pub fn two_bytes(bytes: &[u8], at: usize) -> u16 {
+    u16::from_le_bytes([bytes[at], bytes[at + 1]])
+}
+
+fn four_bytes(bytes: &[u8], at: usize) -> u32 {
+    u32::from_le_bytes([bytes[at], bytes[at + 1], bytes[at + 2], bytes[at + 3]])
+}
+
+/// One field: tag, length, body.
+pub fn field(layout: Layout, body: &[u8]) -> Vec<u8> {
+    let mut bytes = vec![layout.tag];
+    bytes.extend((layout.length as u16).to_le_bytes());
+    bytes.extend(body);
+    bytes
+}
+
+pub fn chart_head_field(chart: &Chart) -> Vec<u8> {
+    let body: Vec<u8> =
+        [chart.stages, chart.start, chart.end].iter().flat_map(|v| v.to_le_bytes()).collect();
+    field(CHART_HEAD, &body)
+}
+
+pub fn step_field(step: Step) -> Vec<u8> {
+    let mut body: Vec<u8> = [step.from, step.to].iter().flat_map(|v| v.to_le_bytes()).collect();
+    body.extend(step.cost.to_le_bytes());
+    field(STEP, &body)
+}
+
+pub fn diagram_head_field(diagram: &Diagram) -> Vec<u8> {
+    field(DIAGRAM_HEAD, &diagram.root.to_le_bytes())
+}
+
+pub fn node_field(node: Node) -> Vec<u8> {
+    let body: Vec<u8> =
+        [node.step, node.lo, node.hi].iter().flat_map(|v| v.to_le_bytes()).collect();
+    field(NODE, &body)
+}
+
+/// The file of a chart; limits are not looked at.
+pub fn write_chart(chart: &Chart) -> Vec<u8> {
+    let mut bytes = chart_head_field(chart);
+    bytes.extend(chart.steps.iter().flat_map(|step| step_field(*step)));
+    bytes
+}
+
+/// The file of a diagram, nodes as they stand; limits are not looked at.
+pub fn write_diagram(diagram: &Diagram) -> Vec<u8> {
+    let mut bytes = diagram_head_field(diagram);
+    bytes.extend(diagram.nodes.iter().flat_map(|node| node_field(*node)));
+    bytes
+}

@@ -1,0 +1,10 @@
+//! Deterministic inputs: valid charts and diagrams of many shapes, broken files, benchmark loads.
+
+pub mod broken;
+pub mod charts;
+pub mod diagrams;
+pub mod load;
+pub mod random;
+pub mod rules;
+
+pub use random::Random;

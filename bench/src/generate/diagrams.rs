@@ -1,0 +1,117 @@
+//! Random diagrams within the limits over a chart's steps.
+
+use super::rules::{diagram_of, AllOf, AtMost, Both, ExactlyOne, Modulo, Needs, Rule};
+use super::Random;
+use crate::files::{Chart, Diagram, Node};
+
+/// A diagram of up to that many inner nodes: random nodes, random layers or a rule.
+pub fn random_diagram(random: &mut Random, chart: &Chart, nodes: usize) -> Diagram {
+    let steps = chart.steps.len();
+    if steps == 0 || nodes == 0 {
+        return constant(random);
+    }
+    match random.below(8) {
+        0 => constant(random),
+        1 | 2 => scattered(random, steps, nodes),
+        3 => layered(random, steps, nodes),
+        _ => {
+            let rule = random_rule(random, steps);
+            let padded = random.percent(30);
+            match diagram_of(rule.as_ref(), padded) {
+                Some(diagram) if diagram.nodes.len() <= nodes => diagram,
+                _ => scattered(random, steps, nodes),
+            }
+        }
+    }
+}
+
+/// Without inner nodes, mostly "yes".
+fn constant(random: &mut Random) -> Diagram {
+    Diagram { root: u16::from(random.percent(80)), nodes: Vec::new() }
+}
+
+/// Nodes with any steps and any children that the limits allow; alike ones and ones with equal
+/// children come by chance, and so do nodes that nothing leads to.
+pub fn scattered(random: &mut Random, steps: usize, nodes: usize) -> Diagram {
+    let count = random.between(1, nodes);
+    let mut order: Vec<u16> = (0..count).map(|_| random.below(steps) as u16).collect();
+    if random.percent(70) {
+        order.sort_unstable_by(|a, b| b.cmp(a));
+    }
+    let constants = random.between(5, 50);
+    let mut all: Vec<Node> = Vec::new();
+    for step in order {
+        let below: Vec<u16> =
+            (0..all.len()).filter(|at| all[*at].step > step).map(|at| at as u16 + 2).collect();
+        let lo = child(random, &below, constants);
+        let hi = child(random, &below, constants);
+        all.push(Node { step, lo, hi });
+    }
+    let last = all.len() + 1;
+    let root = if random.percent(80) { last } else { random.between(0, last) };
+    Diagram { root: root as u16, nodes: all }
+}
+
+/// A constant in so many of a hundred cases, else one of the last few nodes, else any.
+fn child(random: &mut Random, below: &[u16], constants: usize) -> u16 {
+    if below.is_empty() || random.percent(constants) {
+        return u16::from(random.percent(65));
+    }
+    let recent = &below[below.len().saturating_sub(4)..];
+    if random.percent(60) {
+        random.pick(recent)
+    } else {
+        random.pick(below)
+    }
+}
+
+/// Layers of equal width over rising steps; every node's children lie in the layer after it.
+pub fn layered(random: &mut Random, steps: usize, nodes: usize) -> Diagram {
+    let width = random.between(1, nodes.min(16));
+    let layers = (nodes / width).min(steps);
+    let chosen = random.subset(steps, layers);
+    layers_of_width(random, &chosen, width)
+}
+
+/// Layers of a given width, one for each of the rising steps.
+pub fn layers_of_width(random: &mut Random, steps: &[u16], width: usize) -> Diagram {
+    let mut all: Vec<Node> = Vec::new();
+    let mut after = vec![0, 1, 1];
+    for step in steps.iter().rev() {
+        let first = all.len() + 2;
+        for _ in 0..width {
+            let (lo, hi) = (random.pick(&after), random.pick(&after));
+            all.push(Node { step: *step, lo, hi });
+        }
+        after = (first..all.len() + 2).map(|reference| reference as u16).collect();
+        if random.percent(30) {
+            after.push(u16::from(random.percent(50)));
+        }
+    }
+    Diagram { root: all.len() as u16 + 1, nodes: all }
+}
+
+/// One of the rules with meaning, over random steps. There is at least one step.
+fn random_rule(random: &mut Random, steps: usize) -> Box<dyn Rule> {
+    let count = random.between(1, steps.min(40));
+    match random.below(8) {
+        0..=2 => Box::new(random_needs(random, steps)),
+        3 => Box::new(AtMost { most: random.below(5) as u64, steps: random.subset(steps, count) }),
+        4 => Box::new(ExactlyOne(random.subset(steps, count))),
+        5 => Box::new(Modulo { divisor: 2, rest: 1, steps: random.subset(steps, count) }),
+        6 => {
+            let divisor = random.between(2, 6) as u64;
+            let rest = random.below(divisor as usize) as u64;
+            Box::new(Modulo { divisor, rest, steps: random.subset(steps, count) })
+        }
+        _ => {
+            let other = AllOf(random.subset(steps, 1));
+            Box::new(Both(Box::new(random_needs(random, steps)), Box::new(other)))
+        }
+    }
+}
+
+fn random_needs(random: &mut Random, steps: usize) -> Needs {
+    let pairs = random.between(1, 5);
+    Needs((0..pairs).map(|_| (random.below(steps) as u16, random.below(steps) as u16)).collect())
+}

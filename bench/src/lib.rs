@@ -1,0 +1,25 @@
+//! An independent reference of the socket-cycle planner, written from document 01, with the
+//! checkers, generators and timed implementations that the tests and benchmarks are made of.
+
+pub mod files;
+pub mod planner;
+
+pub mod check;
+pub mod reference;
+
+pub mod generate;
+
+pub mod same;
+pub mod textbook;
+
+#[cfg(feature = "library")]
+pub mod library;
+
+pub mod cases;
+pub mod compare;
+pub mod saved;
+
+pub mod loads;
+pub mod measure;
+pub mod plot;
+pub mod report;

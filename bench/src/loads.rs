@@ -1,0 +1,180 @@
+//! The benchmark's loads: charts and diagrams of many shapes and of growing size.
+
+use crate::cases::document_problem;
+use crate::files::{write_chart, write_diagram, Chart, Diagram, MAX_NODES};
+use crate::generate::charts::{long_steps, Costs, Ends, Shape, Spans};
+use crate::generate::diagrams::layers_of_width;
+use crate::generate::load::load;
+use crate::generate::rules::{diagram_of, AllOf, AtMost, Both, ExactlyOne, Modulo, Needs, Rule};
+use crate::generate::Random;
+
+/// A named pair of files.
+#[derive(Clone, Debug)]
+pub struct Load {
+    pub name: String,
+    pub chart: Vec<u8>,
+    pub rules: Vec<u8>,
+}
+
+impl Load {
+    fn new(name: impl Into<String>, chart: &Chart, diagram: &Diagram) -> Load {
+        Load { name: name.into(), chart: write_chart(chart), rules: write_diagram(diagram) }
+    }
+}
+
+/// The word of every generated chart.
+const WORD: u32 = 2_017;
+
+/// Every load but those of the growth.
+pub fn standard() -> Vec<Load> {
+    let mut loads = small();
+    for stages in [32, 128, 256] {
+        loads.extend(over(&format!("load {stages}"), &generated(stages)));
+    }
+    loads.extend(over("dag 256", &long_steps(&mut Random::new(3), 256, 1_024)));
+    loads.extend(equal_costs());
+    loads
+}
+
+/// Diagrams of growing size on one chart, and charts of growing size under one rule.
+pub fn growth() -> Vec<Load> {
+    let chart = generated(256);
+    let nodes = (1..=8).map(|pairs| {
+        let diagram = must_fit(&needs(&chart, pairs));
+        Load::new(format!("growth: 256 stages, {pairs} needs"), &chart, &diagram)
+    });
+    let stages = [16, 32, 64, 128, 256].into_iter().map(|stages| {
+        let chart = generated(stages);
+        let diagram = must_fit(&needs(&chart, 6));
+        Load::new(format!("growth: {stages} stages, 6 needs"), &chart, &diagram)
+    });
+    nodes.chain(stages).collect()
+}
+
+/// A chart of order 14.
+fn generated(stages: u32) -> Chart {
+    load(WORD, stages).expect("a word and stages in range")
+}
+
+/// Charts as users draw them, from 5 to 40 stages.
+fn small() -> Vec<Load> {
+    let document = document_problem();
+    let mut loads = vec![Load::new("document", &document.chart, &document.diagram)];
+    let mut random = Random::new(1);
+    for stages in [8, 12, 24, 40] {
+        let shape = Shape {
+            stages,
+            steps: 3 * stages,
+            costs: Costs::Wide,
+            spans: Spans::Short,
+            ends: Ends::Outermost,
+        };
+        let chart = shape.chart(&mut random);
+        let steps = cheapest_steps(&chart, 8);
+        let at_most = must_fit(&AtMost { most: 2, steps: steps.clone() });
+        let layers = layers_of_width(&mut random, &steps, 3);
+        loads.push(Load::new(
+            format!("small {stages}, 3 needs"),
+            &chart,
+            &must_fit(&needs(&chart, 3)),
+        ));
+        loads.push(Load::new(format!("small {stages}, at most 2 of 8"), &chart, &at_most));
+        loads.push(Load::new(format!("small {stages}, random"), &chart, &layers));
+    }
+    loads
+}
+
+/// Every kind of diagram over one chart.
+fn over(name: &str, chart: &Chart) -> Vec<Load> {
+    let mut random = Random::new(2);
+    let mut loads = Vec::new();
+    let mut add = |what: &str, diagram: &Diagram| {
+        loads.push(Load::new(format!("{name}, {what}"), chart, diagram));
+    };
+    add("no rule", &Diagram { root: 1, nodes: Vec::new() });
+    for pairs in [4, 7, 8] {
+        add(&format!("{pairs} needs"), &must_fit(&needs(chart, pairs)));
+    }
+    add("7 cheap needs", &must_fit(&needs_step(chart, 7, second_cheapest)));
+    add("at most 4 of 100", &must_fit(&AtMost { most: 4, steps: cheapest_steps(chart, 100) }));
+    add("exactly one of 255", &must_fit(&ExactlyOne(cheapest_steps(chart, 255))));
+    let odd = Modulo { divisor: 2, rest: 1, steps: cheapest_steps(chart, 255) };
+    add("parity of 255", &must_fit(&odd));
+    let rest_5 = Modulo { divisor: 16, rest: 5, steps: cheapest_steps(chart, 31) };
+    add("modulo 16 of 31", &must_fit(&rest_5));
+    for width in [2, 16, 128] {
+        let steps = random.subset(chart.steps.len(), MAX_NODES / width);
+        add(&format!("random {width} wide"), &layers_of_width(&mut random, &steps, width));
+    }
+    add("no plan", &must_fit(&impossible(chart)));
+    loads
+}
+
+/// Ties everywhere.
+fn equal_costs() -> Vec<Load> {
+    let mut chart = generated(256);
+    let mut loads = Vec::new();
+    for (name, cost) in [("all costs equal", 100), ("all costs zero", 0)] {
+        chart.steps.iter_mut().for_each(|step| step.cost = cost);
+        let diagram = must_fit(&needs(&chart, 7));
+        loads.push(Load::new(format!("load 256, {name}, 7 needs"), &chart, &diagram));
+    }
+    loads
+}
+
+fn must_fit(rule: &dyn Rule) -> Diagram {
+    diagram_of(rule, false).expect("at most 510 nodes")
+}
+
+/// The cheapest step out of each of the first stages needs the dearest out of one of the last:
+/// hard for the estimates.
+fn needs(chart: &Chart, pairs: usize) -> Needs {
+    needs_step(chart, pairs, dearest)
+}
+
+/// The same with another step out of the late stage.
+fn needs_step(chart: &Chart, pairs: usize, needed: fn(&Chart, u16) -> u16) -> Needs {
+    let stages: Vec<u16> = (0..chart.stages).filter(|s| leaving(chart, *s).count() > 0).collect();
+    let late = &stages[stages.len() - pairs.min(stages.len() / 2)..];
+    let pairs = stages.iter().zip(late);
+    Needs(pairs.map(|(a, b)| (cheapest(chart, *a), needed(chart, *b))).collect())
+}
+
+/// Seven needs, and two steps out of the last stage that has two: no way takes both.
+fn impossible(chart: &Chart) -> Both {
+    let last = (0..chart.stages).rev().find(|stage| leaving(chart, *stage).count() > 1);
+    let steps = leaving(chart, last.unwrap_or(0)).take(2).collect();
+    Both(Box::new(needs(chart, 7)), Box::new(AllOf(steps)))
+}
+
+fn leaving(chart: &Chart, stage: u16) -> impl Iterator<Item = u16> + '_ {
+    let steps = chart.steps.iter().enumerate();
+    steps.filter(move |(_, step)| step.from == stage).map(|(number, _)| number as u16)
+}
+
+fn cost(chart: &Chart, step: u16) -> u32 {
+    chart.steps[usize::from(step)].cost
+}
+
+fn cheapest(chart: &Chart, stage: u16) -> u16 {
+    leaving(chart, stage).min_by_key(|step| cost(chart, *step)).unwrap_or(0)
+}
+
+fn second_cheapest(chart: &Chart, stage: u16) -> u16 {
+    let mut steps: Vec<u16> = leaving(chart, stage).collect();
+    steps.sort_by_key(|step| cost(chart, *step));
+    steps.get(1).or(steps.first()).copied().unwrap_or(0)
+}
+
+fn dearest(chart: &Chart, stage: u16) -> u16 {
+    leaving(chart, stage).max_by_key(|step| cost(chart, *step)).unwrap_or(0)
+}
+
+/// The cheapest steps of the whole chart, rising.
+fn cheapest_steps(chart: &Chart, count: usize) -> Vec<u16> {
+    let mut steps: Vec<u16> = (0..chart.steps.len() as u16).collect();
+    steps.sort_by_key(|step| cost(chart, *step));
+    steps.truncate(count);
+    steps.sort_unstable();
+    steps
+}

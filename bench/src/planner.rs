@@ -1,0 +1,125 @@
+//! What every implementation offers: both searches and the refused field, over lent slices.
+
+/// The answer of a search.
+#[derive(Clone, Copy, Debug, Default, PartialEq, Eq)]
+pub struct Answer {
+    pub number: u32,
+    pub file: u32,
+    pub place: u32,
+    pub cost: u32,
+    pub length: u32,
+    pub count: u32,
+}
+
+impl Answer {
+    pub fn accepted(cost: u32, length: usize, count: usize) -> Answer {
+        Answer { cost, length: length as u32, count: count as u32, ..Answer::default() }
+    }
+
+    /// 1 to 7: a fault of a file or of a slice.
+    pub fn refused(number: u32, file: u32, place: usize) -> Answer {
+        Answer { number, file, place: place as u32, ..Answer::default() }
+    }
+
+    /// 8: no legal plan.
+    pub fn no_plan(count: usize) -> Answer {
+        Answer { number: 8, count: count as u32, ..Answer::default() }
+    }
+}
+
+/// The slices lent to a sweep.
+#[derive(Clone, Debug, Default, PartialEq, Eq)]
+pub struct SweepSlices {
+    /// By pair: the least cost, a result.
+    pub cost: Vec<u32>,
+    /// By pair: step and node it was reached by; left free.
+    pub via: Vec<u32>,
+    /// By row: the reached nodes of a stage; left free.
+    pub nodes: Vec<u32>,
+    /// The plan's step numbers, a result.
+    pub plan: Vec<u16>,
+}
+
+impl SweepSlices {
+    pub fn work_lengths(&self) -> [usize; 3] {
+        [self.cost.len(), self.via.len(), self.nodes.len()]
+    }
+
+    /// The work slices whose first entries are left free, with their names.
+    pub fn free(&self) -> [(&'static str, &[u32]); 2] {
+        [("via", &self.via), ("nodes", &self.nodes)]
+    }
+}
+
+/// The slices lent to a guided search.
+#[derive(Clone, Debug, Default, PartialEq, Eq)]
+pub struct GuidedSlices {
+    /// By pair: least cost so far plus estimate; left free.
+    pub keys: Vec<u32>,
+    /// By pair: step and node it was opened by; left free.
+    pub via: Vec<u32>,
+    /// The open pairs in heap order; left free.
+    pub heap: Vec<u32>,
+    /// By pair: its position in the heap; left free.
+    pub pos: Vec<u32>,
+    /// The open pairs with the smallest key, last in first out; left free.
+    pub stack: Vec<u32>,
+    /// The settled pairs in order, a result.
+    pub log: Vec<u32>,
+    /// The plan's step numbers, a result.
+    pub plan: Vec<u16>,
+}
+
+impl GuidedSlices {
+    pub fn work_lengths(&self) -> [usize; 6] {
+        [
+            self.keys.len(),
+            self.via.len(),
+            self.heap.len(),
+            self.pos.len(),
+            self.stack.len(),
+            self.log.len(),
+        ]
+    }
+
+    /// The work slices whose first entries are left free, with their names.
+    pub fn free(&self) -> [(&'static str, &[u32]); 5] {
+        [
+            ("keys", &self.keys),
+            ("via", &self.via),
+            ("heap", &self.heap),
+            ("pos", &self.pos),
+            ("stack", &self.stack),
+        ]
+    }
+}
+
+/// One implementation of the planner.
+pub trait Planner {
+    fn name(&self) -> &'static str;
+
+    fn sweep(&self, chart: &[u8], rules: &[u8], lent: &mut SweepSlices) -> Answer;
+
+    fn guided(&self, chart: &[u8], rules: &[u8], lent: &mut GuidedSlices) -> Answer;
+
+    /// The bytes of a refused field; none where an implementation has no such call.
+    fn refused_field(
+        &self,
+        _chart: &[u8],
+        _rules: &[u8],
+        _file: u32,
+        _place: u32,
+    ) -> Option<Vec<u8>> {
+        None
+    }
+}
+
+/// Every implementation of this build.
+pub fn all() -> Vec<Box<dyn Planner>> {
+    vec![
+        Box::new(crate::same::Same),
+        Box::new(crate::textbook::Textbook),
+        #[cfg(feature = "library")]
+        Box::new(crate::library::Library),
+    ]
+}

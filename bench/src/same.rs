@@ -1,0 +1,105 @@
+//! The library's algorithms in safe Rust, over slices that the caller lends and that may hold
+//! anything: the yardstick for its speed. Reads the files by itself.
+
+mod guided;
+mod queue;
+mod sweep;
+mod tables;
+
+pub use guided::guided;
+pub use sweep::sweep;
+
+use crate::planner::{Answer, GuidedSlices, Planner, SweepSlices};
+use tables::{Tables, BY_STAGE};
+
+/// No cost, no estimate, never opened.
+const NONE: u32 = u32::MAX;
+/// The via of the pair of start and root.
+const NO_VIA: u32 = u32::MAX;
+/// A node reference takes nine bits; the step stands above it.
+const NODE_BITS: u32 = 9;
+
+/// How a pair was got: by a step from a node of that step's first stage.
+fn pack_via(step: usize, node: usize) -> u32 {
+    (step as u32) << NODE_BITS | node as u32
+}
+
+fn via_step(via: u32) -> usize {
+    (via >> NODE_BITS) as usize
+}
+
+fn via_node(via: u32) -> usize {
+    (via & ((1 << NODE_BITS) - 1)) as usize
+}
+
+/// Reads both files and tests the lengths of the lent slices.
+fn prepare(
+    tables: &mut Tables,
+    chart: &[u8],
+    rules: &[u8],
+    shortest_work: usize,
+    plan: usize,
+) -> Result<(), Answer> {
+    tables.read_chart(chart)?;
+    tables.read_rules(rules)?;
+    if shortest_work < tables.stages * tables.references || plan < tables.stages - 1 {
+        return Err(Answer::refused(7, 0, 0));
+    }
+    Ok(())
+}
+
+/// Writes the plan that ends in a pair, back along `via`, and gives its length.
+fn trace_back(tables: &Tables, via: &[u32], goal: usize, plan: &mut [u16]) -> usize {
+    let mut length = 0;
+    let mut pair = goal;
+    while via[pair] != NO_VIA {
+        length += 1;
+        pair = tables.pair_before(via[pair]);
+    }
+    pair = goal;
+    for entry in plan[..length].iter_mut().rev() {
+        *entry = via_step(via[pair]) as u16;
+        pair = tables.pair_before(via[pair]);
+    }
+    length
+}
+
+/// The bytes of the field at a place of the marked file, else an empty part of the chart.
+pub fn refused_field<'a>(chart: &'a [u8], rules: &'a [u8], mark: u32, place: u32) -> &'a [u8] {
+    let empty = &chart[..0];
+    let file = match mark {
+        1 => chart,
+        2 => rules,
+        _ => return empty,
+    };
+    match file.get(place as usize..) {
+        Some([_, low, high, body @ ..]) => {
+            let length = usize::from(u16::from_le_bytes([*low, *high])).min(body.len());
+            &file[place as usize..place as usize + 3 + length]
+        }
+        Some([]) | None => empty,
+        Some(cut) => cut,
+    }
+}
+
+/// These functions as one implementation of the planner.
+pub struct Same;
+
+impl Planner for Same {
+    fn name(&self) -> &'static str {
+        "same"
+    }
+
+    fn sweep(&self, chart: &[u8], rules: &[u8], lent: &mut SweepSlices) -> Answer {
+        sweep(chart, rules, &mut lent.cost, &mut lent.via, &mut lent.nodes, &mut lent.plan)
+    }
+
+    fn guided(&self, chart: &[u8], rules: &[u8], lent: &mut GuidedSlices) -> Answer {
+        let GuidedSlices { keys, via, heap, pos, stack, log, plan } = lent;
+        guided(chart, rules, keys, via, heap, pos, stack, log, plan)
+    }
+
+    fn refused_field(&self, chart: &[u8], rules: &[u8], file: u32, place: u32) -> Option<Vec<u8>> {
+        Some(refused_field(chart, rules, file, place).to_vec())
+    }
+}

@@ -1,0 +1,136 @@
+//! The guided search: A* over pairs with the larger of two consistent estimates.
+
+use super::queue::Queue;
+use super::{pack_via, prepare, trace_back, via_step, Tables, NONE, NO_VIA};
+use crate::planner::Answer;
+
+/// Settles pairs in the order of their sums until the first goal pair.
+#[allow(clippy::too_many_arguments)]
+pub fn guided(
+    chart: &[u8],
+    rules: &[u8],
+    keys: &mut [u32],
+    via: &mut [u32],
+    heap: &mut [u32],
+    pos: &mut [u32],
+    stack: &mut [u32],
+    log: &mut [u32],
+    plan: &mut [u16],
+) -> Answer {
+    let mut tables = Tables::new();
+    let lengths = [keys.len(), via.len(), heap.len(), pos.len(), stack.len(), log.len()];
+    let shortest = lengths.into_iter().min().unwrap_or(0);
+    if let Err(refusal) = prepare(&mut tables, chart, rules, shortest, plan.len()) {
+        return refusal;
+    }
+    let estimates = Estimates::new(&tables);
+    let Some(first_key) = estimates.of(tables.start, tables.root) else {
+        return Answer::no_plan(0);
+    };
+    let pairs = tables.stages * tables.references;
+    let (keys, via) = (&mut keys[..pairs], &mut via[..pairs]);
+    let queue = Queue::new(&mut heap[..pairs], &mut pos[..pairs], &mut stack[..pairs], first_key);
+    let mut search = Search { tables: &tables, estimates, keys, via, queue };
+    let (goal, count) = search.run(first_key, &mut log[..pairs]);
+    match goal {
+        None => Answer::no_plan(count),
+        Some(goal) => {
+            let length = trace_back(&tables, search.via, goal, plan);
+            Answer::accepted(search.keys[goal], length, count)
+        }
+    }
+}
+
+/// Both estimates.
+struct Estimates {
+    by_stage: [u32; 256],
+    by_node: [u32; 512],
+}
+
+impl Estimates {
+    fn new(tables: &Tables) -> Estimates {
+        Estimates { by_stage: tables.stage_estimates(), by_node: tables.node_estimates() }
+    }
+
+    /// The larger of the two, none if either is none.
+    fn of(&self, stage: usize, node: usize) -> Option<u32> {
+        let estimate = self.by_stage[stage].max(self.by_node[node]);
+        (estimate != NONE).then_some(estimate)
+    }
+}
+
+struct Search<'a> {
+    tables: &'a Tables,
+    estimates: Estimates,
+    /// By pair: least cost so far plus estimate, or never opened.
+    keys: &'a mut [u32],
+    via: &'a mut [u32],
+    queue: Queue<'a>,
+}
+
+impl Search<'_> {
+    /// The first goal pair settled, and how many pairs were.
+    fn run(&mut self, first_key: u32, log: &mut [u32]) -> (Option<usize>, usize) {
+        let tables = self.tables;
+        let finishes = tables.finishes();
+        // A start past the end has no estimate, so these rows are in order.
+        self.keys[tables.row(tables.start)..tables.row(tables.end + 1)].fill(NONE);
+        let start = tables.row(tables.start) + tables.root;
+        self.keys[start] = first_key;
+        self.via[start] = NO_VIA;
+        self.queue.push(self.keys, start);
+        let mut count = 0;
+        while let Some(pair) = self.queue.pop(self.keys) {
+            log[count] = pair as u32;
+            count += 1;
+            let stage = self.stage_of(pair);
+            let node = pair - tables.row(stage);
+            if stage == tables.end && finishes[node] {
+                return (Some(pair), count);
+            }
+            self.open_followers(pair, stage, node);
+        }
+        (None, count)
+    }
+
+    /// The stage of an opened pair, by the step that opened it.
+    fn stage_of(&self, pair: usize) -> usize {
+        match self.via[pair] {
+            NO_VIA => self.tables.start,
+            via => usize::from(self.tables.to[via_step(via)]),
+        }
+    }
+
+    /// Opens what follows from a settled pair, or moves it up. A settled pair is never beaten,
+    /// since the estimates are consistent.
+    fn open_followers(&mut self, pair: usize, stage: usize, node: usize) {
+        let tables = self.tables;
+        let Some(estimate) = self.estimates.of(stage, node) else { return };
+        let cost = self.keys[pair] - estimate;
+        let mut at = node;
+        for step in tables.leaving(stage) {
+            while usize::from(tables.step[at]) < step {
+                at = usize::from(tables.lo[at]);
+            }
+            if at == 0 {
+                break;
+            }
+            let taken = usize::from(tables.step[at]) == step;
+            let next = if taken { usize::from(tables.hi[at]) } else { at };
+            let to = usize::from(tables.to[step]);
+            let Some(rest) = self.estimates.of(to, next) else { continue };
+            let follower = tables.row(to) + next;
+            let key = cost + tables.cost[step] + rest;
+            let known = self.keys[follower];
+            if key < known {
+                self.keys[follower] = key;
+                self.via[follower] = pack_via(step, node);
+                if known == NONE {
+                    self.queue.push(self.keys, follower);
+                } else {
+                    self.queue.lower(self.keys, follower);
+                }
+            }
+        }
+    }
+}

@@ -1,0 +1,212 @@
+//! Both files decoded once into arrays.
+
+use super::{via_node, via_step, NONE};
+use crate::planner::Answer;
+
+const STEPS: usize = 1_024;
+const NODES: usize = 512;
+const STAGES: usize = 256;
+const MAX_COST: u32 = 1_000_000;
+
+/// The step of nodes 0 and 1: above every step, so that no walk goes past them.
+const NO_STEP: u16 = u16::MAX;
+
+/// One entry for each stage.
+pub const BY_STAGE: usize = STAGES;
+
+/// Chart and diagram as tables.
+pub struct Tables {
+    pub stages: usize,
+    pub start: usize,
+    pub end: usize,
+    steps: usize,
+    from: [u16; STEPS],
+    pub to: [u16; STEPS],
+    pub cost: [u32; STEPS],
+    /// By stage: its first leaving step; one entry more than there are stages.
+    first: [u16; STAGES + 1],
+    /// N.
+    pub references: usize,
+    pub root: usize,
+    pub step: [u16; NODES],
+    pub lo: [u16; NODES],
+    pub hi: [u16; NODES],
+}
+
+impl Tables {
+    pub fn new() -> Tables {
+        Tables {
+            stages: 0,
+            start: 0,
+            end: 0,
+            steps: 0,
+            from: [0; STEPS],
+            to: [0; STEPS],
+            cost: [0; STEPS],
+            first: [0; STAGES + 1],
+            references: 2,
+            root: 0,
+            step: [NO_STEP; NODES],
+            lo: [0; NODES],
+            hi: [0; NODES],
+        }
+    }
+
+    /// Fills the chart's tables.
+    pub fn read_chart(&mut self, file: &[u8]) -> Result<(), Answer> {
+        let head: &[u8; 6] = first_body(file, 0x01).map_err(|n| Answer::refused(n, 1, 0))?;
+        self.stages = number(head[0], head[1]);
+        self.start = number(head[2], head[3]);
+        self.end = number(head[4], head[5]);
+        let stages = self.stages;
+        if stages == 0 || stages > STAGES || self.start >= stages || self.end >= stages {
+            return Err(Answer::refused(4, 1, 0));
+        }
+        let mut place = 9;
+        while place < file.len() {
+            self.read_step(file, place).map_err(|n| Answer::refused(n, 1, place))?;
+            place += 11;
+        }
+        self.fill_first();
+        Ok(())
+    }
+
+    fn read_step(&mut self, file: &[u8], place: usize) -> Result<(), u32> {
+        let body: &[u8; 8] = body(file, place, 0x02)?;
+        let [f0, f1, t0, t1, c0, c1, c2, c3] = *body;
+        let (from, to) = (u16::from_le_bytes([f0, f1]), u16::from_le_bytes([t0, t1]));
+        let cost = u32::from_le_bytes([c0, c1, c2, c3]);
+        let at = self.steps;
+        let falls = at > 0 && from < self.from[at - 1];
+        if at == STEPS || from >= to || usize::from(to) >= self.stages || cost > MAX_COST || falls {
+            return Err(5);
+        }
+        self.from[at] = from;
+        self.to[at] = to;
+        self.cost[at] = cost;
+        self.steps += 1;
+        Ok(())
+    }
+
+    /// First steps by stage: steps stand in the order of their first stages.
+    fn fill_first(&mut self) {
+        let mut stage = 0;
+        for (at, from) in self.from[..self.steps].iter().enumerate() {
+            while stage <= usize::from(*from) {
+                self.first[stage] = at as u16;
+                stage += 1;
+            }
+        }
+        self.first[stage..].fill(self.steps as u16);
+    }
+
+    /// Fills the diagram's tables; the chart's are filled already.
+    pub fn read_rules(&mut self, file: &[u8]) -> Result<(), Answer> {
+        let head: &[u8; 2] = first_body(file, 0x11).map_err(|n| Answer::refused(n, 2, 0))?;
+        self.root = number(head[0], head[1]);
+        let mut place = 5;
+        while place < file.len() {
+            self.read_node(file, place).map_err(|n| Answer::refused(n, 2, place))?;
+            place += 9;
+        }
+        if self.root >= self.references {
+            return Err(Answer::refused(6, 2, 0));
+        }
+        Ok(())
+    }
+
+    fn read_node(&mut self, file: &[u8], place: usize) -> Result<(), u32> {
+        let body: &[u8; 6] = body(file, place, 0x12)?;
+        let [s0, s1, l0, l1, h0, h1] = *body;
+        let step = u16::from_le_bytes([s0, s1]);
+        let (lo, hi) = (u16::from_le_bytes([l0, l1]), u16::from_le_bytes([h0, h1]));
+        let own = self.references;
+        if own == NODES || usize::from(step) >= self.steps {
+            return Err(6);
+        }
+        // 0 and 1 have NO_STEP, so one comparison serves them and the inner nodes.
+        let fits = |child: u16| usize::from(child) < own && self.step[usize::from(child)] > step;
+        if !fits(lo) || !fits(hi) {
+            return Err(6);
+        }
+        self.step[own] = step;
+        self.lo[own] = lo;
+        self.hi[own] = hi;
+        self.references += 1;
+        Ok(())
+    }
+
+    /// The first pair of a stage.
+    pub fn row(&self, stage: usize) -> usize {
+        stage * self.references
+    }
+
+    /// The steps that leave a stage.
+    pub fn leaving(&self, stage: usize) -> std::ops::Range<usize> {
+        usize::from(self.first[stage])..usize::from(self.first[stage + 1])
+    }
+
+    /// The pair from which a via leads on.
+    pub fn pair_before(&self, via: u32) -> usize {
+        self.row(usize::from(self.from[via_step(via)])) + via_node(via)
+    }
+
+    /// By node: whether it finishes at 1. Children stand before their nodes.
+    pub fn finishes(&self) -> [bool; NODES] {
+        let mut finishes = [false; NODES];
+        finishes[1] = true;
+        for node in 2..self.references {
+            finishes[node] = finishes[usize::from(self.lo[node])];
+        }
+        finishes
+    }
+
+    /// The chart estimates, from the end stage backwards.
+    pub fn stage_estimates(&self) -> [u32; STAGES] {
+        let mut estimates = [NONE; STAGES];
+        estimates[self.end] = 0;
+        for stage in (0..self.end).rev() {
+            let leaving = self.leaving(stage);
+            let steps = self.to[leaving.clone()].iter().zip(&self.cost[leaving]);
+            let costs = steps.map(|(to, cost)| estimates[usize::from(*to)].saturating_add(*cost));
+            estimates[stage] = costs.min().unwrap_or(NONE);
+        }
+        estimates
+    }
+
+    /// The diagram estimates, children before their nodes.
+    pub fn node_estimates(&self) -> [u32; NODES] {
+        let mut estimates = [NONE; NODES];
+        estimates[1] = 0;
+        for node in 2..self.references {
+            let cost = self.cost[usize::from(self.step[node])];
+            let taken = estimates[usize::from(self.hi[node])].saturating_add(cost);
+            estimates[node] = estimates[usize::from(self.lo[node])].min(taken);
+        }
+        estimates
+    }
+}
+
+fn number(low: u8, high: u8) -> usize {
+    usize::from(u16::from_le_bytes([low, high]))
+}
+
+/// The body of a file's first field.
+fn first_body<const LENGTH: usize>(file: &[u8], tag: u8) -> Result<&[u8; LENGTH], u32> {
+    if file.is_empty() {
+        return Err(2);
+    }
+    body(file, 0, tag)
+}
+
+/// The body of the field at a place: header cut, tag, length, body cut.
+fn body<const LENGTH: usize>(file: &[u8], place: usize, tag: u8) -> Result<&[u8; LENGTH], u32> {
+    let [found, low, high, rest @ ..] = &file[place..] else { return Err(1) };
+    if *found != tag {
+        return Err(2);
+    }
+    if number(*low, *high) != LENGTH {
+        return Err(3);
+    }
+    rest.first_chunk().ok_or(1)
+}

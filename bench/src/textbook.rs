@@ -1,0 +1,204 @@
+//! A plain baseline: textbook A* with the standard library's heap and hash maps, and a sweep over
+//! hash maps. It takes the same slices as the others but uses only those that hold results.
+
+use std::cmp::Reverse;
+use std::collections::{BinaryHeap, HashMap, HashSet};
+
+use crate::files::{read_both, Chart, Diagram, Problem};
+use crate::planner::{Answer, GuidedSlices, Planner, SweepSlices};
+
+/// A stage and a node reference.
+type State = (u16, u16);
+
+/// How a state was got: its cost, and the state and step before it.
+#[derive(Clone, Copy)]
+struct Arrival {
+    cost: u32,
+    before: Option<(State, u16)>,
+}
+
+type Arrivals = HashMap<State, Arrival>;
+
+/// These searches as one implementation of the planner.
+pub struct Textbook;
+
+impl Planner for Textbook {
+    fn name(&self) -> &'static str {
+        "textbook"
+    }
+
+    fn sweep(&self, chart: &[u8], rules: &[u8], lent: &mut SweepSlices) -> Answer {
+        match prepare(chart, rules, &lent.work_lengths(), lent.plan.len()) {
+            Ok(problem) => sweep(&problem, lent),
+            Err(refusal) => refusal,
+        }
+    }
+
+    fn guided(&self, chart: &[u8], rules: &[u8], lent: &mut GuidedSlices) -> Answer {
+        match prepare(chart, rules, &lent.work_lengths(), lent.plan.len()) {
+            Ok(problem) => guided(&problem, lent),
+            Err(refusal) => refusal,
+        }
+    }
+}
+
+fn prepare(chart: &[u8], rules: &[u8], work: &[usize], plan: usize) -> Result<Problem, Answer> {
+    let problem = read_both(chart, rules)
+        .map_err(|fault| Answer::refused(fault.number, fault.file, fault.place as usize))?;
+    let enough = work.iter().all(|length| *length >= problem.pairs());
+    if !enough || plan < problem.longest_plan() {
+        return Err(Answer::refused(7, 0, 0));
+    }
+    Ok(problem)
+}
+
+/// Dynamic programming over the stages in order.
+fn sweep(problem: &Problem, lent: &mut SweepSlices) -> Answer {
+    let Problem { chart, diagram } = problem;
+    let mut arrivals = Arrivals::new();
+    let mut rows: Vec<Vec<u16>> = vec![Vec::new(); usize::from(chart.stages)];
+    if diagram.root != 0 {
+        arrivals.insert((chart.start, diagram.root), Arrival { cost: 0, before: None });
+        rows[usize::from(chart.start)].push(diagram.root);
+    }
+    for stage in 0..chart.stages {
+        for node in std::mem::take(&mut rows[usize::from(stage)]) {
+            let cost = arrivals[&(stage, node)].cost;
+            for (next, step, step_cost) in successors(chart, diagram, (stage, node)) {
+                let found = cost + step_cost;
+                let known = arrivals.get(&next).map(|arrival| arrival.cost);
+                if known.is_some_and(|known| known <= found) {
+                    continue;
+                }
+                arrivals.insert(next, Arrival { cost: found, before: Some(((stage, node), step)) });
+                if known.is_none() {
+                    rows[usize::from(next.0)].push(next.1);
+                }
+            }
+        }
+    }
+    lent.cost[..problem.pairs()].fill(u32::MAX);
+    for (state, arrival) in &arrivals {
+        lent.cost[pair(diagram, *state)] = arrival.cost;
+    }
+    let goals = arrivals.iter().filter(|(state, _)| is_goal(problem, **state));
+    match goals.min_by_key(|(_, arrival)| arrival.cost) {
+        None => Answer::no_plan(arrivals.len()),
+        Some((goal, arrival)) => {
+            let length = write_plan(&arrivals, *goal, &mut lent.plan);
+            Answer::accepted(arrival.cost, length, arrivals.len())
+        }
+    }
+}
+
+/// A* with stale entries left in the heap.
+fn guided(problem: &Problem, lent: &mut GuidedSlices) -> Answer {
+    let Problem { chart, diagram } = problem;
+    let by_stage = stage_estimates(chart);
+    let by_node = node_estimates(chart, diagram);
+    let estimate = |(stage, node): State| -> Option<u32> {
+        Some(by_stage[usize::from(stage)]?.max(by_node[usize::from(node)]?))
+    };
+    let start = (chart.start, diagram.root);
+    let mut arrivals = Arrivals::new();
+    let mut closed = HashSet::new();
+    let mut open = BinaryHeap::new();
+    if let Some(rest) = estimate(start) {
+        arrivals.insert(start, Arrival { cost: 0, before: None });
+        open.push(Reverse((rest, start)));
+    }
+    while let Some(Reverse((_, state))) = open.pop() {
+        if !closed.insert(state) {
+            continue;
+        }
+        lent.log[closed.len() - 1] = pair(diagram, state) as u32;
+        let cost = arrivals[&state].cost;
+        if is_goal(problem, state) {
+            let length = write_plan(&arrivals, state, &mut lent.plan);
+            return Answer::accepted(cost, length, closed.len());
+        }
+        for (next, step, step_cost) in successors(chart, diagram, state) {
+            let Some(rest) = estimate(next) else { continue };
+            let found = cost + step_cost;
+            if arrivals.get(&next).is_none_or(|known| found < known.cost) {
+                arrivals.insert(next, Arrival { cost: found, before: Some((state, step)) });
+                open.push(Reverse((found + rest, next)));
+            }
+        }
+    }
+    Answer::no_plan(closed.len())
+}
+
+/// The states that follow by one step, with the step and its cost.
+fn successors<'a>(
+    chart: &'a Chart,
+    diagram: &'a Diagram,
+    (stage, node): State,
+) -> impl Iterator<Item = (State, u16, u32)> + 'a {
+    let first = chart.steps.partition_point(|step| step.from < stage);
+    let leaving = chart.steps[first..].iter().take_while(move |step| step.from == stage);
+    leaving.enumerate().filter_map(move |(at, step)| {
+        let number = (first + at) as u16;
+        let next = follow(diagram, node, number);
+        (next != 0).then_some(((step.to, next), number, step.cost))
+    })
+}
+
+/// The node after a step is taken and those before it are not.
+fn follow(diagram: &Diagram, mut reference: u16, step: u16) -> u16 {
+    while let Some(node) = diagram.inner(reference) {
+        match node.step.cmp(&step) {
+            std::cmp::Ordering::Less => reference = node.lo,
+            std::cmp::Ordering::Equal => return node.hi,
+            std::cmp::Ordering::Greater => break,
+        }
+    }
+    reference
+}
+
+fn is_goal(problem: &Problem, (stage, mut reference): State) -> bool {
+    while let Some(node) = problem.diagram.inner(reference) {
+        reference = node.lo;
+    }
+    stage == problem.chart.end && reference == 1
+}
+
+fn pair(diagram: &Diagram, (stage, node): State) -> usize {
+    usize::from(stage) * diagram.references() + usize::from(node)
+}
+
+fn stage_estimates(chart: &Chart) -> Vec<Option<u32>> {
+    let mut estimates = vec![None; usize::from(chart.stages)];
+    estimates[usize::from(chart.end)] = Some(0);
+    for step in chart.steps.iter().rev() {
+        let through = estimates[usize::from(step.to)].map(|rest: u32| rest + step.cost);
+        let known = estimates[usize::from(step.from)];
+        estimates[usize::from(step.from)] = [known, through].into_iter().flatten().min();
+    }
+    estimates
+}
+
+fn node_estimates(chart: &Chart, diagram: &Diagram) -> Vec<Option<u32>> {
+    let mut estimates = vec![None, Some(0)];
+    for node in &diagram.nodes {
+        let cost = chart.steps[usize::from(node.step)].cost;
+        let taken = estimates[usize::from(node.hi)].map(|rest: u32| rest + cost);
+        let not_taken = estimates[usize::from(node.lo)];
+        estimates.push([not_taken, taken].into_iter().flatten().min());
+    }
+    estimates
+}
+
+/// Writes the steps that lead to a state and gives their number.
+fn write_plan(arrivals: &Arrivals, goal: State, plan: &mut [u16]) -> usize {
+    let mut steps = Vec::new();
+    let mut state = goal;
+    while let Some((before, step)) = arrivals[&state].before {
+        steps.push(step);
+        state = before;
+    }
+    for (entry, step) in plan.iter_mut().zip(steps.iter().rev()) {
+        *entry = *step;
+    }
+    steps.len()
+}

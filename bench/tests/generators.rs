@@ -1,0 +1,126 @@
+//! The generators: what should be valid is, and the broken files have every number.
+
+use std::collections::BTreeSet;
+
+use planner_bench::cases::{document_problem, Cases};
+use planner_bench::files::{
+    read_both, read_chart, read_diagram, write_chart, write_diagram, Problem,
+};
+use planner_bench::generate::broken::{at_limits, systematic};
+use planner_bench::generate::charts::{long_steps, random_chart};
+use planner_bench::generate::diagrams::random_diagram;
+use planner_bench::generate::load::{load, xorshift};
+use planner_bench::generate::rules::{diagram_of, AtMost, ExactlyOne, Modulo, Needs, Rule};
+use planner_bench::generate::Random;
+use planner_bench::loads::{growth, standard};
+use planner_bench::reference::refused_field;
+use planner_bench::reference::rules::verdict;
+
+#[test]
+fn written_files_are_read_back() {
+    let mut random = Random::new(11);
+    for turn in 0..3_000 {
+        let (stages, steps, nodes) = if turn % 50 == 0 { (256, 1_024, 510) } else { (12, 30, 30) };
+        let chart = random_chart(&mut random, stages, steps);
+        let diagram = random_diagram(&mut random, &chart, nodes);
+        let files = (write_chart(&chart), write_diagram(&diagram));
+        assert_eq!(read_both(&files.0, &files.1), Ok(Problem { chart, diagram }));
+    }
+}
+
+#[test]
+fn charts_with_long_steps_are_valid() {
+    let chart = long_steps(&mut Random::new(12), 256, 1_024);
+    assert_eq!(read_chart(&write_chart(&chart)), Ok(chart));
+}
+
+#[test]
+fn the_load_of_order_14() {
+    assert_eq!(xorshift(1), 270_369);
+    assert_eq!((load(0, 1), load(7, 1), load(7, 257)), (Err(18), Err(4), Err(4)));
+    for stages in [2, 32, 256] {
+        let chart = load(1, stages).expect("within the limits");
+        assert_eq!(chart.steps[0].cost, 270_369 % 1_001);
+        assert_eq!(write_chart(&chart).len(), 11_273);
+        assert_eq!(chart.steps[1_023].from, (1_023 * (stages as usize - 1) / 1_024) as u16);
+        assert_eq!(read_chart(&write_chart(&chart)), Ok(chart));
+    }
+}
+
+/// Whether the diagram of a rule says what the rule says of every set of up to eight steps.
+fn means(rule: &dyn Rule, says: impl Fn(&[bool]) -> bool) {
+    for padded in [false, true] {
+        let diagram = diagram_of(rule, padded).expect("few nodes");
+        assert_eq!(read_diagram(&write_diagram(&diagram), 8), Ok(diagram.clone()));
+        for set in 0..256_u32 {
+            let present: Vec<bool> = (0..8).map(|step| set >> step & 1 == 1).collect();
+            assert_eq!(verdict(&diagram, &present), says(&present), "{present:?}");
+        }
+    }
+}
+
+#[test]
+fn rules_mean_what_they_say() {
+    let count = |present: &[bool]| present.iter().filter(|p| **p).count();
+    let needs = Needs(vec![(0, 5), (6, 2), (1, 5)]);
+    means(&needs, |p| (!p[0] || p[5]) && (!p[6] || p[2]) && (!p[1] || p[5]));
+    let all: Vec<u16> = (0..8).collect();
+    means(&AtMost { most: 3, steps: all.clone() }, |p| count(p) <= 3);
+    means(&ExactlyOne(vec![1, 4, 6]), |p| count(&[p[1], p[4], p[6]]) == 1);
+    means(&Modulo { divisor: 2, rest: 1, steps: all.clone() }, |p| count(p) % 2 == 1);
+    means(&Modulo { divisor: 3, rest: 2, steps: all }, |p| count(p) % 3 == 2);
+}
+
+#[test]
+fn eight_needs_take_all_nodes() {
+    let needs = Needs((0..8).map(|at| (at, at + 100)).collect());
+    assert_eq!(diagram_of(&needs, false).map(|diagram| diagram.nodes.len()), Some(510));
+    let needs = Needs((0..9).map(|at| (at, at + 100)).collect());
+    assert_eq!(diagram_of(&needs, false), None);
+}
+
+#[test]
+fn broken_files_have_every_number_in_every_file() {
+    let mut files = systematic(&document_problem());
+    files.extend(at_limits());
+    let found: BTreeSet<(u32, u32)> = files
+        .iter()
+        .filter_map(|(chart, rules)| read_both(chart, rules).err())
+        .map(|fault| (fault.file, fault.number))
+        .collect();
+    let wanted = [(1, 1), (1, 2), (1, 3), (1, 4), (1, 5), (2, 1), (2, 2), (2, 3), (2, 6)];
+    assert_eq!(found, BTreeSet::from(wanted));
+    assert!(files.iter().any(|(chart, rules)| read_both(chart, rules).is_ok()));
+}
+
+#[test]
+fn a_case_is_fixed_by_seed_and_number() {
+    let (a, b) = (Cases::new(13), Cases::new(13));
+    for number in [0, 100, a.systematic(), a.systematic() + 77] {
+        let (a, b) = (a.case(number), b.case(number));
+        assert_eq!((a.chart, a.rules, a.dirt), (b.chart, b.rules, b.dirt));
+    }
+}
+
+#[test]
+fn loads_are_valid() {
+    for load in standard().into_iter().chain(growth()) {
+        assert!(read_both(&load.chart, &load.rules).is_ok(), "{}", load.name);
+    }
+}
+
+#[test]
+fn the_refused_field_is_cut_at_the_files_end() {
+    let chart = [0x01, 6, 0, 9, 9, 9, 9, 9, 9, 0x02, 2, 0, 7];
+    let rules = [0x11, 0xff, 0xff, 5];
+    assert_eq!(refused_field(&chart, &rules, 1, 0), &chart[..9]);
+    assert_eq!(refused_field(&chart, &rules, 1, 9), &chart[9..]);
+    assert_eq!(refused_field(&chart, &rules, 1, 11), &chart[11..]);
+    assert_eq!(refused_field(&chart, &rules, 1, 1), &chart[1..]);
+    assert_eq!(refused_field(&chart, &rules, 2, 0), &rules);
+    for (mark, place) in [(1, 13), (2, 4), (2, u32::MAX), (0, 0), (3, 0), (258, 0)] {
+        let part = refused_field(&chart, &rules, mark, place);
+        assert!(part.is_empty());
+        assert!(chart.as_ptr_range().contains(&part.as_ptr()));
+    }
+}

@@ -1,0 +1,58 @@
+-- `full::put_long_steps` is safe and ends.
+use Prim.Native.Nat.{_-_}
+use mathlib.Core.Path.{_≡_}
+use lib.ListN.{length}
+use borrow.Author.Needs.{needs}
+use Rattle.sweep_run.proofs.full.put_long_steps.Statement.{statement}
+use Rattle.sweep_run.proofs.full.put_long_steps.Tie as tie
+use Rattle.sweep_run.proofs.full.put_long_steps.Reads as reads
+use Rattle.sweep_run.proofs.full.put_long_steps.Lts as lts
+use Rattle.sweep_run.proofs.full.put_long_step.Reads as put-long-step-reads
+
+abbrev Inv-loop : tie.InvT-loop
+Inv-loop file₀ e₀ file e = length file ≡ length file₀
+
+abbrev μ-loop : tie.MeasureT-loop
+μ-loop file₀ e₀ file e = 1024 - e
+
+-- src/full.rt:33:5
+loop-holds : tie.Need-loop-holds Inv-loop μ-loop
+loop-holds c = search needs
+
+-- src/full.rt:34:9
+put-long-step-requires : tie.Need-put-long-step-requires Inv-loop μ-loop
+put-long-step-requires c κs = search needs
+
+-- src/full.rt:35:9
+add-e : tie.Need-add-e Inv-loop μ-loop
+add-e c = search needs
+
+-- src/full.rt:33:5
+loop-less : tie.Need-loop-less Inv-loop μ-loop
+loop-less c = search needs
+
+-- src/full.rt:33:5
+loop-again : tie.Need-loop-again Inv-loop μ-loop
+loop-again c = search needs
+
+-- src/full.rt:31:1
+same-length : tie.Need-same-length Inv-loop μ-loop
+same-length c = search needs
+
+-- src/full.rt:31:1
+returns : tie.Need-returns Inv-loop μ-loop
+returns c = search needs
+
+pub put-long-steps-spec : {M : Type 1} → statement M
+put-long-steps-spec =
+    tie.close
+    (tie.spec
+    Inv-loop
+    μ-loop
+    loop-holds
+    put-long-step-requires
+    add-e
+    loop-less
+    loop-again
+    same-length
+    returns)

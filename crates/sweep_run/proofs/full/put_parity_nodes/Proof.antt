@@ -1,0 +1,58 @@
+-- `full::put_parity_nodes` is safe and ends.
+use Prim.Native.Nat.{_-_}
+use mathlib.Core.Path.{_≡_}
+use lib.ListN.{length}
+use borrow.Author.Needs.{needs}
+use Rattle.sweep_run.proofs.full.put_parity_nodes.Statement.{statement}
+use Rattle.sweep_run.proofs.full.put_parity_nodes.Tie as tie
+use Rattle.sweep_run.proofs.full.put_parity_nodes.Reads as reads
+use Rattle.sweep_run.proofs.full.put_parity_nodes.Lts as lts
+use Rattle.sweep_run.proofs.full.put_parity_node.Reads as put-parity-node-reads
+
+abbrev Inv-loop : tie.InvT-loop
+Inv-loop file₀ count i₀ file i = length file ≡ length file₀
+
+abbrev μ-loop : tie.MeasureT-loop
+μ-loop file₀ count i₀ file i = count - i
+
+-- src/full.rt:54:5
+loop-holds : tie.Need-loop-holds Inv-loop μ-loop
+loop-holds c = search needs
+
+-- src/full.rt:55:9
+put-parity-node-requires : tie.Need-put-parity-node-requires Inv-loop μ-loop
+put-parity-node-requires c κs = search needs
+
+-- src/full.rt:56:9
+add-i : tie.Need-add-i Inv-loop μ-loop
+add-i c = search needs
+
+-- src/full.rt:54:5
+loop-less : tie.Need-loop-less Inv-loop μ-loop
+loop-less c = search needs
+
+-- src/full.rt:54:5
+loop-again : tie.Need-loop-again Inv-loop μ-loop
+loop-again c = search needs
+
+-- src/full.rt:52:1
+same-length : tie.Need-same-length Inv-loop μ-loop
+same-length c = search needs
+
+-- src/full.rt:52:1
+returns : tie.Need-returns Inv-loop μ-loop
+returns c = search needs
+
+pub put-parity-nodes-spec : {M : Type 1} → statement M
+put-parity-nodes-spec =
+    tie.close
+    (tie.spec
+    Inv-loop
+    μ-loop
+    loop-holds
+    put-parity-node-requires
+    add-i
+    loop-less
+    loop-again
+    same-length
+    returns)
