@@ -1,0 +1,3 @@
+mod Appends
+mod Decimals
+mod Lines
