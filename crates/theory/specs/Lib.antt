@@ -8,5 +8,4 @@ pub mod Estimates
 pub mod BestFirst
 pub mod Product
 pub mod Counting
-pub mod Sweeps
 pub mod Agreement
