@@ -1,8 +1,13 @@
 // One tagged field of a file at a place, the numbers in it, and the bytes of a refused field.
+pub mod reader;
+
 ghost use mathlib.Core.Path.{_≡_};
 ghost use Prim.Native.Nat.{_+_, _-_, _*_, _<_, min};
 ghost use lib.ListN.{length};
 ghost use Rattle.definitions.specs.Fields.{two, four, fieldAt, refusedField};
+use crate::reader::moved;
+use crate::reader::new;
+use crate::reader::next;
 use definitions::Field;
 
 // A byte as a two-byte number.
@@ -30,33 +35,12 @@ pub fn read_u32(b: &[u8], at: usize) -> u32
     low + 65536 * high
 }
 
-// What stands at a place where a field of this tag and length is due.
+// What stands at a place where a field of this tag and length is due, asked of a reader that is moved there. The
+// parameters are plain, so that the callers are covered.
 pub fn field_at(s: &[u8], at: usize, tag: u8, len: u16) -> Field
     ensures { λ r. ⌜ r ≡ fieldAt (now (s .entry)) at tag len ⌝ }
 {
-    if s.len() <= at {
-        return Field::Absent;
-    }
-    let left = s.len() - at;
-    if left < 3 {
-        return Field::Faulty(1);
-    }
-    let found = s[at];
-    if found != tag {
-        return Field::Faulty(2);
-    }
-    let said = read_u16(s, at + 1);
-    if said != len {
-        return Field::Faulty(3);
-    }
-    let body = len as usize;
-    if left - 3 < body {
-        return Field::Faulty(1);
-    }
-    Field::Whole {
-        start: at + 3,
-        end: at + 3 + body,
-    }
+    next(moved(new(s), at), tag, len)
 }
 
 // Where the field at a place ends: after its header and its body by its length, at most at the file's end.
