@@ -1,9 +1,14 @@
-// Both searches on the same files, in one call.
+// Both searches on the same files, in one call; and the space that they need.
 ghost use mathlib.Core.List.{[], _∷_};
 ghost use lib.ListN.{length};
 ghost use Rattle.definitions.specs.Answers.{load as outcome};
 ghost use Rattle.planner.specs.Both.{SweepKept, GuidedKept, AgreeOn};
 use definitions::Answer;
+
+mod space;
+
+pub use space::Space;
+pub use space::space_needed;
 
 // The answers of both searches.
 pub struct Answers {

@@ -13,7 +13,7 @@ fn lesser(a: usize, b: usize) -> usize
 }
 
 // Copies bytes into the buffer from the place `at` on, and returns the place behind them.
-fn copy(out: &mut [u8], at: usize, bytes: &[u8]) -> usize
+pub fn copy(out: &mut [u8], at: usize, bytes: &[u8]) -> usize
     requires { ⌜ at ≤ length (now out) ⌝ }
     ensures { λ r. ⌜ Appended (now (out .entry)) at (now (bytes .entry)) (now (out .exit)) r ⌝ }
 {

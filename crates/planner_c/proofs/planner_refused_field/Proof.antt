@@ -1,0 +1,31 @@
+-- `planner_c::planner_refused_field` meets its contract.
+use mathlib.Core.Path.{refl, sym, _∙_, ap}
+use lib.ListN.{length}
+use Rattle.planner_c.proofs.Copied.{copied}
+use borrow.Author.Needs.{needs}
+use Rattle.planner_c.proofs.planner_refused_field.Statement.{statement}
+use Rattle.planner_c.proofs.planner_refused_field.Tie as tie
+use Rattle.planner_c.proofs.planner_refused_field.Reads as reads
+use Rattle.planner_c.proofs.planner_refused_field.Lts as lts
+use Rattle.fields.proofs.refused_field.Reads as refused-field-reads
+use Rattle.report.proofs.copy.Reads as copy-reads
+
+-- src/lib.rt:148:9
+refused-field-requires : tie.Need-refused-field-requires
+refused-field-requires c κs = search needs
+
+-- src/lib.rt:149:5
+copy-requires : tie.Need-copy-requires
+copy-requires c κs = search needs
+
+-- src/lib.rt:137:1
+same-length : tie.Need-same-length
+same-length c = search needs
+
+-- src/lib.rt:137:1
+returns : tie.Need-returns
+returns c = (ap length (c .before .before .before .before .refused-field .ensures), copied _ _ _ _ _ (c .before .before .before .before .refused-field .ensures) (c .before .before .copy .ensures))
+
+pub planner-refused-field-spec : {M : Type 1} → statement M
+planner-refused-field-spec =
+    tie.close (tie.spec refused-field-requires copy-requires same-length returns)

@@ -1,0 +1,35 @@
+-- What the exported calls promise: the promises of the calls below them, of an answer that stands in a lent array.
+-- Assumes nothing.
+use Prim.Native.Nat.{ℕ, min}
+use mathlib.Core.Path.{_≡_}
+use mathlib.Core.List.{List, [], _∷_}
+use lib.ListN.{length}
+use Rattle.definitions.specs.Answers.{load}
+use Rattle.definitions.specs.declared.Answer.{Answer}
+use Rattle.planner.specs.Both.{SweepKept, GuidedKept, AgreeOn}
+use Rattle.planner.specs.declared.space.Space.{Space}
+
+-- an answer and the space needed as arrays of numbers
+abbrev pub numbers : Answer → List ℕ
+numbers a = a .number ∷ a .file ∷ a .place ∷ a .cost ∷ a .length ∷ a .count ∷ []
+
+abbrev pub spaceNumbers : Space → List ℕ
+spaceNumbers s = s .number ∷ s .file ∷ s .place ∷ s .work ∷ s .plan ∷ []
+
+-- an answer that keeps the promise P stands in the array, and the call returns its number
+pub record Given (P : Answer → Type 0) (array : List ℕ) (r : ℕ) : Type 0 where
+  pub answer : Answer
+  pub kept : P answer
+  pub held : array ≡ numbers answer
+  pub returned : r ≡ answer .number
+
+-- the same of both searches' answers, which agree; the call returns the guided search's number
+pub record BothGiven (P Q : Answer → Type 0) (A : Answer → Answer → Type 0) (swept found : List ℕ) (r : ℕ) : Type 0 where
+  pub sweep : Answer
+  pub guided : Answer
+  pub sweep-kept : P sweep
+  pub guided-kept : Q guided
+  pub agree : A sweep guided
+  pub sweep-held : swept ≡ numbers sweep
+  pub guided-held : found ≡ numbers guided
+  pub returned : r ≡ guided .number
