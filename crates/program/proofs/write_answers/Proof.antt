@@ -1,0 +1,30 @@
+-- `program::write_answers` meets its contract: the report's text, and how long it can be.
+use native.Mathlib.Omega.{arith}
+use Rattle.program.specs.Size.{report-short}
+use borrow.Author.Needs.{needs}
+use Rattle.program.proofs.write_answers.Statement.{statement}
+use Rattle.program.proofs.write_answers.Tie as tie
+use Rattle.program.proofs.write_answers.Reads as reads
+use Rattle.program.proofs.write_answers.Lts as lts
+use Rattle.report.proofs.write_report.Reads as write-report-reads
+
+-- src/lib.rt:15:5
+write-report-requires : tie.Need-write-report-requires
+write-report-requires c κs = search needs
+
+-- src/lib.rt:11:1
+same-length : tie.Need-same-length
+same-length c = search needs
+
+-- src/lib.rt:11:1
+returns : tie.Need-returns
+returns c = (
+  c .before .before .write-report .ensures,
+  report-short (c .before .before .before .before .before .before .args .both .guided) (c .before .before .before .before .before .before .args .both .sweep) (c .before .before .before .before .before .before .args .plan .now)
+      (record { number = omega arith; file = omega arith; place = omega arith; cost = omega arith; count = omega arith })
+      (record { number = omega arith; file = omega arith; place = omega arith; cost = omega arith; count = omega arith })
+      (λ k. omega (arith, c .before .before .before .before .before .shared-slice-known .given k)),
+)
+
+pub write-answers-spec : {M : Type 1} → statement M
+write-answers-spec = tie.close (tie.spec write-report-requires same-length returns)

@@ -1,0 +1,3 @@
+pub mod Written
+pub mod Size
+pub mod Laws

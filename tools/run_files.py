@@ -1,0 +1,372 @@
+#!/usr/bin/env python3
+"""Writes the files that the programs `plan` and `plan_run` are run on, and the output that they must write.
+
+    tools/run_files.py           writes them: example/, crates/plan and crates/plan_run (data/ and stdout)
+    tools/run_files.py --check   writes nothing; says which files differ from those in the repository (exit status 1)
+
+Each case states its charts and diagrams as stages, steps and nodes, or byte by byte where a field is faulty. A refusal's line
+is written by hand. The lines of a plan and of refusal 8 are computed here by enumerating all ways, from document 01's
+definitions alone; a case in which they leave the plan or the settled count free is an error.
+"""
+import re
+import shutil
+import sys
+from functools import cache
+from pathlib import Path
+from typing import NamedTuple
+
+ROOT = Path(__file__).resolve().parent.parent
+MOST_PAIRS = 4096  # the work that the program lends
+READ = 16384  # the bytes that it reads of a file
+
+
+# ---- the files: tagged fields
+
+def number(value, size=2):
+    return value.to_bytes(size, "little")
+
+
+def field(tag, body, length=None):
+    """A field; `length` is what its header says, where that is not the body's own."""
+    return bytes([tag]) + number(len(body) if length is None else length) + body
+
+
+def head(stages, start, end):
+    return field(0x01, number(stages) + number(start) + number(end))
+
+
+def step(source, target, cost):
+    return field(0x02, number(source) + number(target) + number(cost, 4))
+
+
+def root(reference):
+    return field(0x11, number(reference))
+
+
+def node(at_step, lo, hi):
+    return field(0x12, number(at_step) + number(lo) + number(hi))
+
+
+HEAD = len(head(1, 0, 0))  # a chart's steps stand at places 9, 20, 31 .., a diagram's nodes at 5, 14, 23 ..
+
+
+class Chart(NamedTuple):
+    stages: int
+    start: int
+    end: int
+    steps: tuple = ()  # (from, to, cost)
+
+    def file(self):
+        return head(self.stages, self.start, self.end) + b"".join(step(*s) for s in self.steps)
+
+
+class Diagram(NamedTuple):
+    root: int
+    nodes: tuple = ()  # (step, lo, hi), numbered from 2
+
+    def file(self):
+        return root(self.root) + b"".join(node(*n) for n in self.nodes)
+
+
+# ---- document 01's definitions
+
+class Planned:
+    """All ways of a chart from its start, the pairs they reach, and the estimates."""
+
+    def __init__(self, chart, diagram):
+        self.chart, self.diagram = chart, diagram
+        self.size = len(diagram.nodes) + 2
+        assert chart.stages * self.size <= MOST_PAIRS
+        self.leaving = [[e for e, s in enumerate(chart.steps) if s[0] == stage] for stage in range(chart.stages)]
+
+    def ways(self):
+        """Every way from the start, as a tuple of steps."""
+        left = [(self.chart.start, ())]
+        while left:
+            stage, way = left.pop()
+            yield stage, way
+            left += [(self.chart.steps[e][1], way + (e,)) for e in self.leaving[stage]]
+
+    def cost(self, way):
+        return sum(self.chart.steps[e][2] for e in way)
+
+    def inner(self, n):
+        return self.diagram.nodes[n - 2]
+
+    def legal(self, stage, way):
+        """The way ends at the end stage, and the diagram says yes to the set of its steps."""
+        n, chosen = self.diagram.root, set(way)
+        while n >= 2:
+            at_step, lo, hi = self.inner(n)
+            n = hi if at_step in chosen else lo
+        return stage == self.chart.end and n == 1
+
+    @cache
+    def advance(self, n, e):
+        while n >= 2 and self.inner(n)[0] < e:
+            n = self.inner(n)[1]
+        return self.inner(n)[2] if n >= 2 and self.inner(n)[0] == e else n
+
+    def finish(self, n):
+        while n >= 2:
+            n = self.inner(n)[1]
+        return n
+
+    def stands(self, way):
+        n = self.diagram.root
+        for e in way:
+            n = self.advance(n, e)
+        return n
+
+    @cache
+    def chart_estimate(self, stage):
+        onward = [(self.chart_estimate(self.chart.steps[e][1]), self.chart.steps[e][2]) for e in self.leaving[stage]]
+        found = [more + cost for more, cost in onward if more is not None] + [0] * (stage == self.chart.end)
+        return min(found, default=None)
+
+    @cache
+    def diagram_estimate(self, n):
+        if n < 2:
+            return None if n == 0 else 0
+        at_step, lo, hi = self.inner(n)
+        low, high = self.diagram_estimate(lo), self.diagram_estimate(hi)
+        found = [] if low is None else [low]
+        found += [] if high is None else [high + self.chart.steps[at_step][2]]
+        return min(found, default=None)
+
+    def reached(self):
+        """The reached pairs (stage, node), each with its least cost."""
+        least = {}
+        for stage, way in self.ways():
+            pair = stage, self.stands(way)
+            if pair[1] != 0:
+                least[pair] = min(least.get(pair, self.cost(way)), self.cost(way))
+        return least
+
+    def total(self, pair, least):
+        """A reached pair's sum, or None."""
+        estimates = self.chart_estimate(pair[0]), self.diagram_estimate(pair[1])
+        return None if None in estimates else least[pair] + max(estimates)
+
+    def before(self, pair, least):
+        """The reached pairs from which this one follows by one step, on a way of least cost."""
+        return [p for p in least for e in self.leaving[p[0]]
+                if (self.chart.steps[e][1], self.advance(p[1], e)) == pair and least[p] + self.chart.steps[e][2] == least[pair]]
+
+    def settled(self, cost, least):
+        """How many pairs the guided search settles: those with a sum below the cost, and the pairs on the way to the goal pair."""
+        totals = {p: self.total(p, least) for p in least}
+        possible = {p for p in least if totals[p] is not None and totals[p] <= cost}
+        [goal] = [p for p in possible if p[0] == self.chart.end and self.finish(p[1]) == 1]
+        chain = [goal]
+        while chain[-1] != (self.chart.start, self.diagram.root):
+            [previous] = self.before(chain[-1], least)
+            chain.append(previous)
+        forced = {p for p in possible if totals[p] < cost} | set(chain)
+        assert forced == possible, "the settled count is free"
+        return len(forced)
+
+    def lines(self):
+        plans = [way for stage, way in self.ways() if self.legal(stage, way)]
+        if not plans:
+            return ["refused 8 file 0 place 0"]
+        cost = min(map(self.cost, plans))
+        [plan] = [way for way in plans if self.cost(way) == cost]
+        least = self.reached()
+        counts = f"settled {self.settled(cost, least)} reached {len(least)}"
+        return [f"cost {cost}"] + [f"step {e}" for e in plan] + [counts]
+
+
+# ---- the cases
+
+DOCUMENT_CHART = Chart(5, 0, 4, ((0, 1, 40), (0, 1, 90), (1, 2, 200), (1, 3, 30), (2, 3, 20), (3, 4, 50)))
+DOCUMENT_RULES = Diagram(3, ((2, 0, 1), (0, 1, 2)))  # step 0 needs step 2
+DOCUMENT_LINES = ["cost 170", "step 1", "step 3", "step 5", "settled 4 reached 6"]
+CHART, RULES = DOCUMENT_CHART.file(), DOCUMENT_RULES.file()
+
+ANYTHING = Diagram(1)  # every set of steps is allowed
+ONE_STAGE = Chart(1, 0, 0)
+
+
+def line_chart(stages, cost):
+    """One step from each stage to the next."""
+    return Chart(stages, 0, stages - 1, tuple((s, s + 1, cost(s)) for s in range(stages - 1)))
+
+
+def forked_chart(stages):
+    """A line in which each of the last 15 steps has a dearer one beside it, with the higher number; the eighth costs least more."""
+    steps = []
+    for s in range(stages - 1):
+        fork = s - (stages - 16)
+        steps += [(s, s + 1, 10 + s % 7)] + [(s, s + 1, 100 + 3 * abs(fork - 7) + s % 7)] * (fork >= 0)
+    return Chart(stages, 0, stages - 1, tuple(steps))
+
+
+def odd_of(chosen):
+    """The diagram that says yes where an odd number of the chosen steps is taken: two nodes for each step, for even and odd so far."""
+    nodes, even, odd = [], 0, 1
+    for at_step in sorted(chosen, reverse=True):
+        nodes += [(at_step, even, odd), (at_step, odd, even)]
+        even, odd = len(nodes), len(nodes) + 1
+    return Diagram(even, tuple(nodes))
+
+
+def all_of(conditions):
+    """The diagram of conditions, sorted by step: each a step, and whether it must be taken or must not."""
+    nodes, below = [], 1
+    for at_step, taken in reversed(conditions):
+        nodes.append((at_step, 0, below) if taken else (at_step, below, 0))
+        below = len(nodes) + 1
+    return Diagram(below, tuple(nodes))
+
+
+FULL, TOO_WIDE = forked_chart(128), forked_chart(129)
+
+
+def dearer(chart):
+    """The numbers of the dearer steps of a forked chart."""
+    return [e for e, s in enumerate(chart.steps) if s[2] >= 100]
+
+
+def bad_chart(fields, line):
+    return head(5, 0, 4) + fields, RULES, line
+
+
+def bad_rules(fields, line, at=3):
+    return CHART, root(at) + fields, line
+
+
+STEP_0, NODE_2 = step(0, 1, 40), node(2, 0, 1)
+
+# each case: what it shows, the chart, the diagram, and the line of a refusal. A file is a Chart or a Diagram, bytes, None (missing) or "folder"
+CASES = [
+    ("document 01's chart", DOCUMENT_CHART, DOCUMENT_RULES),
+    ("the header of a step is cut", *bad_chart(STEP_0 + b"\x02\x08", "refused 1 file 1 place 20")),
+    ("the body of a step is cut", CHART[:-1], RULES, "refused 1 file 1 place 64"),
+    ("the header of the chart's head is cut", b"\x01", RULES, "refused 1 file 1 place 0"),
+    ("the body of the chart's head is cut", CHART[:8], RULES, "refused 1 file 1 place 0"),
+    ("the header of a node is cut", *bad_rules(NODE_2 + b"\x12", "refused 1 file 2 place 14")),
+    ("the body of a node is cut", CHART, RULES[:-1], "refused 1 file 2 place 14"),
+    ("the body of the diagram's head is cut", CHART, RULES[:4], "refused 1 file 2 place 0"),
+    ("the chart is empty", b"", RULES, "refused 2 file 1 place 0"),
+    ("the diagram is empty", CHART, b"", "refused 2 file 2 place 0"),
+    ("the chart is missing", None, RULES, "refused 2 file 1 place 0"),
+    ("the diagram is missing", CHART, None, "refused 2 file 2 place 0"),
+    ("both are missing", None, None, "refused 2 file 1 place 0"),
+    ("the chart is a folder", "folder", RULES, "refused 2 file 1 place 0"),
+    ("the files are exchanged", RULES, CHART, "refused 2 file 1 place 0"),
+    ("the chart's tag 03", *bad_chart(STEP_0 + field(0x03, bytes(8)), "refused 2 file 1 place 20")),
+    ("the diagram's tag 02", *bad_rules(NODE_2 + field(0x02, bytes(6)), "refused 2 file 2 place 14")),
+    ("a second head of the chart", *bad_chart(STEP_0 + head(5, 0, 4), "refused 2 file 1 place 20")),
+    ("a second head of the diagram", *bad_rules(root(1), "refused 2 file 2 place 5")),
+    ("a step before the head", STEP_0 + CHART, RULES, "refused 2 file 1 place 0"),
+    ("a node before the head", CHART, NODE_2 + RULES, "refused 2 file 2 place 0"),
+    ("a step of 9 bytes", *bad_chart(STEP_0 + field(0x02, bytes(9)), "refused 3 file 1 place 20")),
+    ("the length before the cut", *bad_chart(field(0x02, b"", length=2048), "refused 3 file 1 place 9")),
+    ("a chart's head of 5 bytes", field(0x01, bytes(5)), RULES, "refused 3 file 1 place 0"),
+    ("a node of 5 bytes", *bad_rules(NODE_2 + field(0x12, bytes(5)), "refused 3 file 2 place 14")),
+    ("a diagram's head of 3 bytes", CHART, field(0x11, bytes(3)), "refused 3 file 2 place 0"),
+    ("no stages", head(0, 0, 0), RULES, "refused 4 file 1 place 0"),
+    ("257 stages", head(257, 0, 4), RULES, "refused 4 file 1 place 0"),
+    ("the start is no stage", head(5, 5, 4), RULES, "refused 4 file 1 place 0"),
+    ("the end is no stage", head(5, 0, 5), RULES, "refused 4 file 1 place 0"),
+    ("cost 1,000,001", *bad_chart(STEP_0 + step(0, 1, 1000001), "refused 5 file 1 place 20")),
+    ("cost 1,000,000 passes", Chart(2, 0, 1, ((0, 1, 1000000),)), ANYTHING),
+    ("a step to its own stage", *bad_chart(step(1, 1, 40), "refused 5 file 1 place 9")),
+    ("a step past the stages", *bad_chart(step(0, 5, 40), "refused 5 file 1 place 9")),
+    ("a step from an earlier stage", *bad_chart(step(1, 2, 40) + step(0, 1, 40), "refused 5 file 1 place 20")),
+    ("1,024 steps pass", Chart(2, 0, 1, tuple((0, 1, 2000 - e) for e in range(1024))), ANYTHING),
+    ("the 1,025th step, in a longer file", *bad_chart(STEP_0 * 1600, "refused 5 file 1 place 11273")),
+    ("a chart of 16,384 bytes", *bad_chart((STEP_0 * 1600)[:READ - HEAD], "refused 5 file 1 place 11273")),
+    ("a node whose step is not in the chart", *bad_rules(node(6, 0, 1), "refused 6 file 2 place 5")),
+    ("a node that is its own lo", *bad_rules(NODE_2 + node(0, 3, 1), "refused 6 file 2 place 14")),
+    ("a hi with the same step", *bad_rules(NODE_2 + node(2, 0, 2), "refused 6 file 2 place 14")),
+    ("a root that is no node", CHART, root(4) + node(2, 0, 1) + node(0, 1, 2), "refused 6 file 2 place 0"),
+    ("a faulty node before the root", *bad_rules(node(6, 0, 1), "refused 6 file 2 place 5", at=9)),
+    ("the chart before the diagram", head(0, 0, 0), b"", "refused 4 file 1 place 0"),
+    ("510 inner nodes pass, 8 stages", line_chart(8, lambda s: s + 1), Diagram(511, ((6, 0, 1),) * 510)),
+    ("the 511th node, in a longer file", *bad_rules(NODE_2 * 2000, "refused 6 file 2 place 4595")),
+    ("129 stages, N 32", TOO_WIDE, odd_of(dearer(TOO_WIDE)), "refused 7 file 0 place 0"),
+    ("128 stages, N 32", FULL, odd_of(dearer(FULL))),
+    ("two steps that no way has both of", DOCUMENT_CHART, all_of([(0, True), (1, True)])),
+    ("one stage, no steps, root 1", ONE_STAGE, ANYTHING),
+    ("the same with root 0", ONE_STAGE, Diagram(0)),
+    ("a goal pair whose node is inner", Chart(3, 0, 2, ((0, 2, 5), (1, 2, 1))), Diagram(2, ((1, 1, 0),))),
+    ("the end before the start", Chart(2, 1, 0), ANYTHING),
+    ("256 stages, 255 steps, N 16", line_chart(256, lambda s: 1000000), all_of([(e * 18, True) for e in range(14)])),
+]
+
+# what document 01 says of its own examples, by the case's title
+STATED = {
+    "document 01's chart": DOCUMENT_LINES,
+    "one stage, no steps, root 1": ["cost 0", "settled 1 reached 1"],
+    "the same with root 0": ["refused 8 file 0 place 0"],
+    "a goal pair whose node is inner": ["cost 5", "step 0", "settled 2 reached 2"],
+    "the end before the start": ["refused 8 file 0 place 0"],
+}
+
+
+def expected(title, chart, rules, refusal=None):
+    lines = [refusal] if refusal else Planned(chart, rules).lines()
+    assert lines == STATED.get(title, lines), (title, lines)
+    return lines
+
+
+# ---- writing and comparing
+
+def case_files(folder, chart, rules):
+    """The files of one folder; one that is missing has none, and one that is a folder has a file in it."""
+    files = {}
+    for name, content in (("chart.bin", chart), ("rules.bin", rules)):
+        if content == "folder":
+            files[f"{folder}/{name}/file"] = b""
+        elif content is not None:
+            files[f"{folder}/{name}"] = content if isinstance(content, bytes) else content.file()
+    return files
+
+
+def all_files():
+    files = {}
+    output = ""
+    for i, (title, chart, rules, *refusal) in enumerate(CASES, 1):
+        files |= case_files(f"crates/plan_run/data/{i:02}", chart, rules)
+        output += "\n".join([f"case {i:02}"] + expected(title, chart, rules, *refusal)) + "\n"
+    files["crates/plan_run/stdout"] = output.encode()
+    files |= case_files("crates/plan/data", CHART, RULES)
+    files["crates/plan/stdout"] = ("\n".join(DOCUMENT_LINES) + "\n").encode()
+    return files | case_files("example", CHART, RULES)
+
+
+def stored():
+    """What stands in the repository at these places."""
+    found = [ROOT / "crates/plan/stdout", ROOT / "crates/plan_run/stdout"]
+    for folder in ("example", "crates/plan/data", "crates/plan_run/data"):
+        found += (ROOT / folder).rglob("*")
+    return {str(f.relative_to(ROOT)): f.read_bytes() for f in found if f.is_file()}
+
+
+def write(files):
+    for folder in ("crates/plan/data", "crates/plan_run/data"):
+        shutil.rmtree(ROOT / folder, ignore_errors=True)
+    for name, content in files.items():
+        (ROOT / name).parent.mkdir(parents=True, exist_ok=True)
+        (ROOT / name).write_bytes(content)
+
+
+def main():
+    files = all_files()
+    if sys.argv[1:] not in ([], ["--check"]):
+        sys.exit(__doc__)
+    if not sys.argv[1:]:
+        write(files)
+    old = stored()
+    wrong = sorted(name for name in files.keys() | old.keys() if files.get(name) != old.get(name))
+    told = re.search(r"const CASES: u8 = (\d+);", (ROOT / "crates/plan_run/src/main.rt").read_text())
+    if not told or int(told[1]) != len(CASES):
+        wrong.append(f"crates/plan_run/src/main.rt: CASES is {len(CASES)}")
+    print("\n".join(wrong) if wrong else f"{len(files)} files, {len(CASES)} cases: all as they should be")
+    sys.exit(1 if wrong else 0)
+
+
+if __name__ == "__main__":
+    main()
