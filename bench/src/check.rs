@@ -3,7 +3,7 @@
 
 mod log;
 
-use crate::planner::{Answer, GuidedSlices, SweepSlices};
+use crate::planner::{Answer, GuidedSlices, Space, SweepSlices};
 use crate::reference::rules::verdict;
 use crate::reference::ways::{cost_of, is_plan, set_of};
 use crate::reference::{self, Expected, Facts, Judged};
@@ -93,14 +93,53 @@ pub fn guided(
     check_plan(facts, &before.plan, &after.plan, answer)
 }
 
-/// Checks the bytes that a refused-field call handed back.
-pub fn refused_field(chart: &[u8], rules: &[u8], mark: u32, place: u32, found: &[u8]) -> Checked {
+/// Checks that the answers of both searches, each checked by itself, agree.
+pub fn agreement(sweep: Answer, guided: Answer) -> Checked {
+    if sweep.number == 7 || guided.number == 7 {
+        return Ok(());
+    }
+    let alike = (sweep.number, sweep.cost) == (guided.number, guided.cost);
+    demand(alike, "both give a legal plan where one exists, at equal cost", || {
+        format!("{sweep:?}, {guided:?}")
+    })?;
+    demand(guided.count <= sweep.count, "the guided count is never more than the sweep's", || {
+        format!("{} and {}", guided.count, sweep.count)
+    })
+}
+
+/// Checks the space that two files are said to need.
+pub fn space(judged: &Judged, found: Space) -> Checked {
+    let want = reference::space_needed(judged);
+    let sentence = if want.number == 0 { number_sentence(7) } else { number_sentence(want.number) };
+    demand(found == want, sentence, || format!("{found:?} and not {want:?}"))
+}
+
+/// A refused-field call: where the field is, and what is lent.
+#[derive(Clone, Copy, Debug)]
+pub struct FieldCall<'a> {
+    pub chart: &'a [u8],
+    pub rules: &'a [u8],
+    pub mark: u32,
+    pub place: usize,
+}
+
+/// Checks the length that a refused-field call gave and the lent slice: the field's bytes as far as
+/// they fit, and the rest as it was.
+pub fn refused_field(call: FieldCall, before: &[u8], after: &[u8], length: usize) -> Checked {
+    let FieldCall { chart, rules, mark, place } = call;
     let sentence = match mark {
         1 | 2 => "three header bytes and the body by its length, cut at the file's end",
         _ => "a file mark other than 1 and 2, gives an empty part of the chart",
     };
     let want = reference::refused_field(chart, rules, mark, place);
-    same(sentence, &format!("field at mark {mark} place {place}"), want, found)
+    let name = format!("field at mark {mark} place {place}");
+    demand(length == want.len(), sentence, || {
+        format!("{name} has length {length} and not {}", want.len())
+    })?;
+    demand(after.len() == before.len(), STAY, || format!("{name} changed its length"))?;
+    let fits = length.min(before.len());
+    same(sentence, &name, &want[..fits], &after[..fits])?;
+    same(STAY, &name, &before[fits..], &after[fits..])
 }
 
 fn check_answer(expected: &Expected, answer: Answer, count_sentence: &str) -> Checked {

@@ -3,11 +3,11 @@
 use std::panic::{catch_unwind, AssertUnwindSafe};
 
 use crate::cases::Case;
-use crate::check;
+use crate::check::{self, FieldCall};
 use crate::files::{read_both, Problem};
 use crate::generate::Random;
 use crate::planner::{Answer, GuidedSlices, Planner, SweepSlices};
-use crate::reference::{Facts, Judged};
+use crate::reference::{self, Facts, Judged};
 
 /// Charts with more ways than this from some stage are judged by dynamic programming alone.
 const WAYS: usize = 600;
@@ -29,6 +29,39 @@ pub struct Outcome {
     pub number: u32,
     /// Whether the reference's two methods were compared.
     pub enumerated: bool,
+    /// Of files that pass.
+    pub features: Option<Features>,
+}
+
+/// What a sound chart and diagram have.
+#[derive(Clone, Copy, Debug, Default, PartialEq, Eq)]
+pub struct Features {
+    pub stages: usize,
+    pub nodes: usize,
+    /// Equal sums leave the guided count open.
+    pub tie: bool,
+    pub zero_cost: bool,
+    /// A reached stage from which no way leads to the end.
+    pub dead_end: bool,
+    pub start_above_end: bool,
+}
+
+impl Features {
+    pub fn of(facts: &Facts) -> Features {
+        let Problem { chart, diagram } = &facts.problem;
+        let (fewest, most) = facts.settled_range();
+        let is_dead_end = |(pair, cost): (usize, &Option<u32>)| {
+            cost.is_some() && facts.chart_estimate[pair / facts.references()].is_none()
+        };
+        Features {
+            stages: usize::from(chart.stages),
+            nodes: diagram.nodes.len(),
+            tie: fewest < most,
+            zero_cost: chart.steps.iter().any(|step| step.cost == 0),
+            dead_end: facts.least.iter().enumerate().any(is_dead_end),
+            start_above_end: chart.start > chart.end,
+        }
+    }
 }
 
 /// Runs every call of every implementation on a case.
@@ -42,12 +75,15 @@ pub fn run(case: &Case, planners: &[Box<dyn Planner>]) -> Result<Outcome, Differ
     for planner in planners {
         let answer = run_sweep(case, &judged, planner.as_ref(), &sweep_slices)?;
         run_guided(case, &judged, planner.as_ref(), &guided_slices)?;
+        run_both(case, &judged, planner.as_ref(), (&sweep_slices, &guided_slices))?;
+        run_space(case, &judged, planner.as_ref())?;
         for place in &places {
-            run_refused_field(case, planner.as_ref(), *place)?;
+            run_refused_field(case, planner.as_ref(), *place, &mut random)?;
         }
         number = answer.number;
     }
-    Ok(Outcome { number, enumerated })
+    let features = judged.as_ref().ok().map(Features::of);
+    Ok(Outcome { number, enumerated, features })
 }
 
 /// The reference's judgement; on small problems both of its methods must agree.
@@ -102,16 +138,48 @@ fn run_guided(
     Ok(answer)
 }
 
+fn run_both(
+    case: &Case,
+    judged: &Judged,
+    planner: &dyn Planner,
+    before: (&SweepSlices, &GuidedSlices),
+) -> Result<(), Difference> {
+    let (mut sweep, mut guided) = (before.0.clone(), before.1.clone());
+    let answers = guarded(planner, "both", || {
+        planner.both(&case.chart, &case.rules, &mut sweep, &mut guided)
+    })?;
+    let Some((swept, found)) = answers else { return Ok(()) };
+    check::sweep(judged, before.0, &sweep, swept)
+        .and_then(|()| check::guided(judged, before.1, &guided, found))
+        .and_then(|()| check::agreement(swept, found))
+        .map_err(|text| Difference { planner: planner.name(), call: "both", text })
+}
+
+fn run_space(case: &Case, judged: &Judged, planner: &dyn Planner) -> Result<(), Difference> {
+    let call = "space needed";
+    let found = guarded(planner, call, || planner.space_needed(&case.chart, &case.rules))?;
+    let Some(found) = found else { return Ok(()) };
+    check::space(judged, found).map_err(|text| Difference { planner: planner.name(), call, text })
+}
+
+/// Lends a slice of any length from none to more than the field has.
 fn run_refused_field(
     case: &Case,
     planner: &dyn Planner,
-    (mark, place): (u32, u32),
+    (mark, place): (u32, usize),
+    random: &mut Random,
 ) -> Result<(), Difference> {
     let call = "refused field";
-    let found =
-        guarded(planner, call, || planner.refused_field(&case.chart, &case.rules, mark, place))?;
-    let Some(found) = found else { return Ok(()) };
-    check::refused_field(&case.chart, &case.rules, mark, place, &found).map_err(|text| Difference {
+    let field = FieldCall { chart: &case.chart, rules: &case.rules, mark, place };
+    let whole = reference::refused_field(&case.chart, &case.rules, mark, place).len();
+    let lent = random.pick(&[0, whole.saturating_sub(1), whole, whole + 1, whole + 5]);
+    let before: Vec<u8> = (0..lent).map(|_| random.word() as u8).collect();
+    let mut after = before.clone();
+    let length = guarded(planner, call, || {
+        planner.refused_field(&case.chart, &case.rules, mark, place, &mut after)
+    })?;
+    let Some(length) = length else { return Ok(()) };
+    check::refused_field(field, &before, &after, length).map_err(|text| Difference {
         planner: planner.name(),
         call,
         text,
@@ -132,17 +200,18 @@ fn guarded<T>(
 }
 
 /// Marks and places for the refused field: the fault itself, ends, and random ones.
-fn places(case: &Case, judged: &Judged, random: &mut Random) -> Vec<(u32, u32)> {
-    let mut places = vec![(1, u32::MAX), (2, u32::MAX)];
+fn places(case: &Case, judged: &Judged, random: &mut Random) -> Vec<(u32, usize)> {
+    let far = random.pick(&[usize::MAX, usize::MAX - 2, 1 << 32, 1 << 63, u32::MAX as usize]);
+    let mut places = vec![(1, far), (2, far)];
     if let Err(fault) = judged {
         places.push((fault.file, fault.place));
     }
     for (mark, file) in [(1, &case.chart), (2, &case.rules)] {
-        let end = file.len() as u32;
+        let end = file.len();
         places.extend([(mark, 0), (mark, end), (mark, end.saturating_sub(1)), (mark, end + 1)]);
-        places.push((mark, random.below(file.len() + 3) as u32));
+        places.push((mark, random.below(end + 3)));
     }
-    places.extend([0, 3, 257, u32::MAX].map(|mark| (mark, random.below(8) as u32)));
+    places.extend([0, 3, 257, u32::MAX].map(|mark| (mark, random.below(8))));
     places
 }
 

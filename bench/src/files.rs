@@ -92,12 +92,12 @@ impl Problem {
 pub struct Refusal {
     pub number: u32,
     pub file: u32,
-    pub place: u32,
+    pub place: usize,
 }
 
 impl Refusal {
     fn at(number: u32, file: u32, place: usize) -> Refusal {
-        Refusal { number, file, place: place as u32 }
+        Refusal { number, file, place }
     }
 }
 

@@ -21,5 +21,8 @@ pub mod saved;
 
 pub mod loads;
 pub mod measure;
+pub mod page;
 pub mod plot;
 pub mod report;
+pub mod stack;
+pub mod stacks;

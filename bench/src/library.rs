@@ -1,72 +1,46 @@
-//! The planner's static library as one more implementation (feature `library`). Nothing checks
-//! these declarations against the library's own: they must be changed together.
-//!
-//! A slice goes over as a pointer and a length in entries. An answer comes back in a lent slice of
-//! six numbers: number, file, place, cost, length, count. The refused field is copied into a lent
-//! buffer, and the number of its bytes comes back.
+//! The planner's static library as one more implementation (feature `library`), by the wrapper crate
+//! in `rust/`. What a call returns besides its answer is checked here; a panic counts as a difference.
 
-use crate::planner::{Answer, GuidedSlices, Planner, SweepSlices};
+use planner::lent;
 
-extern "C" {
-    fn planner_sweep(
-        chart: *const u8,
-        chart_len: usize,
-        rules: *const u8,
-        rules_len: usize,
-        cost: *mut u32,
-        cost_len: usize,
-        via: *mut u32,
-        via_len: usize,
-        nodes: *mut u32,
-        nodes_len: usize,
-        plan: *mut u16,
-        plan_len: usize,
-        answer: *mut u32,
-        answer_len: usize,
-    );
-
-    fn planner_guided(
-        chart: *const u8,
-        chart_len: usize,
-        rules: *const u8,
-        rules_len: usize,
-        keys: *mut u32,
-        keys_len: usize,
-        via: *mut u32,
-        via_len: usize,
-        heap: *mut u32,
-        heap_len: usize,
-        pos: *mut u32,
-        pos_len: usize,
-        stack: *mut u32,
-        stack_len: usize,
-        log: *mut u32,
-        log_len: usize,
-        plan: *mut u16,
-        plan_len: usize,
-        answer: *mut u32,
-        answer_len: usize,
-    );
-
-    fn planner_refused_field(
-        chart: *const u8,
-        chart_len: usize,
-        rules: *const u8,
-        rules_len: usize,
-        file: u32,
-        place: u32,
-        field: *mut u8,
-        field_len: usize,
-    ) -> usize;
-}
-
-fn answer_of(numbers: [u32; 6]) -> Answer {
-    let [number, file, place, cost, length, count] = numbers;
-    Answer { number, file, place, cost, length, count }
-}
+use crate::planner::{Answer, GuidedSlices, Planner, Space, SweepSlices};
 
 /// The linked library.
 pub struct Library;
+
+/// An answer before the call, so that an entry that isn't written shows.
+const UNWRITTEN: lent::Answer = lent::Answer {
+    number: usize::MAX,
+    file: usize::MAX,
+    place: usize::MAX,
+    cost: usize::MAX,
+    length: usize::MAX,
+    count: usize::MAX,
+};
+
+/// The answer, with the number that the call returned.
+fn answer_of(returned: u32, answer: lent::Answer) -> Answer {
+    assert_eq!(returned as usize, answer.number, "returned number, {answer:?}");
+    let narrow = |entry: usize| u32::try_from(entry).expect("an entry of at most 32 bits");
+    Answer {
+        number: returned,
+        file: narrow(answer.file),
+        place: answer.place,
+        cost: narrow(answer.cost),
+        length: narrow(answer.length),
+        count: narrow(answer.count),
+    }
+}
+
+fn lend_sweep(lent: &mut SweepSlices) -> lent::SweepSlices<'_> {
+    let SweepSlices { cost, via, nodes, plan } = lent;
+    lent::SweepSlices { cost, via, nodes, plan }
+}
+
+fn lend_guided(lent: &mut GuidedSlices) -> lent::GuidedSlices<'_> {
+    let GuidedSlices { keys, via, heap, pos, stack, log, plan } = lent;
+    lent::GuidedSlices { keys, via, heap, pos, stack, log, plan }
+}
 
 impl Planner for Library {
     fn name(&self) -> &'static str {
@@ -74,78 +48,63 @@ impl Planner for Library {
     }
 
     fn sweep(&self, chart: &[u8], rules: &[u8], lent: &mut SweepSlices) -> Answer {
-        let SweepSlices { cost, via, nodes, plan } = lent;
-        let mut answer = [u32::MAX; 6];
-        // SAFETY: every pointer comes with the length of the live slice it belongs to, and the
-        // mutable ones are of different slices.
-        unsafe {
-            planner_sweep(
-                chart.as_ptr(),
-                chart.len(),
-                rules.as_ptr(),
-                rules.len(),
-                cost.as_mut_ptr(),
-                cost.len(),
-                via.as_mut_ptr(),
-                via.len(),
-                nodes.as_mut_ptr(),
-                nodes.len(),
-                plan.as_mut_ptr(),
-                plan.len(),
-                answer.as_mut_ptr(),
-                answer.len(),
-            );
-        }
-        answer_of(answer)
+        let mut answer = UNWRITTEN;
+        let returned = lent::sweep(chart, rules, lend_sweep(lent), &mut answer);
+        answer_of(returned, answer)
     }
 
     fn guided(&self, chart: &[u8], rules: &[u8], lent: &mut GuidedSlices) -> Answer {
-        let GuidedSlices { keys, via, heap, pos, stack, log, plan } = lent;
-        let mut answer = [u32::MAX; 6];
-        // SAFETY: as for the sweep.
-        unsafe {
-            planner_guided(
-                chart.as_ptr(),
-                chart.len(),
-                rules.as_ptr(),
-                rules.len(),
-                keys.as_mut_ptr(),
-                keys.len(),
-                via.as_mut_ptr(),
-                via.len(),
-                heap.as_mut_ptr(),
-                heap.len(),
-                pos.as_mut_ptr(),
-                pos.len(),
-                stack.as_mut_ptr(),
-                stack.len(),
-                log.as_mut_ptr(),
-                log.len(),
-                plan.as_mut_ptr(),
-                plan.len(),
-                answer.as_mut_ptr(),
-                answer.len(),
-            );
-        }
-        answer_of(answer)
+        let mut answer = UNWRITTEN;
+        let returned = lent::guided(chart, rules, lend_guided(lent), &mut answer);
+        answer_of(returned, answer)
     }
 
-    fn refused_field(&self, chart: &[u8], rules: &[u8], file: u32, place: u32) -> Option<Vec<u8>> {
-        let mut field = vec![0xa5; chart.len().max(rules.len())];
-        // SAFETY: as for the sweep; a field is never longer than the file it is cut from.
-        let length = unsafe {
-            planner_refused_field(
-                chart.as_ptr(),
-                chart.len(),
-                rules.as_ptr(),
-                rules.len(),
-                file,
-                place,
-                field.as_mut_ptr(),
-                field.len(),
-            )
+    fn both(
+        &self,
+        chart: &[u8],
+        rules: &[u8],
+        sweep: &mut SweepSlices,
+        guided: &mut GuidedSlices,
+    ) -> Option<(Answer, Answer)> {
+        let (mut swept, mut found) = (UNWRITTEN, UNWRITTEN);
+        let answers = (&mut swept, &mut found);
+        let returned = lent::both(chart, rules, lend_sweep(sweep), lend_guided(guided), answers);
+        Some((answer_of(swept.number as u32, swept), answer_of(returned, found)))
+    }
+
+    fn space_needed(&self, chart: &[u8], rules: &[u8]) -> Option<Space> {
+        let unwritten = usize::MAX;
+        let mut space = lent::Space {
+            number: unwritten,
+            file: unwritten,
+            place: unwritten,
+            work: unwritten,
+            plan: unwritten,
         };
-        field.truncate(length);
-        Some(field)
+        let returned = lent::space_needed(chart, rules, &mut space);
+        let lent::Space { number, file, place, work, plan } = space;
+        assert_eq!(returned as usize, number, "returned number, {space:?}");
+        let file = u32::try_from(file).expect("a file mark");
+        Some(Space { number: returned, file, place, work, plan })
+    }
+
+    fn refused_field(
+        &self,
+        chart: &[u8],
+        rules: &[u8],
+        file: u32,
+        place: usize,
+        field: &mut [u8],
+    ) -> Option<usize> {
+        let length = lent::refused_field(chart, rules, file, place, field);
+        let (mark, bytes) = match file {
+            1 => (planner::File::Chart, chart),
+            2 => (planner::File::Rules, rules),
+            _ => return Some(length),
+        };
+        let part = planner::refused_field(chart, rules, mark, place);
+        let owner = if part.is_empty() { &chart[..0] } else { &bytes[place..place + length] };
+        assert!(std::ptr::eq(part, owner), "the part of the caller's own slice");
+        Some(length)
     }
 }

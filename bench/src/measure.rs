@@ -73,6 +73,11 @@ pub struct Measured {
 }
 
 impl Measured {
+    /// What is lent to both searches: nine work slices of 32 bits, two plan slices of 16.
+    pub fn lent_bytes(&self) -> usize {
+        9 * 4 * self.pairs + 2 * 2 * (self.stages - 1)
+    }
+
     pub fn timing(&self, planner: &str, search: Search) -> Option<&Timing> {
         self.timings.iter().find(|t| t.planner == planner && t.search == search)
     }

@@ -1,11 +1,12 @@
-//! What every implementation offers: both searches and the refused field, over lent slices.
+//! What every implementation offers: both searches over lent slices, and, where it has them, both in
+//! one call, the space that they need and the refused field.
 
 /// The answer of a search.
 #[derive(Clone, Copy, Debug, Default, PartialEq, Eq)]
 pub struct Answer {
     pub number: u32,
     pub file: u32,
-    pub place: u32,
+    pub place: usize,
     pub cost: u32,
     pub length: u32,
     pub count: u32,
@@ -18,13 +19,25 @@ impl Answer {
 
     /// 1 to 7: a fault of a file or of a slice.
     pub fn refused(number: u32, file: u32, place: usize) -> Answer {
-        Answer { number, file, place: place as u32, ..Answer::default() }
+        Answer { number, file, place, ..Answer::default() }
     }
 
     /// 8: no legal plan.
     pub fn no_plan(count: usize) -> Answer {
         Answer { number: 8, count: count as u32, ..Answer::default() }
     }
+}
+
+/// What a call answers that is asked for the space of two files.
+#[derive(Clone, Copy, Debug, Default, PartialEq, Eq)]
+pub struct Space {
+    pub number: u32,
+    pub file: u32,
+    pub place: usize,
+    /// Entries of each work slice.
+    pub work: usize,
+    /// Entries of a plan slice.
+    pub plan: usize,
 }
 
 /// The slices lent to a sweep.
@@ -41,6 +54,12 @@ pub struct SweepSlices {
 }
 
 impl SweepSlices {
+    /// So many entries in each work slice and in the plan slice, all 0.
+    pub fn of(work: usize, plan: usize) -> SweepSlices {
+        let slice = || vec![0; work];
+        SweepSlices { cost: slice(), via: slice(), nodes: slice(), plan: vec![0; plan] }
+    }
+
     pub fn work_lengths(&self) -> [usize; 3] {
         [self.cost.len(), self.via.len(), self.nodes.len()]
     }
@@ -71,6 +90,20 @@ pub struct GuidedSlices {
 }
 
 impl GuidedSlices {
+    /// So many entries in each work slice and in the plan slice, all 0.
+    pub fn of(work: usize, plan: usize) -> GuidedSlices {
+        let slice = || vec![0; work];
+        GuidedSlices {
+            keys: slice(),
+            via: slice(),
+            heap: slice(),
+            pos: slice(),
+            stack: slice(),
+            log: slice(),
+            plan: vec![0; plan],
+        }
+    }
+
     pub fn work_lengths(&self) -> [usize; 6] {
         [
             self.keys.len(),
@@ -95,31 +128,50 @@ impl GuidedSlices {
 }
 
 /// One implementation of the planner.
-pub trait Planner {
+pub trait Planner: Send + Sync {
     fn name(&self) -> &'static str;
 
     fn sweep(&self, chart: &[u8], rules: &[u8], lent: &mut SweepSlices) -> Answer;
 
     fn guided(&self, chart: &[u8], rules: &[u8], lent: &mut GuidedSlices) -> Answer;
 
-    /// The bytes of a refused field; none where an implementation has no such call.
+    /// Both searches, each on its own slices: the sweep's answer, then the guided search's. None
+    /// where an implementation has no such call.
+    fn both(
+        &self,
+        _chart: &[u8],
+        _rules: &[u8],
+        _sweep: &mut SweepSlices,
+        _guided: &mut GuidedSlices,
+    ) -> Option<(Answer, Answer)> {
+        None
+    }
+
+    /// The space that both files need; none where an implementation has no such call.
+    fn space_needed(&self, _chart: &[u8], _rules: &[u8]) -> Option<Space> {
+        None
+    }
+
+    /// Copies the bytes of a refused field to the front of a lent slice as far as they fit, and
+    /// gives the field's whole length; none where an implementation has no such call.
     fn refused_field(
         &self,
         _chart: &[u8],
         _rules: &[u8],
         _file: u32,
-        _place: u32,
-    ) -> Option<Vec<u8>> {
+        _place: usize,
+        _field: &mut [u8],
+    ) -> Option<usize> {
         None
     }
 }
 
-/// Every implementation of this build.
+/// Every implementation of this build, the linked library first.
 pub fn all() -> Vec<Box<dyn Planner>> {
     vec![
-        Box::new(crate::same::Same),
-        Box::new(crate::textbook::Textbook),
         #[cfg(feature = "library")]
         Box::new(crate::library::Library),
+        Box::new(crate::same::Same),
+        Box::new(crate::textbook::Textbook),
     ]
 }

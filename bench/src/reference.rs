@@ -8,6 +8,7 @@ pub mod ways;
 pub use facts::{Cheapest, Facts};
 
 use crate::files::{read_both, two_bytes, Problem, Refusal, HEADER};
+use crate::planner::Space;
 
 /// The cost slice's mark for a pair that isn't reached.
 pub const UNREACHED: u32 = 4_294_967_295;
@@ -25,14 +26,14 @@ pub fn judge(chart: &[u8], rules: &[u8]) -> Judged {
 pub struct Expected {
     pub number: u32,
     pub file: u32,
-    pub place: u32,
+    pub place: usize,
     pub cost: u32,
     pub length: (u32, u32),
     pub count: (u32, u32),
 }
 
 impl Expected {
-    fn refused(number: u32, file: u32, place: u32) -> Expected {
+    fn refused(number: u32, file: u32, place: usize) -> Expected {
         Expected { number, file, place, cost: 0, length: (0, 0), count: (0, 0) }
     }
 }
@@ -67,6 +68,20 @@ fn answer(
     }
 }
 
+/// The space that two files need, or their fault: document 01's words under 7.
+pub fn space_needed(judged: &Judged) -> Space {
+    match judged {
+        Err(fault) => {
+            Space { number: fault.number, file: fault.file, place: fault.place, ..Space::default() }
+        }
+        Ok(facts) => Space {
+            work: facts.problem.pairs(),
+            plan: facts.problem.longest_plan(),
+            ..Space::default()
+        },
+    }
+}
+
 /// Whether a work slice or the plan slice holds less than is needed.
 pub fn too_short(problem: &Problem, work: &[usize], plan: usize) -> bool {
     work.iter().any(|length| *length < problem.pairs()) || plan < problem.longest_plan()
@@ -79,13 +94,12 @@ pub fn cost_slice(facts: &Facts) -> Vec<u32> {
 
 /// The bytes of the field at a place of the marked file, cut at the file's end; else an empty part
 /// of the chart.
-pub fn refused_field<'a>(chart: &'a [u8], rules: &'a [u8], mark: u32, place: u32) -> &'a [u8] {
+pub fn refused_field<'a>(chart: &'a [u8], rules: &'a [u8], mark: u32, place: usize) -> &'a [u8] {
     let file = match mark {
         1 => chart,
         2 => rules,
         _ => return &chart[..0],
     };
-    let place = place as usize;
     if place >= file.len() {
         return &chart[..0];
     }

@@ -21,15 +21,15 @@ pub fn table_rows(measured: &Measured, planners: &[&str]) -> String {
 }
 
 fn table_row(measured: &Measured, planners: &[&str], search: Search) -> String {
-    let yardstick = measured.timing(YARDSTICK, search);
-    let count = yardstick.map_or(0, |timing| timing.count);
+    let first = planners.first().and_then(|planner| measured.timing(planner, search));
+    let count = first.map_or(0, |timing| timing.count);
     let mut line =
         format!("{:<34}{:>8}{:>8}{:>9}", measured.name, measured.pairs, search.name(), count);
     for planner in planners {
         let time = measured.timing(planner, search).map_or(f64::NAN, |t| t.nanoseconds);
         line += &format!("{:>14.2}", time / 1_000.0);
     }
-    line += &format!("{:>9.1}", yardstick.map_or(f64::NAN, per_pair));
+    line += &format!("{:>9.1}", first.map_or(f64::NAN, per_pair));
     for planner in others(planners) {
         line +=
             &format!("{:>17.2}", measured.timing(planner, search).map_or(f64::NAN, |t| t.ratio));
@@ -42,7 +42,7 @@ fn others<'a>(planners: &'a [&'a str]) -> impl Iterator<Item = &'a str> {
 }
 
 /// Nanoseconds for each reached or settled pair.
-fn per_pair(timing: &Timing) -> f64 {
+pub fn per_pair(timing: &Timing) -> f64 {
     timing.nanoseconds / f64::from(timing.count.max(1))
 }
 
@@ -51,21 +51,38 @@ pub fn summary(all: &[Measured], planners: &[&str]) -> String {
     let mut lines = Vec::new();
     for planner in others(planners) {
         for search in Search::BOTH {
-            let timings = all.iter().filter_map(|measured| measured.timing(planner, search));
-            let ratios: Vec<f64> = timings.map(|timing| timing.ratio).collect();
-            if ratios.is_empty() {
-                continue;
+            if let Some(Spread { mean, least, most, loads }) = spread(all, planner, search) {
+                lines.push(format!(
+                    "{planner}/{YARDSTICK}, {}: geometric mean {mean:.2}, least {least:.2}, \
+                     largest {most:.2}, {loads} loads",
+                    search.name(),
+                ));
             }
-            let mean = (ratios.iter().map(|r| r.ln()).sum::<f64>() / ratios.len() as f64).exp();
-            let most = ratios.iter().copied().fold(0.0, f64::max);
-            lines.push(format!(
-                "{planner}/{YARDSTICK}, {}: geometric mean {mean:.2}, largest {most:.2}, {} loads",
-                search.name(),
-                ratios.len()
-            ));
         }
     }
     lines.join("\n")
+}
+
+/// The ratios of an implementation over many loads.
+pub struct Spread {
+    /// The geometric mean.
+    pub mean: f64,
+    pub least: f64,
+    pub most: f64,
+    pub loads: usize,
+}
+
+/// None where there is no load.
+pub fn spread(all: &[Measured], planner: &str, search: Search) -> Option<Spread> {
+    let timings = all.iter().filter_map(|measured| measured.timing(planner, search));
+    let ratios: Vec<f64> = timings.map(|timing| timing.ratio).collect();
+    let loads = ratios.len();
+    (loads > 0).then(|| Spread {
+        mean: (ratios.iter().map(|ratio| ratio.ln()).sum::<f64>() / loads as f64).exp(),
+        least: ratios.iter().copied().fold(f64::INFINITY, f64::min),
+        most: ratios.iter().copied().fold(0.0, f64::max),
+        loads,
+    })
 }
 
 /// All timings, one a line.

@@ -9,7 +9,7 @@ mod tables;
 pub use guided::guided;
 pub use sweep::sweep;
 
-use crate::planner::{Answer, GuidedSlices, Planner, SweepSlices};
+use crate::planner::{Answer, GuidedSlices, Planner, Space, SweepSlices};
 use tables::{Tables, BY_STAGE};
 
 /// No cost, no estimate, never opened.
@@ -48,6 +48,20 @@ fn prepare(
     Ok(())
 }
 
+/// Reads both files and tells what they need.
+pub fn space_needed(chart: &[u8], rules: &[u8]) -> Space {
+    let mut tables = Tables::new();
+    let read = tables.read_chart(chart).and_then(|()| tables.read_rules(rules));
+    match read {
+        Err(Answer { number, file, place, .. }) => Space { number, file, place, work: 0, plan: 0 },
+        Ok(()) => Space {
+            work: tables.stages * tables.references,
+            plan: tables.stages - 1,
+            ..Space::default()
+        },
+    }
+}
+
 /// Writes the plan that ends in a pair, back along `via`, and gives its length.
 fn trace_back(tables: &Tables, via: &[u32], goal: usize, plan: &mut [u16]) -> usize {
     let mut length = 0;
@@ -65,17 +79,17 @@ fn trace_back(tables: &Tables, via: &[u32], goal: usize, plan: &mut [u16]) -> us
 }
 
 /// The bytes of the field at a place of the marked file, else an empty part of the chart.
-pub fn refused_field<'a>(chart: &'a [u8], rules: &'a [u8], mark: u32, place: u32) -> &'a [u8] {
+pub fn refused_field<'a>(chart: &'a [u8], rules: &'a [u8], mark: u32, place: usize) -> &'a [u8] {
     let empty = &chart[..0];
     let file = match mark {
         1 => chart,
         2 => rules,
         _ => return empty,
     };
-    match file.get(place as usize..) {
+    match file.get(place..) {
         Some([_, low, high, body @ ..]) => {
             let length = usize::from(u16::from_le_bytes([*low, *high])).min(body.len());
-            &file[place as usize..place as usize + 3 + length]
+            &file[place..place + 3 + length]
         }
         Some([]) | None => empty,
         Some(cut) => cut,
@@ -99,7 +113,31 @@ impl Planner for Same {
         guided(chart, rules, keys, via, heap, pos, stack, log, plan)
     }
 
-    fn refused_field(&self, chart: &[u8], rules: &[u8], file: u32, place: u32) -> Option<Vec<u8>> {
-        Some(refused_field(chart, rules, file, place).to_vec())
+    fn both(
+        &self,
+        chart: &[u8],
+        rules: &[u8],
+        sweep: &mut SweepSlices,
+        guided: &mut GuidedSlices,
+    ) -> Option<(Answer, Answer)> {
+        Some((self.sweep(chart, rules, sweep), self.guided(chart, rules, guided)))
+    }
+
+    fn space_needed(&self, chart: &[u8], rules: &[u8]) -> Option<Space> {
+        Some(space_needed(chart, rules))
+    }
+
+    fn refused_field(
+        &self,
+        chart: &[u8],
+        rules: &[u8],
+        file: u32,
+        place: usize,
+        field: &mut [u8],
+    ) -> Option<usize> {
+        let bytes = refused_field(chart, rules, file, place);
+        let fits = bytes.len().min(field.len());
+        field[..fits].copy_from_slice(&bytes[..fits]);
+        Some(bytes.len())
     }
 }

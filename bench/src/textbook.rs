@@ -44,7 +44,7 @@ impl Planner for Textbook {
 
 fn prepare(chart: &[u8], rules: &[u8], work: &[usize], plan: usize) -> Result<Problem, Answer> {
     let problem = read_both(chart, rules)
-        .map_err(|fault| Answer::refused(fault.number, fault.file, fault.place as usize))?;
+        .map_err(|fault| Answer::refused(fault.number, fault.file, fault.place))?;
     let enough = work.iter().all(|length| *length >= problem.pairs());
     if !enough || plan < problem.longest_plan() {
         return Err(Answer::refused(7, 0, 0));

@@ -64,7 +64,10 @@ const SWEEP: [(&str, Falsify<SweepSlices>); 17] = [
     ("length one more", |_, a, _| changed_to(&mut a.length, 1)),
     ("length one less", |_, a, _| changed_to(&mut a.length, u32::MAX)),
     ("file set", |_, a, _| changed_to(&mut a.file, 1)),
-    ("place set", |_, a, _| changed_to(&mut a.place, 9)),
+    ("place set", |_, a, _| {
+        a.place += 9;
+        true
+    }),
     ("cries 8", |_, a, _| {
         let was = accepted(a);
         *a = Answer::no_plan(a.count as usize);
@@ -211,7 +214,7 @@ fn a_refusal_that_touches_a_slice_is_caught() {
         let case = cases.case(number);
         let judged = judge(&case.chart, &case.rules);
         let Err(fault) = judged else { continue };
-        let answer = Answer::refused(fault.number, fault.file, fault.place as usize);
+        let answer = Answer::refused(fault.number, fault.file, fault.place);
         let before = SweepSlices {
             cost: dirty(&mut random, 4),
             via: dirty(&mut random, 4),

@@ -118,7 +118,7 @@ fn the_refused_field_is_cut_at_the_files_end() {
     assert_eq!(refused_field(&chart, &rules, 1, 11), &chart[11..]);
     assert_eq!(refused_field(&chart, &rules, 1, 1), &chart[1..]);
     assert_eq!(refused_field(&chart, &rules, 2, 0), &rules);
-    for (mark, place) in [(1, 13), (2, 4), (2, u32::MAX), (0, 0), (3, 0), (258, 0)] {
+    for (mark, place) in [(1, 13), (2, 4), (2, usize::MAX), (0, 0), (3, 0), (258, 0)] {
         let part = refused_field(&chart, &rules, mark, place);
         assert!(part.is_empty());
         assert!(chart.as_ptr_range().contains(&part.as_ptr()));

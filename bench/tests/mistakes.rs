@@ -29,7 +29,7 @@ impl Planner for Mistaken {
     fn sweep(&self, chart: &[u8], rules: &[u8], lent: &mut SweepSlices) -> Answer {
         let problem = match judge(chart, rules) {
             Err(fault) => {
-                return Answer::refused(fault.number, fault.file, fault.place as usize);
+                return Answer::refused(fault.number, fault.file, fault.place);
             }
             Ok(facts) if too_short(&facts.problem, &lent.work_lengths(), lent.plan.len()) => {
                 return Answer::refused(7, 0, 0);

@@ -19,7 +19,7 @@ const RULES: [u8; 23] = [
 ];
 
 /// Demands number, file and place from the reference, and that every implementation agrees.
-fn refuses(chart: &[u8], rules: &[u8], expected: (u32, u32, u32)) {
+fn refuses(chart: &[u8], rules: &[u8], expected: (u32, u32, usize)) {
     let found = read_both(chart, rules).map(|_| "accepted");
     let fault = found.map_err(|fault| (fault.number, fault.file, fault.place));
     assert_eq!(fault, Err(expected), "chart {chart:?} rules {rules:?}");
@@ -46,11 +46,11 @@ fn edited<const N: usize>(file: &[u8; N], at: usize, bytes: &[u8]) -> Vec<u8> {
     changed
 }
 
-fn chart_refuses(chart: &[u8], number: u32, place: u32) {
+fn chart_refuses(chart: &[u8], number: u32, place: usize) {
     refuses(chart, &RULES, (number, 1, place));
 }
 
-fn rules_refuse(rules: &[u8], number: u32, place: u32) {
+fn rules_refuse(rules: &[u8], number: u32, place: usize) {
     refuses(&CHART, rules, (number, 2, place));
 }
 

@@ -1,14 +1,16 @@
 //! Times every implementation on every load.
 
 use std::fs;
-use std::path::PathBuf;
+use std::path::{Path, PathBuf};
 use std::process::ExitCode;
 
 use planner_bench::loads::{growth, standard, Load};
 use planner_bench::measure::{measure, Measured};
+use planner_bench::page::{load_average, with_figures, Run};
 use planner_bench::planner::{self, Planner};
 use planner_bench::plot::svg;
 use planner_bench::report::{csv, summary, table_head, table_rows};
+use planner_bench::stacks::{peaks, Peak};
 
 const HELP: &str = "\
 benchmark: times both searches of every implementation on every load, after their results have
@@ -16,12 +18,14 @@ been checked. Each figure is the median processor time over rounds in which all 
 in turn, from slices that hold what the calls before left in them. Reading both files is part of
 every time. A ratio is the median of the ratios within the rounds.
 
-usage: benchmark [--rounds N] [--only TEXT] [--csv FILE] [--svg FILE]
+usage: benchmark [--rounds N] [--only TEXT] [--csv FILE] [--svg FILE] [--docs DIR]
 
   --rounds N   samples for each figure (default 31)
   --only TEXT  only loads whose name has this text
   --csv FILE   where the figures are written (default benchmark.csv)
   --svg FILE   where the plot of time against pairs is written (default benchmark.svg)
+  --docs DIR   write performance.csv and performance.svg there instead, and the tables into the page
+               PERFORMANCE.md, between its two marks
   --help       this text
 
 The count is that of the first implementation: reached pairs of a sweep, settled ones of a guided
@@ -33,6 +37,7 @@ struct Options {
     only: String,
     csv: PathBuf,
     svg: PathBuf,
+    docs: Option<PathBuf>,
     help: bool,
 }
 
@@ -63,6 +68,7 @@ fn parse(mut args: impl Iterator<Item = String>) -> Result<Options, String> {
         only: String::new(),
         csv: PathBuf::from("benchmark.csv"),
         svg: PathBuf::from("benchmark.svg"),
+        docs: None,
         help: false,
     };
     while let Some(arg) = args.next() {
@@ -76,6 +82,7 @@ fn parse(mut args: impl Iterator<Item = String>) -> Result<Options, String> {
             "--only" => options.only = value()?,
             "--csv" => options.csv = PathBuf::from(value()?),
             "--svg" => options.svg = PathBuf::from(value()?),
+            "--docs" => options.docs = Some(PathBuf::from(value()?)),
             "--help" | "-h" => options.help = true,
             _ => return Err(format!("unknown argument {arg}")),
         }
@@ -84,6 +91,7 @@ fn parse(mut args: impl Iterator<Item = String>) -> Result<Options, String> {
 }
 
 fn run(options: &Options) -> Result<(), String> {
+    let busy = load_average();
     let planners = planner::all();
     let names: Vec<&str> = planners.iter().map(|planner| planner.name()).collect();
     println!("{}", table_head(&names));
@@ -93,13 +101,37 @@ fn run(options: &Options) -> Result<(), String> {
         return Err(format!("no load has \"{}\" in its name", options.only));
     }
     println!("\n{}", summary(&main, &names));
-    let all = [main, growing].concat();
-    let write = |path: &PathBuf, text: String| {
-        fs::write(path, text).map_err(|error| format!("cannot write {}: {error}", path.display()))
+    let peaks = peaks(&planners, &standard());
+    for Peak { planner, call, bytes } in &peaks {
+        println!("peak stack of {planner}, {call}: {bytes} bytes");
+    }
+    let all = [&main[..], &growing].concat();
+    let (table, plot) = match &options.docs {
+        Some(docs) => (docs.join("performance.csv"), docs.join("performance.svg")),
+        None => (options.csv.clone(), options.svg.clone()),
     };
-    write(&options.csv, csv(&all))?;
-    write(&options.svg, svg(&all, &names))?;
-    println!("written: {}, {}", options.csv.display(), options.svg.display());
+    write(&table, csv(&all))?;
+    write(&plot, svg(&all, &names))?;
+    let Some(docs) = &options.docs else { return Ok(()) };
+    let run = Run {
+        planners: &names,
+        rounds: options.rounds,
+        busy: &busy,
+        standard: &main,
+        growth: &growing,
+        peaks: &peaks,
+    };
+    let path = docs.join("PERFORMANCE.md");
+    let page = fs::read_to_string(&path)
+        .map_err(|error| format!("cannot read {}: {error}", path.display()))?;
+    let page = with_figures(&page, &run.figures())
+        .ok_or(format!("{} has no marks for the figures", path.display()))?;
+    write(&path, page)
+}
+
+fn write(path: &Path, text: String) -> Result<(), String> {
+    fs::write(path, text).map_err(|error| format!("cannot write {}: {error}", path.display()))?;
+    println!("written: {}", path.display());
     Ok(())
 }
 

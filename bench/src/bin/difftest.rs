@@ -6,13 +6,14 @@ use std::process::ExitCode;
 use std::time::Instant;
 
 use planner_bench::cases::{Case, Cases};
-use planner_bench::compare::{run, Difference, Outcome};
+use planner_bench::compare::{run, Difference, Features, Outcome};
 use planner_bench::planner::{self, Planner};
 use planner_bench::saved;
 
 const HELP: &str = "\
-difftest: runs both searches and the refused-field call of every implementation on many
-chart and diagram files and holds each result against the reference.
+difftest: runs every call of every implementation (sweep, guided search, both in one, the space
+needed, the refused field) on many chart and diagram files and holds each result against the
+reference.
 
 usage: difftest [--cases N] [--seed N] [--first N] [--save DIR] [--save-each]
        difftest --replay DIR
@@ -99,7 +100,8 @@ fn run_all(options: &Options, planners: &[Box<dyn Planner>]) -> ExitCode {
         }
     }
     tally.print();
-    println!("{} cases, no difference", tally.cases);
+    let seconds = tally.begun.elapsed().as_secs_f64();
+    println!("{} cases, no difference, {seconds:.1} s", tally.cases);
     ExitCode::SUCCESS
 }
 
@@ -169,6 +171,7 @@ struct Tally {
     enumerated: usize,
     by_kind: BTreeMap<&'static str, usize>,
     by_number: BTreeMap<u32, usize>,
+    sound: Vec<Features>,
 }
 
 impl Tally {
@@ -179,6 +182,7 @@ impl Tally {
             enumerated: 0,
             by_kind: BTreeMap::new(),
             by_number: BTreeMap::new(),
+            sound: Vec::new(),
         }
     }
 
@@ -187,6 +191,7 @@ impl Tally {
         self.enumerated += usize::from(outcome.enumerated);
         *self.by_kind.entry(case.kind).or_default() += 1;
         *self.by_number.entry(outcome.number).or_default() += 1;
+        self.sound.extend(outcome.features);
         if self.cases.is_multiple_of(PROGRESS_EVERY) {
             println!("{} cases, {:.1} s", self.cases, self.begun.elapsed().as_secs_f64());
         }
@@ -196,5 +201,26 @@ impl Tally {
         println!("by kind: {:?}", self.by_kind);
         println!("by the sweep's number: {:?}", self.by_number);
         println!("judged by enumeration as well: {}", self.enumerated);
+        self.print_sound();
+    }
+
+    /// What the sound files cover.
+    fn print_sound(&self) {
+        let range = |of: fn(&Features) -> usize| {
+            let values = || self.sound.iter().map(of);
+            format!("{} to {}", values().min().unwrap_or(0), values().max().unwrap_or(0))
+        };
+        let count = |of: fn(&&Features) -> bool| self.sound.iter().filter(of).count();
+        println!(
+            "sound files: {}, of {} stages and {} nodes; with ties {}, zero costs {}, dead ends {}, \
+             start above end {}",
+            self.sound.len(),
+            range(|f| f.stages),
+            range(|f| f.nodes),
+            count(|f| f.tie),
+            count(|f| f.zero_cost),
+            count(|f| f.dead_end),
+            count(|f| f.start_above_end)
+        );
     }
 }

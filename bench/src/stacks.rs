@@ -1,0 +1,46 @@
+//! The peak stack of every call over all loads.
+
+use crate::loads::Load;
+use crate::planner::{GuidedSlices, Planner, SweepSlices};
+use crate::reference::judge;
+use crate::stack::peak;
+
+/// The most stack that a call of an implementation used, in bytes.
+#[derive(Clone, Debug, PartialEq, Eq)]
+pub struct Peak {
+    pub planner: &'static str,
+    pub call: &'static str,
+    pub bytes: usize,
+}
+
+const CALLS: [&str; 5] = ["sweep", "guided", "both", "space needed", "refused field"];
+
+/// Of every implementation that has all calls, over the loads.
+pub fn peaks(planners: &[Box<dyn Planner>], loads: &[Load]) -> Vec<Peak> {
+    let mut all = Vec::new();
+    for planner in planners.iter().filter(|planner| planner.space_needed(&[], &[]).is_some()) {
+        for call in CALLS {
+            let used = loads.iter().map(|load| used(planner.as_ref(), call, load));
+            let bytes = used.max().unwrap_or(0);
+            all.push(Peak { planner: planner.name(), call, bytes });
+        }
+    }
+    all
+}
+
+/// One call on one load.
+fn used(planner: &dyn Planner, call: &str, load: &Load) -> usize {
+    let Load { chart, rules, .. } = load;
+    let Ok(facts) = judge(chart, rules) else { return 0 };
+    let (work, plan) = (facts.problem.pairs(), facts.problem.longest_plan());
+    let mut sweep = SweepSlices::of(work, plan);
+    let mut guided = GuidedSlices::of(work, plan);
+    let mut field = vec![0; chart.len()];
+    peak(move || match call {
+        "sweep" => drop(planner.sweep(chart, rules, &mut sweep)),
+        "guided" => drop(planner.guided(chart, rules, &mut guided)),
+        "both" => drop(planner.both(chart, rules, &mut sweep, &mut guided)),
+        "space needed" => drop(planner.space_needed(chart, rules)),
+        _ => drop(planner.refused_field(chart, rules, 1, 9, &mut field)),
+    })
+}

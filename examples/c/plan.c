@@ -1,0 +1,133 @@
+/*
+ * Plans for two files and prints the answer as the program `plan` does:
+ *
+ *     plan-c [CHART RULES]      (default chart.bin and rules.bin of the current folder)
+ *
+ * The program `plan` reads the first 16,384 bytes of each file and lends work for 4,096 pairs; this example reads whole
+ * files and lends what they need. A file that is missing counts as empty. The bytes of a refused field go to standard
+ * error.
+ */
+#include <planner.h>
+
+#include <stdio.h>
+#include <stdlib.h>
+
+/* A whole file. */
+typedef struct file {
+    uint8_t *bytes; /* never null */
+    size_t len;
+} file;
+
+static void *allocate(size_t count, size_t size)
+{
+    /* One entry at least: a lent slice has a pointer, also where it is empty. */
+    void *block = calloc(count > 0 ? count : 1, size);
+    if (block == NULL) {
+        fputs("plan-c: no memory\n", stderr);
+        exit(2);
+    }
+    return block;
+}
+
+static file read_file(const char *path)
+{
+    size_t room = 65536;
+    file f = {allocate(room, 1), 0};
+    FILE *in = fopen(path, "rb");
+    size_t got;
+    if (in == NULL) {
+        return f;
+    }
+    while ((got = fread(f.bytes + f.len, 1, room - f.len, in)) > 0) {
+        f.len += got;
+        if (f.len == room) {
+            uint8_t *larger = realloc(f.bytes, 2 * room);
+            if (larger == NULL) {
+                fputs("plan-c: no memory\n", stderr);
+                exit(2);
+            }
+            f.bytes = larger;
+            room *= 2;
+        }
+    }
+    fclose(in);
+    return f;
+}
+
+/* The faulty field's bytes, first asking for their number. */
+static void show_field(file chart, file rules, size_t mark, size_t place)
+{
+    uint8_t nothing;
+    size_t len = planner_refused_field(chart.bytes, chart.len, rules.bytes, rules.len, (uint32_t)mark, place,
+                                       &nothing, 0);
+    uint8_t *field = allocate(len, 1);
+    size_t i;
+    planner_refused_field(chart.bytes, chart.len, rules.bytes, rules.len, (uint32_t)mark, place, field, len);
+    fputs("field", stderr);
+    for (i = 0; i < len && i < 32; i++) {
+        fprintf(stderr, " %02x", (unsigned)field[i]);
+    }
+    fputs(i < len ? " ..\n" : "\n", stderr);
+    free(field);
+}
+
+static void show_refusal(file chart, file rules, size_t number, size_t mark, size_t place)
+{
+    printf("refused %zu file %zu place %zu\n", number, mark, place);
+    if (mark != PLANNER_FILE_NONE) {
+        show_field(chart, rules, mark, place);
+    }
+}
+
+/* Both searches in space that the files were asked for. */
+static void run(file chart, file rules, planner_space space)
+{
+    enum { SLICES = 9 };
+    uint32_t *work[SLICES];
+    uint16_t *sweep_plan = allocate(space.plan, sizeof *sweep_plan);
+    uint16_t *plan = allocate(space.plan, sizeof *plan);
+    planner_answer sweep, guided;
+    size_t i;
+    for (i = 0; i < SLICES; i++) {
+        work[i] = allocate(space.work, sizeof *work[i]);
+    }
+    planner_both(chart.bytes, chart.len, rules.bytes, rules.len,
+                 work[0], space.work, work[1], space.work, work[2], space.work, sweep_plan, space.plan,
+                 work[3], space.work, work[4], space.work, work[5], space.work,
+                 work[6], space.work, work[7], space.work, work[8], space.work, plan, space.plan,
+                 &sweep, &guided);
+    if (guided.number != PLANNER_ACCEPTED) {
+        show_refusal(chart, rules, guided.number, guided.file, guided.place);
+    } else {
+        printf("cost %zu\n", guided.cost);
+        for (i = 0; i < guided.length; i++) {
+            printf("step %u\n", (unsigned)plan[i]);
+        }
+        printf("settled %zu reached %zu\n", guided.count, sweep.count);
+    }
+    for (i = 0; i < SLICES; i++) {
+        free(work[i]);
+    }
+    free(plan);
+    free(sweep_plan);
+}
+
+int main(int argc, char **argv)
+{
+    file chart, rules;
+    planner_space space;
+    if (argc != 1 && argc != 3) {
+        fputs("usage: plan-c [CHART RULES]\n", stderr);
+        return 2;
+    }
+    chart = read_file(argc == 3 ? argv[1] : "chart.bin");
+    rules = read_file(argc == 3 ? argv[2] : "rules.bin");
+    if (planner_space_needed(chart.bytes, chart.len, rules.bytes, rules.len, &space) != PLANNER_ACCEPTED) {
+        show_refusal(chart, rules, space.number, space.file, space.place);
+    } else {
+        run(chart, rules, space);
+    }
+    free(chart.bytes);
+    free(rules.bytes);
+    return 0;
+}

@@ -1,0 +1,180 @@
+/*
+ * The socket-cycle planner: the cheapest chain of steps from a start stage to an end stage that a rule diagram allows.
+ *
+ * Link with target/staticlib/libplanner_c.a, which `rt staticlib planner_c` proves and writes. docs/LIBRARY.md has
+ * the commands and examples.
+ *
+ * Every call
+ *   - takes both files as bytes, of any length and content: a broken file gets a numbered refusal;
+ *   - works in slices that the caller lends: a pointer and a length in entries. Work entries are uint32_t, plan
+ *     entries uint16_t. Their content does not matter before the call;
+ *   - allocates nothing, has no global state and keeps no pointer: calls may run at once on different slices;
+ *   - always returns.
+ *
+ * The caller sees to it that
+ *   - no pointer is null, also where the length is 0;
+ *   - each pointer is aligned for its type and its slice is as long as the length says;
+ *   - slices that are written (work, plan, field, answers) overlap neither each other nor the files;
+ *   - there is room on the stack: PLANNER_STACK bytes are enough for any call.
+ */
+#ifndef PLANNER_H
+#define PLANNER_H
+
+#include <stddef.h>
+#include <stdint.h>
+
+#ifdef __cplusplus
+extern "C" {
+#endif
+
+/* Numbers of an answer: accepted, or the cause of the refusal, in the order in which causes are looked for. */
+enum {
+    PLANNER_ACCEPTED = 0,
+    PLANNER_CUT = 1,     /* the file ends inside a field */
+    PLANNER_TAG = 2,     /* empty file, a tag that is not of this file, the head not first or there again */
+    PLANNER_LENGTH = 3,  /* the field's length is not that of its tag */
+    PLANNER_HEAD = 4,    /* a chart head beyond a limit */
+    PLANNER_STEP = 5,    /* a step beyond a limit, the 1,025th step included */
+    PLANNER_NODE = 6,    /* a node beyond a limit, the 511th included, or a root that is no node */
+    PLANNER_SPACE = 7,   /* a work slice or the plan slice is too short */
+    PLANNER_NO_PLAN = 8  /* no legal plan exists */
+};
+
+/* Marks of a file. Where no field is at fault, file and place are 0. */
+enum {
+    PLANNER_FILE_NONE = 0,
+    PLANNER_FILE_CHART = 1,
+    PLANNER_FILE_RULES = 2
+};
+
+/* A cost slice's entry at a pair that is not reached. */
+#define PLANNER_UNREACHED ((uint32_t)4294967295u)
+
+/* Enough for every accepted chart and diagram: 256 stages x 512 nodes, and 255 steps. */
+#define PLANNER_MOST_WORK 131072
+#define PLANNER_MOST_PLAN 255
+
+/* Bytes of stack that are enough for any call. docs/PERFORMANCE.md has the measured peaks. */
+#define PLANNER_STACK 32768
+
+/*
+ * An answer. Accepted: number, file and place are 0. Refused: cost and length are 0, and so is count except under 8.
+ */
+typedef struct planner_answer {
+    size_t number; /* PLANNER_ACCEPTED or the cause, as the call returns it */
+    size_t file;   /* 1 to 6: the file at fault */
+    size_t place;  /* 1 to 6: the byte position of the faulty field's tag */
+    size_t cost;   /* the plan's cost in ns */
+    size_t length; /* the plan's steps */
+    size_t count;  /* sweep: reached pairs; guided search: settled pairs; also under 8 */
+} planner_answer;
+
+/* The entries that the slices of any search need for two files. */
+typedef struct planner_space {
+    size_t number; /* PLANNER_ACCEPTED or 1 to 6 */
+    size_t file;   /* as in an answer */
+    size_t place;
+    size_t work;   /* entries of each work slice: stage count x N; 0 where a file is refused */
+    size_t plan;   /* entries of a plan slice: stage count - 1; 0 where a file is refused */
+} planner_space;
+
+/*
+ * Reads both files and says how long the slices must be. All five entries of *space are written; the number is
+ * returned. Never 7 or 8.
+ */
+uint32_t planner_space_needed(const uint8_t *chart, size_t chart_len,
+                              const uint8_t *rules, size_t rules_len,
+                              planner_space *space);
+
+/*
+ * The sweep (dynamic programming): the least cost of every pair and a cheapest legal plan. A pair, a stage and a node
+ * of the diagram, is written stage x N + node, where N is the number of inner nodes plus 2.
+ *
+ * Lent, with the least length; a shorter slice gives 7:
+ *   cost, via, nodes   space.work
+ *   plan               space.plan
+ *
+ * All six entries of *answer are written; the number is returned. What the slices hold then:
+ *   number        0                                  8                    1 to 7
+ *   cost          first space.work entries: least    as under 0           as it was
+ *                 cost by pair, or PLANNER_UNREACHED
+ *   via, nodes    first space.work entries: free     as under 0           as they were
+ *   plan          first answer.length entries: the   as it was            as it was
+ *                 plan's step numbers in order
+ * All further entries stay as they were.
+ */
+uint32_t planner_sweep(const uint8_t *chart, size_t chart_len,
+                       const uint8_t *rules, size_t rules_len,
+                       uint32_t *cost, size_t cost_len,
+                       uint32_t *via, size_t via_len,
+                       uint32_t *nodes, size_t nodes_len,
+                       uint16_t *plan, size_t plan_len,
+                       planner_answer *answer);
+
+/*
+ * The guided search (A*): a cheapest legal plan, from as few pairs as the estimates allow.
+ *
+ * Lent, with the least length; a shorter slice gives 7:
+ *   keys, via, heap, pos, stack, log   space.work
+ *   plan                               space.plan
+ *
+ * All six entries of *answer are written; the number is returned. What the slices hold then:
+ *   number        0                                  8                    1 to 7
+ *   log           first answer.count entries: the    as under 0           as it was
+ *                 settled pairs in order
+ *   keys .. stack first space.work entries: free     as under 0           as they were
+ *   plan          first answer.length entries: the   as it was            as it was
+ *                 plan's step numbers in order
+ * All further entries stay as they were, those of the log past answer.count included. Which of several cheapest plans
+ * is given is left free.
+ */
+uint32_t planner_guided(const uint8_t *chart, size_t chart_len,
+                        const uint8_t *rules, size_t rules_len,
+                        uint32_t *keys, size_t keys_len,
+                        uint32_t *via, size_t via_len,
+                        uint32_t *heap, size_t heap_len,
+                        uint32_t *pos, size_t pos_len,
+                        uint32_t *stack, size_t stack_len,
+                        uint32_t *log, size_t log_len,
+                        uint16_t *plan, size_t plan_len,
+                        planner_answer *answer);
+
+/*
+ * Both searches: the sweep on cost, cost_via, nodes and cost_plan, the guided search on keys to plan. Each has its
+ * own answer and is refused for its own slices alone. Where neither answers 7 both have the same number and cost,
+ * and guided->count is at most sweep->count. The guided search's number is returned.
+ */
+uint32_t planner_both(const uint8_t *chart, size_t chart_len,
+                      const uint8_t *rules, size_t rules_len,
+                      uint32_t *cost, size_t cost_len,
+                      uint32_t *cost_via, size_t cost_via_len,
+                      uint32_t *nodes, size_t nodes_len,
+                      uint16_t *cost_plan, size_t cost_plan_len,
+                      uint32_t *keys, size_t keys_len,
+                      uint32_t *via, size_t via_len,
+                      uint32_t *heap, size_t heap_len,
+                      uint32_t *pos, size_t pos_len,
+                      uint32_t *stack, size_t stack_len,
+                      uint32_t *log, size_t log_len,
+                      uint16_t *plan, size_t plan_len,
+                      planner_answer *sweep, planner_answer *guided);
+
+/*
+ * The bytes of the field at a place of a file (PLANNER_FILE_CHART or PLANNER_FILE_RULES): three header bytes and the
+ * body by its length, cut at the file's end. The place need not be a field's start. A place at or past the file's end,
+ * or another file mark, gives an empty field.
+ *
+ * Returns the field's whole length and copies its bytes to the front of `field` as far as they fit; further entries of
+ * `field` stay as they were. With field_len 0 the call only tells the length. The field is a part of the file: it
+ * begins at chart + place or rules + place.
+ */
+size_t planner_refused_field(const uint8_t *chart, size_t chart_len,
+                             const uint8_t *rules, size_t rules_len,
+                             uint32_t file, size_t place,
+                             uint8_t *field, size_t field_len);
+
+#ifdef __cplusplus
+}
+#endif
+
+#endif

@@ -1,0 +1,203 @@
+//! The library's calls as they are, on slices that the caller lends. Slices of any length may be
+//! lent: one that is too short gives the number 7. What each slice holds after a call, and what
+//! stays as it was, is said in `include/planner.h`.
+
+use crate::raw;
+
+/// The cost slice's entry at a pair that isn't reached.
+pub const UNREACHED: u32 = u32::MAX;
+
+/// An answer: number 0, or 1 to 8 for a refusal.
+#[repr(C)]
+#[derive(Clone, Copy, Debug, Default, PartialEq, Eq)]
+pub struct Answer {
+    /// 0 accepted, 1 to 8 refused.
+    pub number: usize,
+    /// 1 the chart, 2 the diagram, 0 where no field is at fault.
+    pub file: usize,
+    /// The byte position of the faulty field.
+    pub place: usize,
+    /// The plan's cost in ns.
+    pub cost: usize,
+    /// The plan's steps.
+    pub length: usize,
+    /// Reached pairs of a sweep, settled pairs of a guided search; under 8 too.
+    pub count: usize,
+}
+
+/// The entries that two files need.
+#[repr(C)]
+#[derive(Clone, Copy, Debug, Default, PartialEq, Eq)]
+pub struct Space {
+    /// 0 accepted, 1 to 6 refused.
+    pub number: usize,
+    pub file: usize,
+    pub place: usize,
+    /// Entries of each work slice.
+    pub work: usize,
+    /// Entries of a plan slice.
+    pub plan: usize,
+}
+
+/// The slices lent to a sweep.
+#[derive(Debug)]
+pub struct SweepSlices<'a> {
+    /// By pair: the least cost, or [`UNREACHED`]; a result.
+    pub cost: &'a mut [u32],
+    /// Left free.
+    pub via: &'a mut [u32],
+    /// Left free.
+    pub nodes: &'a mut [u32],
+    /// The plan's step numbers; a result.
+    pub plan: &'a mut [u16],
+}
+
+/// The slices lent to a guided search.
+#[derive(Debug)]
+pub struct GuidedSlices<'a> {
+    /// Left free.
+    pub keys: &'a mut [u32],
+    /// Left free.
+    pub via: &'a mut [u32],
+    /// Left free.
+    pub heap: &'a mut [u32],
+    /// Left free.
+    pub pos: &'a mut [u32],
+    /// Left free.
+    pub stack: &'a mut [u32],
+    /// The settled pairs in order; a result.
+    pub log: &'a mut [u32],
+    /// The plan's step numbers; a result.
+    pub plan: &'a mut [u16],
+}
+
+/// Reads both files and tells how long the slices must be. Returns the number, never 7 or 8.
+pub fn space_needed(chart: &[u8], rules: &[u8], space: &mut Space) -> u32 {
+    // SAFETY: the pointers of live slices with their lengths; a reference to a `repr(C)` struct.
+    unsafe {
+        raw::planner_space_needed(chart.as_ptr(), chart.len(), rules.as_ptr(), rules.len(), space)
+    }
+}
+
+/// The sweep: the least cost of every pair and a cheapest legal plan. Returns the number.
+pub fn sweep(chart: &[u8], rules: &[u8], lent: SweepSlices, answer: &mut Answer) -> u32 {
+    let SweepSlices { cost, via, nodes, plan } = lent;
+    // SAFETY: every pointer comes with the length of the live slice that it belongs to. Mutable
+    // slices are borrowed as such, so they overlap nothing.
+    unsafe {
+        raw::planner_sweep(
+            chart.as_ptr(),
+            chart.len(),
+            rules.as_ptr(),
+            rules.len(),
+            cost.as_mut_ptr(),
+            cost.len(),
+            via.as_mut_ptr(),
+            via.len(),
+            nodes.as_mut_ptr(),
+            nodes.len(),
+            plan.as_mut_ptr(),
+            plan.len(),
+            answer,
+        )
+    }
+}
+
+/// The guided search: a cheapest legal plan. Returns the number.
+pub fn guided(chart: &[u8], rules: &[u8], lent: GuidedSlices, answer: &mut Answer) -> u32 {
+    let GuidedSlices { keys, via, heap, pos, stack, log, plan } = lent;
+    // SAFETY: as for the sweep.
+    unsafe {
+        raw::planner_guided(
+            chart.as_ptr(),
+            chart.len(),
+            rules.as_ptr(),
+            rules.len(),
+            keys.as_mut_ptr(),
+            keys.len(),
+            via.as_mut_ptr(),
+            via.len(),
+            heap.as_mut_ptr(),
+            heap.len(),
+            pos.as_mut_ptr(),
+            pos.len(),
+            stack.as_mut_ptr(),
+            stack.len(),
+            log.as_mut_ptr(),
+            log.len(),
+            plan.as_mut_ptr(),
+            plan.len(),
+            answer,
+        )
+    }
+}
+
+/// Both searches, each on its own slices and with its own answer: the sweep's first. Returns the
+/// guided search's number.
+pub fn both(
+    chart: &[u8],
+    rules: &[u8],
+    sweep: SweepSlices,
+    guided: GuidedSlices,
+    answers: (&mut Answer, &mut Answer),
+) -> u32 {
+    let GuidedSlices { keys, via, heap, pos, stack, log, plan } = guided;
+    // SAFETY: as for the sweep.
+    unsafe {
+        raw::planner_both(
+            chart.as_ptr(),
+            chart.len(),
+            rules.as_ptr(),
+            rules.len(),
+            sweep.cost.as_mut_ptr(),
+            sweep.cost.len(),
+            sweep.via.as_mut_ptr(),
+            sweep.via.len(),
+            sweep.nodes.as_mut_ptr(),
+            sweep.nodes.len(),
+            sweep.plan.as_mut_ptr(),
+            sweep.plan.len(),
+            keys.as_mut_ptr(),
+            keys.len(),
+            via.as_mut_ptr(),
+            via.len(),
+            heap.as_mut_ptr(),
+            heap.len(),
+            pos.as_mut_ptr(),
+            pos.len(),
+            stack.as_mut_ptr(),
+            stack.len(),
+            log.as_mut_ptr(),
+            log.len(),
+            plan.as_mut_ptr(),
+            plan.len(),
+            answers.0,
+            answers.1,
+        )
+    }
+}
+
+/// Copies the bytes of the field at a place of a file (1 the chart, 2 the diagram) to the front of
+/// `field` as far as they fit, and returns the field's whole length. A place at or past the end, or
+/// another file mark, is an empty field.
+pub fn refused_field(
+    chart: &[u8],
+    rules: &[u8],
+    file: u32,
+    place: usize,
+    field: &mut [u8],
+) -> usize {
+    // SAFETY: as for the sweep.
+    unsafe {
+        raw::planner_refused_field(
+            chart.as_ptr(),
+            chart.len(),
+            rules.as_ptr(),
+            rules.len(),
+            file,
+            place,
+            field.as_mut_ptr(),
+            field.len(),
+        )
+    }
+}

@@ -1,0 +1,51 @@
+//! Socket-cycle planner: the cheapest chain of steps from a start stage to an end stage of a chart
+//! that a rule diagram allows. The searches are those of a proved static library; this crate lends
+//! them slices and has no logic of its own.
+//!
+//! A chart with two ways from stage 0 to stage 2, and the rule that step 0 is not taken:
+//!
+//! ```
+//! // Head: 3 stages, start 0, end 2. Steps from, to, cost: 0 to 2 for 5; 0 to 1 for 4; 1 to 2 for 3.
+//! let chart = [
+//!     0x01, 6, 0, 3, 0, 0, 0, 2, 0, //
+//!     0x02, 8, 0, 0, 0, 2, 0, 5, 0, 0, 0, //
+//!     0x02, 8, 0, 0, 0, 1, 0, 4, 0, 0, 0, //
+//!     0x02, 8, 0, 1, 0, 2, 0, 3, 0, 0, 0,
+//! ];
+//! // Root 2; node 2: where step 0 is taken no (0), else yes (1).
+//! let rules = [
+//!     0x11, 2, 0, 2, 0, //
+//!     0x12, 6, 0, 0, 0, 1, 0, 0, 0,
+//! ];
+//! let plan = planner::plan(&chart, &rules)?;
+//! assert_eq!((plan.cost, &plan.steps[..]), (7, &[1, 2][..]));
+//!
+//! // A chart that ends inside its last field.
+//! let refusal = planner::plan(&chart[..40], &rules).unwrap_err();
+//! assert_eq!(refusal, planner::Refusal::Cut { file: planner::File::Chart, place: 31 });
+//! assert_eq!(refusal.to_string(), "refused 1 file 1 place 31");
+//! assert_eq!(refusal.field(&chart[..40], &rules), &chart[31..40]);
+//! # Ok::<(), planner::Refusal>(())
+//! ```
+//!
+//! Work space can be kept from call to call, so that a call allocates nothing but its plan:
+//!
+//! ```
+//! # let chart = [0x01, 6, 0, 1, 0, 0, 0, 0, 0];
+//! # let rules = [0x11, 2, 0, 1, 0];
+//! let mut work = planner::Work::for_files(&chart, &rules)?;
+//! let answer = work.guided(&chart, &rules);
+//! assert_eq!(answer.number, 0);
+//! println!("cost {}, steps {:?}", answer.cost, work.guided_steps(&answer));
+//! # Ok::<(), planner::Refusal>(())
+//! ```
+//!
+//! The module [`lent`] has the calls as they are, on slices that the caller lends.
+
+pub mod lent;
+mod raw;
+mod refusal;
+mod work;
+
+pub use refusal::{refused_field, File, Refusal};
+pub use work::{plan, space_needed, Plan, Work};

@@ -1,0 +1,117 @@
+//! Why there is no plan.
+
+use std::error::Error;
+use std::fmt;
+
+use crate::lent::{self, Answer, Space};
+
+/// One of the two files.
+#[derive(Clone, Copy, Debug, PartialEq, Eq, Hash)]
+pub enum File {
+    Chart = 1,
+    Rules = 2,
+}
+
+/// The cause of a refusal, with the place of the faulty field: the byte position of its tag.
+#[derive(Clone, Copy, Debug, PartialEq, Eq, Hash)]
+pub enum Refusal {
+    /// 1: the file ends inside a field.
+    Cut { file: File, place: usize },
+    /// 2: the file is empty, a tag isn't of this file, the head isn't first or comes again.
+    Tag { file: File, place: usize },
+    /// 3: the length isn't that of the tag.
+    Length { file: File, place: usize },
+    /// 4: a chart head beyond a limit.
+    Head { file: File, place: usize },
+    /// 5: a step beyond a limit, the 1,025th included.
+    Step { file: File, place: usize },
+    /// 6: a node beyond a limit, the 511th included; or a root that is no node.
+    Node { file: File, place: usize },
+    /// 7: a work slice or the plan slice is too short.
+    Space,
+    /// 8: no legal plan. The count of the search: reached pairs of a sweep, settled ones of a
+    /// guided search.
+    NoPlan { count: usize },
+}
+
+impl Refusal {
+    /// The refusal of an answer, none where it is accepted.
+    pub fn of(answer: &Answer) -> Option<Refusal> {
+        let Answer { number, file, place, count, .. } = *answer;
+        let file = if file == 2 { File::Rules } else { File::Chart };
+        Some(match number {
+            0 => return None,
+            1 => Refusal::Cut { file, place },
+            2 => Refusal::Tag { file, place },
+            3 => Refusal::Length { file, place },
+            4 => Refusal::Head { file, place },
+            5 => Refusal::Step { file, place },
+            6 => Refusal::Node { file, place },
+            7 => Refusal::Space,
+            _ => Refusal::NoPlan { count },
+        })
+    }
+
+    /// The refusal of a file that was asked for its space.
+    pub(crate) fn of_space(space: &Space) -> Option<Refusal> {
+        let Space { number, file, place, .. } = *space;
+        Refusal::of(&Answer { number, file, place, ..Answer::default() })
+    }
+
+    /// The refusal's number, 1 to 8.
+    pub fn number(&self) -> u32 {
+        match self {
+            Refusal::Cut { .. } => 1,
+            Refusal::Tag { .. } => 2,
+            Refusal::Length { .. } => 3,
+            Refusal::Head { .. } => 4,
+            Refusal::Step { .. } => 5,
+            Refusal::Node { .. } => 6,
+            Refusal::Space => 7,
+            Refusal::NoPlan { .. } => 8,
+        }
+    }
+
+    /// The faulty field's file and place; none under 7 and 8.
+    pub fn field_place(&self) -> Option<(File, usize)> {
+        match *self {
+            Refusal::Cut { file, place }
+            | Refusal::Tag { file, place }
+            | Refusal::Length { file, place }
+            | Refusal::Head { file, place }
+            | Refusal::Step { file, place }
+            | Refusal::Node { file, place } => Some((file, place)),
+            Refusal::Space | Refusal::NoPlan { .. } => None,
+        }
+    }
+
+    /// The faulty field's bytes, a part of the caller's own file; empty under 7 and 8.
+    pub fn field<'a>(&self, chart: &'a [u8], rules: &'a [u8]) -> &'a [u8] {
+        match self.field_place() {
+            Some((file, place)) => refused_field(chart, rules, file, place),
+            None => &chart[..0],
+        }
+    }
+}
+
+/// The field at a place of a file: three header bytes and the body by its length, cut at the file's
+/// end. A place at or past the end gives an empty part of the chart.
+pub fn refused_field<'a>(chart: &'a [u8], rules: &'a [u8], file: File, place: usize) -> &'a [u8] {
+    let length = lent::refused_field(chart, rules, file as u32, place, &mut []);
+    let bytes = match file {
+        File::Chart => chart,
+        File::Rules => rules,
+    };
+    let part = bytes.get(place..).and_then(|rest| rest.get(..length));
+    part.filter(|part| !part.is_empty()).unwrap_or(&chart[..0])
+}
+
+impl fmt::Display for Refusal {
+    /// As the program `plan` writes it.
+    fn fmt(&self, f: &mut fmt::Formatter) -> fmt::Result {
+        let (file, place) = self.field_place().map_or((0, 0), |(file, place)| (file as u32, place));
+        write!(f, "refused {} file {file} place {place}", self.number())
+    }
+}
+
+impl Error for Refusal {}

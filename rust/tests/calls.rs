@@ -1,0 +1,153 @@
+//! The wrapper's calls on document 01's chart: plans, refusals, lent slices, kept work space.
+
+use planner::lent::{self, Answer, GuidedSlices, Space, SweepSlices, UNREACHED};
+use planner::{plan, refused_field, space_needed, File, Refusal, Work};
+
+/// A chart file: stage count, start, end, then from, to and cost of each step.
+fn chart_file(head: [u16; 3], steps: &[(u16, u16, u32)]) -> Vec<u8> {
+    let mut file = vec![0x01, 6, 0];
+    file.extend(head.iter().flat_map(|value| value.to_le_bytes()));
+    for (from, to, cost) in steps {
+        file.extend([0x02, 8, 0]);
+        file.extend([*from, *to].iter().flat_map(|value| value.to_le_bytes()));
+        file.extend(cost.to_le_bytes());
+    }
+    file
+}
+
+/// A diagram file: root, then step, lo and hi of each node.
+fn rules_file(root: u16, nodes: &[[u16; 3]]) -> Vec<u8> {
+    let mut file = vec![0x11, 2, 0];
+    file.extend(root.to_le_bytes());
+    for node in nodes {
+        file.extend([0x12, 6, 0]);
+        file.extend(node.iter().flat_map(|value| value.to_le_bytes()));
+    }
+    file
+}
+
+const STEPS: [(u16, u16, u32); 6] =
+    [(0, 1, 40), (0, 1, 90), (1, 2, 200), (1, 3, 30), (2, 3, 20), (3, 4, 50)];
+
+fn document() -> (Vec<u8>, Vec<u8>) {
+    (chart_file([5, 0, 4], &STEPS), rules_file(3, &[[2, 0, 1], [0, 1, 2]]))
+}
+
+#[test]
+fn the_plan_of_document_01() {
+    let (chart, rules) = document();
+    let plan = plan(&chart, &rules).expect("a legal plan");
+    assert_eq!((plan.cost, plan.steps), (170, vec![1, 3, 5]));
+    assert_eq!((plan.settled, plan.reached), (4, 6));
+}
+
+#[test]
+fn every_refusal() {
+    let (chart, rules) = document();
+    let bad_head = chart_file([0, 0, 0], &[]);
+    let bad_step = chart_file([5, 0, 4], &[(0, 1, 1_000_001)]);
+    let bad_node = rules_file(2, &[[6, 0, 1]]);
+    type Case<'a> = (&'a [u8], &'a [u8], Refusal, &'a [u8]);
+    let no = rules_file(0, &[]);
+    let cases: [Case; 8] = [
+        (&chart[..19], &rules, Refusal::Cut { file: File::Chart, place: 9 }, &chart[9..19]),
+        (&[], &rules, Refusal::Tag { file: File::Chart, place: 0 }, &[]),
+        (&chart, &rules[5..], Refusal::Tag { file: File::Rules, place: 0 }, &rules[5..14]),
+        (&chart, &[0x11, 3, 0], Refusal::Length { file: File::Rules, place: 0 }, &[0x11, 3, 0]),
+        (&bad_head, &rules, Refusal::Head { file: File::Chart, place: 0 }, &bad_head),
+        (&bad_step, &rules, Refusal::Step { file: File::Chart, place: 9 }, &bad_step[9..]),
+        (&chart, &bad_node, Refusal::Node { file: File::Rules, place: 5 }, &bad_node[5..]),
+        (&chart, &no, Refusal::NoPlan { count: 0 }, &[]),
+    ];
+    for (chart, rules, refusal, field) in cases {
+        assert_eq!(plan(chart, rules), Err(refusal));
+        assert_eq!(refusal.field(chart, rules), field);
+    }
+    let numbers = cases.map(|case| case.2.number());
+    assert_eq!(numbers, [1, 2, 2, 3, 4, 5, 6, 8]);
+    assert_eq!(cases[5].2.to_string(), "refused 5 file 1 place 9");
+    assert_eq!(cases[7].2.to_string(), "refused 8 file 0 place 0");
+}
+
+#[test]
+fn the_refused_field_is_a_part_of_the_callers_file() {
+    let (chart, rules) = document();
+    let part = refused_field(&chart, &rules, File::Rules, 5);
+    assert!(std::ptr::eq(part, &rules[5..14]));
+    for place in [rules.len(), usize::MAX] {
+        assert!(std::ptr::eq(refused_field(&chart, &rules, File::Rules, place), &chart[..0]));
+    }
+    let mut field = [0xee; 12];
+    assert_eq!(lent::refused_field(&chart, &rules, 2, 5, &mut field), 9);
+    assert_eq!((&field[..9], &field[9..]), (part, &[0xee; 3][..]));
+    assert_eq!(lent::refused_field(&chart, &rules, 3, 5, &mut field), 0);
+}
+
+#[test]
+fn the_space_of_two_files() {
+    let (chart, rules) = document();
+    let space = space_needed(&chart, &rules).expect("sound files");
+    assert_eq!(space, Space { work: 20, plan: 4, ..Space::default() });
+    let refusal = Refusal::Cut { file: File::Rules, place: 0 };
+    assert_eq!(space_needed(&chart, &rules[..4]), Err(refusal));
+}
+
+#[test]
+fn work_that_is_kept() {
+    let (chart, rules) = document();
+    let mut work = Work::default();
+    assert_eq!(work.plan(&chart, &rules), Err(Refusal::Space));
+    work.grow_for(&chart, &rules).expect("sound files");
+    assert_eq!(work.plan(&chart, &rules), plan(&chart, &rules));
+    let small = chart_file([1, 0, 0], &[]);
+    work.grow_for(&small, &rules_file(1, &[])).expect("sound files");
+    let (sweep, guided) = work.both(&chart, &rules);
+    assert_eq!((sweep.cost, guided.cost), (170, 170));
+    assert_eq!(work.sweep_steps(&sweep), work.guided_steps(&guided));
+    assert_eq!(work.settled(&guided), [3, 5, 13, 17]);
+    assert_eq!((work.costs()[3], work.costs()[17], work.costs()[0]), (0, 170, UNREACHED));
+    assert_eq!((work.sweep(&chart, &rules), work.guided(&chart, &rules)), (sweep, guided));
+}
+
+/// Slices of these lengths, lent to both searches; the numbers of both answers.
+fn numbers(work: usize, plan: usize) -> (usize, usize) {
+    let (chart, rules) = document();
+    let mut slices = vec![vec![7_u32; work]; 9];
+    let mut plans = [vec![7_u16; plan], vec![7_u16; plan]];
+    let [cost, cost_via, nodes, keys, via, heap, pos, stack, log] = &mut slices[..] else {
+        unreachable!("nine slices")
+    };
+    let [cost_plan, plan] = &mut plans;
+    let sweep = SweepSlices { cost, via: cost_via, nodes, plan: cost_plan };
+    let guided = GuidedSlices { keys, via, heap, pos, stack, log, plan };
+    let (mut swept, mut found) = (Answer::default(), Answer::default());
+    let number = lent::both(&chart, &rules, sweep, guided, (&mut swept, &mut found));
+    assert_eq!(number as usize, found.number);
+    let untouched = slices.iter().flatten().all(|entry| *entry == 7)
+        && plans.iter().flatten().all(|entry| *entry == 7);
+    assert_eq!(untouched, number == 7);
+    (swept.number, found.number)
+}
+
+#[test]
+fn slices_of_any_length_may_be_lent() {
+    for (work, plan, number) in [(0, 0, 7), (19, 4, 7), (20, 3, 7), (20, 4, 0), (25, 9, 0)] {
+        assert_eq!(numbers(work, plan), (number, number));
+    }
+}
+
+#[test]
+fn calls_from_several_threads() {
+    let (chart, rules) = document();
+    let expected = plan(&chart, &rules);
+    std::thread::scope(|scope| {
+        for _ in 0..4 {
+            scope.spawn(|| {
+                let mut work = Work::for_files(&chart, &rules).expect("sound files");
+                for _ in 0..1_000 {
+                    assert_eq!(work.plan(&chart, &rules), expected);
+                }
+            });
+        }
+    });
+}
