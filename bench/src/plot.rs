@@ -31,7 +31,8 @@ pub fn svg(all: &[Measured], planners: &[&str]) -> String {
          <rect width=\"100%\" height=\"100%\" fill=\"white\"/>\n"
     );
     text += &grid(&across, &up);
-    for (at, series) in series.iter().enumerate() {
+    // The first implementation last, so that it lies on top.
+    for (at, series) in series.iter().enumerate().rev() {
         text += &marks(series, at, &across, &up);
     }
     text + "</svg>\n"
