@@ -101,10 +101,21 @@ fn changed_to(field: &mut u32, add: u32) -> bool {
     true
 }
 
-const GUIDED: [(&str, Falsify<GuidedSlices>); 17] = [
+const GUIDED: [(&str, Falsify<GuidedSlices>); 24] = [
     ("count one more", |_, a, _| changed_to(&mut a.count, 1)),
     ("count one less", |_, a, _| changed_to(&mut a.count, u32::MAX)),
     ("cost one more", |_, a, _| changed_to(&mut a.cost, 1)),
+    ("length one more", |_, a, _| changed_to(&mut a.length, 1)),
+    ("length one less", |_, a, _| changed_to(&mut a.length, u32::MAX)),
+    ("file set", |_, a, _| changed_to(&mut a.file, 1)),
+    ("place set", |_, a, _| {
+        a.place += 9;
+        true
+    }),
+    ("cries 7", |_, a, _| {
+        *a = Answer::refused(7, 0, 0);
+        true
+    }),
     ("cries 8", |_, a, _| {
         let was = accepted(a);
         *a = Answer::no_plan(a.count as usize);
@@ -151,6 +162,8 @@ const GUIDED: [(&str, Falsify<GuidedSlices>); 17] = [
     }),
     ("the log past its count", |_, a, s| changed(&mut s.log[a.count as usize])),
     ("keys past the pairs", |f, _, s| changed(&mut s.keys[f.problem.pairs()])),
+    ("via past the pairs", |f, _, s| changed(&mut s.via[f.problem.pairs()])),
+    ("pos past the pairs", |f, _, s| changed(&mut s.pos[f.problem.pairs() + 1])),
     ("heap past the pairs", |f, _, s| changed(&mut s.heap[f.problem.pairs() + 1])),
     ("stack past the pairs", |f, _, s| changed(&mut s.stack[f.problem.pairs() + 2])),
     ("plan past its length", |_, a, s| {
