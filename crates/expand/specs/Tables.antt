@@ -6,8 +6,6 @@ use mathlib.Core.List.{List}
 use lib.ListN.{length, getD}
 use Rattle.definitions.specs.Pairs.{Estimate}
 use Rattle.definitions.specs.Plans.{estimate}
-use Rattle.diagram.specs.Tables.{Marked}
-use Rattle.nodes.specs.Walks.{Lowers, Advances}
 use Rattle.rows.specs.Rows.{rowStarts}
 use Rattle.checks.specs.declared.Shape.{Shape}
 use Rattle.checks.specs.Tables.{chartIn, diagramIn, Tables}
@@ -25,7 +23,3 @@ pub record Guides (z : Shape) (from to cost row step lo hi byStage byNode : List
   pub tables : Tables z from to cost step lo hi
   pub rows : row ≡ rowStarts (z .stages) (z .nodes + 2)
   pub estimates : Estimates (chartIn z from to cost) (diagramIn z step lo hi) byStage byNode
-
--- step e leads to node r from each node that is lowered to m for it
-abbrev pub Enters : List ℕ → List ℕ → ℕ → ℕ → ℕ → Type 0
-Enters step hi e m r = (lo : List ℕ) (n : ℕ) → Lowers step lo e n m → Advances step lo hi e n r

@@ -1,10 +1,8 @@
 // The steps from a pair, in ascending order: each is offered to the pair that it leads to.
 ghost use mathlib.Core.Path.{_≡_};
 ghost use Prim.Native.Nat.{ℕ, _+_, _≤_, _<_};
-ghost use Rattle.diagram.specs.Tables.{Marked};
 ghost use Rattle.nodes.specs.Walks.{Lowers};
 ghost use Rattle.checks.specs.Ready.{graphIn};
-ghost use Rattle.expand.specs.Tables.{Enters};
 ghost use Rattle.expand.specs.Opening.{Opening, Opened};
 use crate::estimate::NONE;
 use crate::estimate::pair_estimate;
@@ -13,22 +11,10 @@ use checks::Shape;
 use definitions::Node;
 use definitions::Stage;
 use definitions::Step;
+use nodes::advance;
 use nodes::descend_to;
 use queue::Counts;
 use trace::pair_at;
-
-// The node that step e leads to, from a node that is lowered to m for it.
-fn entered<'a>(step: &'a [u16; 512], hi: &'a [u16; 512], e: Step, m: Node) -> Node
-    requires { ⌜ Marked (now step) × (m .0 < 512) × (e .0 < 65535) ⌝ }
-    ensures { λ r. ⌜ Enters (now (step .entry)) (now (hi .entry)) (e .0) (m .0) (r .0) ⌝ }
-{
-    let key = e.0;
-    let at = m.0 as usize;
-    if step[at] == key {
-        return Node(hi[at]);
-    }
-    m
-}
 
 // Offers step e, which leaves the pair of stage s and node n; m is that node lowered for e.
 fn offer<'a>(
@@ -60,7 +46,7 @@ fn offer<'a>(
     ensures { λ r. ⌜ Opened z (now (from .entry)) (now (to .entry)) (now (cost .entry)) (now (row .entry)) (now (step .entry)) (now (lo .entry)) (now (hi .entry)) (now («by_stage» .entry)) (now («by_node» .entry)) (s .0) (n .0) base p (e .0) (e .0 + 1) (now (keys .entry)) (now (via .entry)) (now (heap .entry)) (now (pos .entry)) (now (stack .entry)) counts (now (keys .exit)) (now (via .exit)) (now (heap .exit)) (now (pos .exit)) (now (stack .exit)) r ⌝ }
 {
     let i = e.0 as usize;
-    let t = entered(step, hi, e, m);
+    let t = advance(step, hi, e, m);
     let stage = to[i];
     let rest = pair_estimate(by_stage, by_node, Stage(stage), Node(t.0));
     if rest == NONE {

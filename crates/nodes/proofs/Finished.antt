@@ -1,4 +1,4 @@
--- The loops of `finish` and of `finishing`: their invariants, with one law for each way on.
+-- The loop of `finishing`: its invariant, with one law for each way on.
 use Prim.Native.Nat.{ℕ, zero, suc, _+_, _-_, _≤_, _<_}
 use mathlib.Core.Path.{_≡_, refl, sym, _∙_, ap}
 use mathlib.Core.Bool.{Bool, true, false}
@@ -13,36 +13,12 @@ use Rattle.definitions.specs.Limits.{Ordered}
 use Rattle.theory.specs.Diagrams.{finish-leaf, finish-inner}
 use Rattle.diagram.specs.Tables.{Held}
 use Rattle.diagram.specs.Held.{held-lo}
-use Rattle.nodes.specs.Walks.{Falls, Finishes, Finishing}
+use Rattle.nodes.specs.Walks.{Falls, Finishing}
 use Rattle.nodes.proofs.Children.{child-below}
 
 -- an inner node of a held diagram finishes where the node at its lo does
 finish-lo : (d : Diagram) (step lo hi : List ℕ) → Held d step lo hi → (n : ℕ) → 2 ≤ n → n < size d → finish d n ≡ finish d (getD lo n 0)
 finish-lo d step lo hi h n i l = finish-inner d (h .ordered) n i ∙ ap (finish d) (held-lo d step lo hi h n i l)
-
--- a walk from node n stands at m, and finishes where n does
-pub record Walked (lo : List ℕ) (n m : ℕ) : Type 0 where
-  pub below : m ≤ n
-  pub same : (d : Diagram) (step hi : List ℕ) → Held d step lo hi → n < size d → finish d m ≡ finish d n
-
-module _ (lo : List ℕ) (n : ℕ) where
-  pub walked-start : Walked lo n n
-  walked-start = record { below = omega arith; same = λ d step hi h l. refl }
-
-  module _ (m : ℕ) (now : Walked lo n m) where
-    pub walked-less : Falls lo n → 2 ≤ m → getD lo m 0 < m
-    walked-less f i = f .below m i (now .below)
-
-    pub walked-next : Falls lo n → 2 ≤ m → Walked lo n (getD lo m 0)
-    walked-next f i = record {
-      below = omega (arith, walked-less f i, now .below);
-      same = λ d step hi h l. sym (finish-lo d step lo hi h m i (omega (arith, now .below))) ∙ now .same d step hi h l;
-    }
-
-    pub walked-done : m < 2 → Finishes lo n m
-    walked-done q = record { leaf = q; is = λ d step hi h l. sym (finish-leaf d (h .ordered) m q) ∙ now .same d step hi h l }
-
-pub ruleset walked-laws = (walked-start, walked-less, walked-next, walked-done)
 
 -- the entries of the nodes below n are right
 pub record Passed (lo : List ℕ) (count : ℕ) (yes : List Bool) (n : ℕ) : Type 0 where

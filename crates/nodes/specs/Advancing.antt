@@ -57,5 +57,3 @@ advancing-dead step lo hi e f n le low = record {
   is = λ d h l.
       sym (advance-leaf d (h .ordered) f 0 (omega arith)) ∙ ap (advance d f) (low .is d hi h l) ∙ advance-lowered d (h .ordered) e f n le;
 }
-
-pub ruleset advancing-laws = (advancing-hi, advancing-stays)

@@ -5,5 +5,4 @@ mod walks;
 pub use estimates::diagram_estimates;
 pub use walks::advance;
 pub use walks::descend_to;
-pub use walks::finish;
 pub use walks::finishing;

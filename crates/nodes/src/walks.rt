@@ -1,11 +1,11 @@
-// The walks over the tables of a rule diagram: advancing a node by a step, and finishing it.
+// The walks over the tables of a rule diagram: advancing a node by a step, and which nodes finish at 1.
 ghost use Prim.Native.Nat.{_+_, _<_};
 ghost use Rattle.diagram.specs.Tables.{Marked};
-ghost use Rattle.nodes.specs.Walks.{Falls, Lowers, Advances, Finishes, Finishing};
+ghost use Rattle.nodes.specs.Walks.{Falls, Lowers, AdvancesFrom, Finishing};
 use definitions::Node;
 use definitions::Step;
 
-// To lo while the node is inner and its step is below `e`.
+// The first half of advancing a node by step `e`: to lo while the node is inner and its step is below `e`.
 pub fn descend_to(step: &[u16; 512], lo: &[u16; 512], e: Step, n: Node) -> Node
     requires { ⌜ Marked (now step) × Falls (now lo) (n .0) ⌝ }
     ensures { λ r. ⌜ Lowers (now (step .entry)) (now (lo .entry)) (e .0) (n .0) (r .0) ⌝ }
@@ -18,30 +18,17 @@ pub fn descend_to(step: &[u16; 512], lo: &[u16; 512], e: Step, n: Node) -> Node
     Node(m)
 }
 
-// The node got by advancing a node by a step.
-pub fn advance(step: &[u16; 512], lo: &[u16; 512], hi: &[u16; 512], e: Step, n: Node) -> Node
-    requires { ⌜ Marked (now step) × Falls (now lo) (n .0) × (e .0 < 65535) ⌝ }
-    ensures { λ r. ⌜ Advances (now (step .entry)) (now (lo .entry)) (now (hi .entry)) (e .0) (n .0) (r .0) ⌝ }
+// The node got by advancing a node by a step, the second half: from the node that it is lowered to.
+pub fn advance<'a>(step: &'a [u16; 512], hi: &'a [u16; 512], e: Step, m: Node) -> Node
+    requires { ⌜ Marked (now step) × (m .0 < 512) × (e .0 < 65535) ⌝ }
+    ensures { λ r. ⌜ AdvancesFrom (now (step .entry)) (now (hi .entry)) (e .0) (m .0) (r .0) ⌝ }
 {
     let key = e.0;
-    let m = descend_to(step, lo, e, n);
     let at = m.0 as usize;
     if step[at] == key {
         return Node(hi[at]);
     }
     m
-}
-
-// The node got by going to lo until 0 or 1.
-pub fn finish(lo: &[u16; 512], n: Node) -> Node
-    requires { ⌜ Falls (now lo) (n .0) ⌝ }
-    ensures { λ r. ⌜ Finishes (now (lo .entry)) (n .0) (r .0) ⌝ }
-{
-    let mut m = n.0;
-    while 2 <= m {
-        m = lo[m as usize];
-    }
-    Node(m)
 }
 
 // For each node of a diagram of `count` inner nodes, whether it finishes at 1.

@@ -19,7 +19,7 @@ use Rattle.theory.specs.Pairs.{pair-inside}
 use Rattle.trace.specs.Trails.{packed}
 use Rattle.diagram.specs.Tables.{Marked}
 use Rattle.nodes.specs.Falling.{lo-falls}
-use Rattle.nodes.specs.Walks.{lowered, Falls, Lowers, Advances}
+use Rattle.nodes.specs.Walks.{lowered, Falls, Lowers, AdvancesFrom}
 use Rattle.nodes.specs.Lowered.{advance-lowered}
 use Rattle.sweep_model.specs.Model.{unreached, Rows, rows, costAt, countAt, offer, relaxStep, relaxSteps}
 use Rattle.sweep_model.specs.Rows.{Table, Entry, entry-low}
@@ -199,9 +199,9 @@ module _ (z : Shape) (from to cost first row step lo hi : List ℕ) where
           pub walk-dead : m′ ≡ 0 → r ≡ relaxSteps g a n v start (until - start) r₀
           walk-dead q = sym (w .same ∙ dead (until - e) e (omega arith) q r)
 
-          module _ (t : ℕ) (y : Advances step lo hi e m′ t) where
+          module _ (t : ℕ) (y : AdvancesFrom step hi e m′ t) where
             advanced-is : t ≡ advance d e n
-            advanced-is = y .is d (st′ .ready .tables .held) (omega (arith, x .below, small)) ∙ carried-on e (omega arith)
+            advanced-is = y lo m x .is d (st′ .ready .tables .held) small ∙ w .carried e (omega arith)
 
             pub walk-offering : Offering to cost row e n v t (r .cost) (r .via) (r .nodes) (r .counts)
             walk-offering = offering r st′ e (leaving .0) (leaving .1) t advanced-is

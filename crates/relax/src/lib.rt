@@ -128,7 +128,7 @@ fn relax_node<'a>(
         if m.0 == 0 {
             return;
         }
-        let t = advance(step, lo, hi, key, m);
+        let t = advance(step, hi, key, m);
         relax_step(costs, via, nodes, counts, to, cost, row, e, n, v, t.0);
         e += 1;
     }

@@ -1,11 +1,10 @@
 -- `nodes::advance` meets its contract.
+use Rattle.nodes.specs.Advancing.{advancing-hi, advancing-stays}
 use borrow.Author.Needs.{needs}
-use Rattle.nodes.specs.Advancing.{advancing-laws}
 use Rattle.nodes.proofs.walks.advance.Statement.{statement}
 use Rattle.nodes.proofs.walks.advance.Tie as tie
-
-descend-to-requires : tie.Need-descend-to-requires
-descend-to-requires c κs = search needs
+use Rattle.nodes.proofs.walks.advance.Reads as reads
+use Rattle.nodes.proofs.walks.advance.Lts as lts
 
 cast-at : tie.Need-cast-at
 cast-at c = search needs
@@ -16,27 +15,19 @@ mul-if1 c = search needs
 element-copy-out-if1 : tie.Need-element-copy-out-if1
 element-copy-out-if1 c = search needs
 
-mul-t14 : tie.Need-mul-t14
-mul-t14 c = search needs
+mul-t12 : tie.Need-mul-t12
+mul-t12 c = search needs
 
-element-copy-out-t17 : tie.Need-element-copy-out-t17
-element-copy-out-t17 c = search needs
+element-copy-out-t15 : tie.Need-element-copy-out-t15
+element-copy-out-t15 c = search needs
 
 returns : tie.Need-returns
-returns c = search advancing-laws
+returns c = λ lo n low. advancing-hi _ lo _ _ n _ (c .before .before .before .before .pre .0) low (c .before .before .before .before .pre .2) (c .before .if1 .taken)
 
 returns-2 : tie.Need-returns-2
-returns-2 c = search advancing-laws
+returns-2 c = λ lo n low. advancing-stays _ lo _ _ n _ (c .before .before .before .pre .0) low (c .if1 .left)
 
 pub advance-spec : {M : Type 1} → statement M
 advance-spec =
     tie.close
-    (tie.spec
-    descend-to-requires
-    cast-at
-    mul-if1
-    element-copy-out-if1
-    mul-t14
-    element-copy-out-t17
-    returns
-    returns-2)
+    (tie.spec cast-at mul-if1 element-copy-out-if1 mul-t12 element-copy-out-t15 returns returns-2)
