@@ -5,17 +5,12 @@ ghost use Prim.Native.Nat.{_+_, _≤_, _<_};
 ghost use lib.Dec.{eqb};
 ghost use lib.ListN.{getD};
 ghost use Rattle.astar.specs.Places.{stageAt, Placed};
+use convert::wide;
 
 // The stage and the node of a pair.
 pub struct Place {
     pub stage: u16,
     pub node: u16,
-}
-
-fn wide(x: u32) -> usize
-    ensures { λ r. ⌜ r ≡ x ⌝ }
-{
-    x as usize
 }
 
 // The place of pair x in the row of stage s.

@@ -2,7 +2,7 @@
 ghost use mathlib.Core.Path.{_≡_};
 ghost use mathlib.Core.List.{[], _∷_};
 ghost use mathlib.Core.Option.{some};
-ghost use Prim.Native.Nat.{_+_, _-_, _≤_, min};
+ghost use Prim.Native.Nat.{_+_, _-_, _≤_};
 ghost use lib.ListN.{length};
 ghost use Rattle.definitions.specs.Answers.{load as outcome};
 ghost use Rattle.definitions.specs.Promises.{Guided, Scratch};
@@ -18,6 +18,7 @@ use chart::chart_estimates;
 use chart::first_steps;
 use checks::Shape;
 use checks::load;
+use convert::lesser;
 use definitions::Answer;
 use definitions::Node;
 use definitions::Stage;
@@ -29,15 +30,6 @@ use rows::row_starts;
 use trace::pair_at;
 use trace::trail_length;
 use trace::write_trail;
-
-fn lesser(a: usize, b: usize) -> usize
-    ensures { λ r. ⌜ r ≡ min a b ⌝ }
-{
-    if a <= b {
-        return a;
-    }
-    b
-}
 
 // The answer of a goal pair, and its plan: the trail from the start to the node of the end stage.
 fn trace_plan<'a>(

@@ -6,12 +6,7 @@ ghost use Prim.Native.Nat.{ℕ, _+_, _≤_, _<_};
 ghost use lib.ListN.{length, getD};
 ghost use Rattle.heap.specs.Heap.{In, Indexed, key, parent, Heap, Pushed, Decreased, Popped};
 ghost use Rattle.heap.specs.Sift.{Swapped, Sifted, Rising, Sinking, LeastChild};
-
-fn wide(x: u32) -> usize
-    ensures { λ r. ⌜ r ≡ x ⌝ }
-{
-    x as usize
-}
+use convert::wide;
 
 // The key of the pair at place i.
 fn key_at<'a>(keys: &'a [u32], heap: &'a [u32], i: usize) -> u32

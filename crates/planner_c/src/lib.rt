@@ -10,14 +10,9 @@ ghost use Rattle.planner.specs.Both.{SweepKept, GuidedKept, AgreeOn};
 ghost use Rattle.planner.specs.Space.{filesOnly, spaceNeeded};
 ghost use Rattle.report.specs.Appending.{Appended};
 ghost use Rattle.planner_c.specs.Exports.{numbers, spaceNumbers, Given, BothGiven};
+use convert::wide;
 use definitions::Answer;
 use planner::Space;
-
-fn wide(x: u32) -> usize
-    ensures { λ r. ⌜ r ≡ x ⌝ }
-{
-    x as usize
-}
 
 // Stores an answer in document 01's order: number, file, place, cost, length, count.
 fn store(a: Answer, array: &mut [usize; 6])

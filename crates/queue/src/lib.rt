@@ -1,10 +1,10 @@
 // The open pairs of a best-first search, smallest key first: a min-heap with a stack before it. A pair that is inserted at the
 // key just taken goes on the stack and is taken before all others, last in first out. The slices keys, heap, pos and stack are
 // lent with any content, and nothing from p on is touched.
-ghost use mathlib.Core.Path.{_≡_};
 ghost use Prim.Native.Nat.{_≤_, _<_};
 ghost use lib.ListN.{getD};
 ghost use Rattle.queue.specs.Queue.{Contains, Queue, Empty, Inserted, Decreased, Taken};
+use convert::wide;
 
 // How many pairs the queue holds, how many of them are on the stack, and the key last taken, 0 before the first.
 pub struct Counts {
@@ -17,12 +17,6 @@ pub struct Counts {
 pub struct Next {
     pub pair: usize,
     pub counts: Counts,
-}
-
-fn wide(x: u32) -> usize
-    ensures { λ r. ⌜ r ≡ x ⌝ }
-{
-    x as usize
 }
 
 // The counts of a queue that holds nothing.

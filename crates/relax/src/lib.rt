@@ -1,11 +1,13 @@
 // The rows of the sweep, relaxed in turn: from each reached pair every step offers its cost to the pair that it leads to.
 ghost use mathlib.Core.Path.{_≡_};
-ghost use Prim.Native.Nat.{_+_, _-_, _*_, _≤_, _<_};
-ghost use lib.ListN.{length, getD};
+ghost use Prim.Native.Nat.{_+_, _-_, _<_};
+ghost use lib.ListN.{getD};
 ghost use Rattle.sweep_model.specs.Model.{rows, offer as offered, relaxSteps, relaxNodes, relaxRows};
-ghost use Rattle.checks.specs.Ready.{Ready, graphIn, automatonIn};
+ghost use Rattle.checks.specs.Ready.{graphIn, automatonIn};
 ghost use Rattle.relax.specs.Standing.{Open, Offering, stepped, Standing, Row, at};
 use checks::Shape;
+use convert::index;
+use convert::wide;
 use definitions::Node;
 use definitions::Step;
 use nodes::advance;
@@ -13,18 +15,6 @@ use nodes::descend_to;
 
 // The cost of a pair that is not reached.
 const NONE: u32 = 4294967295;
-
-fn wide(x: u32) -> usize
-    ensures { λ r. ⌜ (r ≡ x) × (r < 4294967296) ⌝ }
-{
-    x as usize
-}
-
-fn index(x: u16) -> usize
-    ensures { λ r. ⌜ r ≡ x ⌝ }
-{
-    x as usize
-}
 
 // The pair of stage s, whose row starts at `base`, and node t is offered the cost v. `mark` has the step and the node
 // that offer it.

@@ -1,16 +1,10 @@
 // The text that the program writes, put into a buffer. Where the buffer is too short the text is cut at the buffer's end.
-ghost use mathlib.Core.Path.{_≡_};
-ghost use Prim.Native.Nat.{_≤_, min};
+ghost use Prim.Native.Nat.{_≤_};
 ghost use lib.ListN.{length, take};
 ghost use Rattle.report.specs.Text.{decimal, item, lastItem, stepWord, stepLines, planText, refusedText, report};
 ghost use Rattle.report.specs.Appending.{Appended};
+use convert::lesser;
 use definitions::Answer;
-
-fn lesser(a: usize, b: usize) -> usize
-    ensures { λ r. ⌜ r ≡ min a b ⌝ }
-{
-    if a < b { a } else { b }
-}
 
 // Copies bytes into the buffer from the place `at` on, and returns the place behind them.
 pub fn copy(out: &mut [u8], at: usize, bytes: &[u8]) -> usize

@@ -1,10 +1,10 @@
 // The cheapest goal pair of the end stage's row, and the count of the reached pairs.
 ghost use mathlib.Core.Path.{_≡_};
-ghost use Prim.Native.Nat.{_+_, _≤_, _<_};
-ghost use lib.ListN.{length, getD};
+ghost use Prim.Native.Nat.{_≤_};
 ghost use Rattle.sweep_model.specs.Totals.{total};
 ghost use Rattle.sweep.specs.Goals.{Better, Chosen, Listed};
 ghost use Rattle.relax.specs.Standing.{at};
+use convert::wide;
 
 // The cost of a pair that is not reached.
 const NONE: u32 = 4294967295;
@@ -13,12 +13,6 @@ const NONE: u32 = 4294967295;
 pub struct Best {
     pub cost: u32,
     pub node: u16,
-}
-
-fn wide(x: u32) -> usize
-    ensures { λ r. ⌜ (r ≡ x) × (r < 4294967296) ⌝ }
-{
-    x as usize
 }
 
 // The better of the best goal pair so far and node n at cost v, if that is one.

@@ -1,7 +1,7 @@
 // The sweep of two files: the checks, the rows in turn, and the plan.
 ghost use mathlib.Core.Path.{_≡_};
 ghost use mathlib.Core.List.{[], _∷_};
-ghost use Prim.Native.Nat.{_+_, _-_, _*_, _≤_, _<_, min};
+ghost use Prim.Native.Nat.{_-_, _≤_};
 ghost use lib.ListN.{length};
 ghost use Rattle.definitions.specs.Answers.{load as outcome};
 ghost use Rattle.definitions.specs.Promises.{Swept, Scratch};
@@ -17,6 +17,8 @@ use crate::goals::total_count;
 use chart::first_steps;
 use checks::Shape;
 use checks::load;
+use convert::lesser;
+use convert::wide;
 use definitions::Answer;
 use definitions::Node;
 use definitions::Stage;
@@ -28,21 +30,6 @@ use trace::write_trail;
 
 // The cost of a pair that is not reached.
 const NONE: u32 = 4294967295;
-
-fn lesser(a: usize, b: usize) -> usize
-    ensures { λ r. ⌜ r ≡ min a b ⌝ }
-{
-    if a <= b {
-        return a;
-    }
-    b
-}
-
-fn wide(x: u32) -> usize
-    ensures { λ r. ⌜ (r ≡ x) × (r < 4294967296) ⌝ }
-{
-    x as usize
-}
 
 // The least cost of every pair, from any content of the slices.
 fn sweep_rows<'a>(

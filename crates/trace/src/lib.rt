@@ -3,6 +3,7 @@ ghost use mathlib.Core.Path.{_≡_};
 ghost use Prim.Native.Nat.{_+_, _/_, _%_, _≤_, _<_};
 ghost use lib.ListN.{length, getD};
 ghost use Rattle.trace.specs.Trails.{Traceable, LongAs, Written};
+use convert::wide;
 use definitions::Node;
 use definitions::Stage;
 
@@ -11,12 +12,6 @@ pub struct Left {
     pub step: u16,
     pub stage: u16,
     pub node: u16,
-}
-
-fn wide(x: u32) -> usize
-    ensures { λ r. ⌜ (r ≡ x) × (r < 4294967296) ⌝ }
-{
-    x as usize
 }
 
 // The number of the pair of stage s and node n.

@@ -27,7 +27,7 @@ sift-up-requires : tie.Need-sift-up-requires
 sift-up-requires c κs =
     let e = c .before .before .before in
     let s = e .before .before .before .before .before in
-    (s .pre .0 .indexed, (simp length-set (omega arith), decrease-moving (s .pre .0) (s .pre .1 .0) (e .wide .ensures), decrease-rising (s .pre .0) (s .pre .1 .0) (s .pre .1 .1) (e .wide .ensures)))
+    (s .pre .0 .indexed, (simp length-set (omega arith), decrease-moving (s .pre .0) (s .pre .1 .0) (e .wide .ensures .0), decrease-rising (s .pre .0) (s .pre .1 .0) (s .pre .1 .1) (e .wide .ensures .0)))
 
 same-length : tie.Need-same-length
 same-length c = search needs

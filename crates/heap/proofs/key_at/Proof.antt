@@ -25,7 +25,7 @@ shared-slice-read-result c = search needs
 
 returns : tie.Need-returns
 unfolding key
-returns c = ap (λ (q : ℕ). getD (c .before .before .before .before .before .args .keys .now) q 0) (c .before .wide .ensures)
+returns c = ap (λ (q : ℕ). getD (c .before .before .before .before .before .args .keys .now) q 0) (c .before .wide .ensures .0)
 
 pub key-at-spec : {M : Type 1} → statement M
 key-at-spec =

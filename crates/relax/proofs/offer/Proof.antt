@@ -8,7 +8,7 @@ use Rattle.relax.proofs.offer.Statement.{statement}
 use Rattle.relax.proofs.offer.Tie as tie
 use Rattle.relax.proofs.offer.Reads as reads
 use Rattle.relax.proofs.offer.Lts as lts
-use Rattle.relax.proofs.wide.Reads as wide-reads
+use Rattle.convert.proofs.wide.Reads as wide-reads
 
 -- src/lib.rt:37:13
 add-q : tie.Need-add-q

@@ -10,9 +10,9 @@ use Rattle.relax.proofs.relax_row.Statement.{statement}
 use Rattle.relax.proofs.relax_row.Tie as tie
 use Rattle.relax.proofs.relax_row.Reads as reads
 use Rattle.relax.proofs.relax_row.Lts as lts
-use Rattle.relax.proofs.index.Reads as index-reads
+use Rattle.convert.proofs.index.Reads as index-reads
 use Rattle.relax.proofs.relax_node.Reads as relax-node-reads
-use Rattle.relax.proofs.wide.Reads as wide-reads
+use Rattle.convert.proofs.wide.Reads as wide-reads
 
 abbrev Inv-loop : tie.InvT-loop
 Inv-loop costs₀ via₀ nodes₀ counts₀ z from to cost first row step lo hi s at base start until count k₀ costs via nodes counts k =
@@ -115,7 +115,7 @@ cast-relax-node c = omega (arith, row-small _ _ _ _ _ _ _ _ _ _ _ _ _ _ (c .befo
 
 -- src/lib.rt:154:9
 relax-node-requires : tie.Need-relax-node-requires Inv-loop μ-loop
-relax-node-requires c κs = (row-standing _ _ _ _ _ _ _ _ _ _ _ _ _ _ (c .before .before .before .before .before .before .before .before .loop .inv .0) _ (c .before .before .before .before .before .before .before .before .before .before .before .before .before .before .before .wide .ensures .0) (c .before .before .before .before .before .before .before .loop-test .taken) _ _ refl (c .before .before .before .before .before .wide3 .ensures .0) _ refl, (c .before .before .before .before .before .before .before .before .before .before .before .before .before .index .ensures, c .before .before .before .before .before .before .before .before .before .before .before .index2 .ensures))
+relax-node-requires c κs = (row-standing _ _ _ _ _ _ _ _ _ _ _ _ _ _ (c .before .before .before .before .before .before .before .before .loop .inv .0) _ (c .before .before .before .before .before .before .before .before .before .before .before .before .before .before .before .wide .ensures .0) (c .before .before .before .before .before .before .before .loop-test .taken) _ _ refl (c .before .before .before .before .before .wide3 .ensures .0) _ refl, (c .before .before .before .before .before .before .before .before .before .before .before .before .before .index .ensures .0, c .before .before .before .before .before .before .before .before .before .before .before .index2 .ensures .0))
 
 -- src/lib.rt:157:9
 add-k : tie.Need-add-k Inv-loop μ-loop
@@ -127,7 +127,7 @@ loop-less c = search needs
 
 -- src/lib.rt:151:5
 loop-again : tie.Need-loop-again Inv-loop μ-loop
-loop-again c = (row-more _ _ _ _ _ _ _ _ _ _ _ _ _ _ (c .before .before .before .before .before .before .before .before .before .before .before .before .before .before .before .loop .inv .0) _ (c .before .before .before .before .before .before .before .before .before .before .before .before .before .before .before .before .before .before .before .before .before .before .wide .ensures .0) (c .before .before .before .before .before .before .before .before .before .before .before .before .before .before .loop-test .taken) _ _ refl (c .before .before .before .before .before .before .before .before .before .before .before .before .wide3 .ensures .0) _ refl _ _ _ (c .before .before .before .before .before .before .before .before .before .before .before .before .before .before .before .before .before .before .before .before .index .ensures) (c .before .before .before .before .before .before .before .before .before .before .before .before .before .before .before .before .before .before .index2 .ensures) (c .before .before .before .before .before .before .relax-node .ensures), omega (arith, c .before .before .before .before .before .before .before .before .before .before .before .before .before .before .before .loop .inv .1, c .before .before .before .before .before .before .relax-node .kept .0), omega (arith, c .before .before .before .before .before .before .before .before .before .before .before .before .before .before .before .loop .inv .2, c .before .before .before .before .before .before .relax-node .kept .1 .0), omega (arith, c .before .before .before .before .before .before .before .before .before .before .before .before .before .before .before .loop .inv .3, c .before .before .before .before .before .before .relax-node .kept .1 .1 .0))
+loop-again c = (row-more _ _ _ _ _ _ _ _ _ _ _ _ _ _ (c .before .before .before .before .before .before .before .before .before .before .before .before .before .before .before .loop .inv .0) _ (c .before .before .before .before .before .before .before .before .before .before .before .before .before .before .before .before .before .before .before .before .before .before .wide .ensures .0) (c .before .before .before .before .before .before .before .before .before .before .before .before .before .before .loop-test .taken) _ _ refl (c .before .before .before .before .before .before .before .before .before .before .before .before .wide3 .ensures .0) _ refl _ _ _ (c .before .before .before .before .before .before .before .before .before .before .before .before .before .before .before .before .before .before .before .before .index .ensures .0) (c .before .before .before .before .before .before .before .before .before .before .before .before .before .before .before .before .before .before .index2 .ensures .0) (c .before .before .before .before .before .before .relax-node .ensures), omega (arith, c .before .before .before .before .before .before .before .before .before .before .before .before .before .before .before .loop .inv .1, c .before .before .before .before .before .before .relax-node .kept .0), omega (arith, c .before .before .before .before .before .before .before .before .before .before .before .before .before .before .before .loop .inv .2, c .before .before .before .before .before .before .relax-node .kept .1 .0), omega (arith, c .before .before .before .before .before .before .before .before .before .before .before .before .before .before .before .loop .inv .3, c .before .before .before .before .before .before .relax-node .kept .1 .1 .0))
 
 -- src/lib.rt:126:1
 same-length : tie.Need-same-length Inv-loop μ-loop

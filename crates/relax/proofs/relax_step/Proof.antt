@@ -9,7 +9,7 @@ use Rattle.relax.proofs.relax_step.Tie as tie
 use Rattle.relax.proofs.relax_step.Reads as reads
 use Rattle.relax.proofs.relax_step.Lts as lts
 use Rattle.relax.proofs.offer.Reads as offer-reads
-use Rattle.relax.proofs.wide.Reads as wide-reads
+use Rattle.convert.proofs.wide.Reads as wide-reads
 
 -- src/lib.rt:72:9
 returns : tie.Need-returns

@@ -9,7 +9,7 @@ use Rattle.report.proofs.copy.Statement.{statement}
 use Rattle.report.proofs.copy.Tie as tie
 use Rattle.report.proofs.copy.Reads as reads
 use Rattle.report.proofs.copy.Lts as lts
-use Rattle.report.proofs.lesser.Reads as lesser-reads
+use Rattle.convert.proofs.lesser.Reads as lesser-reads
 
 abbrev Inv-loop : tie.InvT-loop
 Inv-loop out₀ at bytes count i₀ out i = (out ≡ paste out₀ at bytes i) × (i ≤ count) × (length out ≡ length out₀)

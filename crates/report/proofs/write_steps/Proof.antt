@@ -6,7 +6,7 @@ use Rattle.report.proofs.write_steps.Statement.{statement}
 use Rattle.report.proofs.write_steps.Tie as tie
 use Rattle.report.proofs.write_steps.Reads as reads
 use Rattle.report.proofs.write_steps.Lts as lts
-use Rattle.report.proofs.lesser.Reads as lesser-reads
+use Rattle.convert.proofs.lesser.Reads as lesser-reads
 use Rattle.report.proofs.write_step.Reads as write-step-reads
 
 abbrev Inv-loop : tie.InvT-loop

@@ -3,7 +3,7 @@ use Rattle.trace.proofs.pair_at.Statement.{statement}
 use Rattle.trace.proofs.pair_at.Tie as tie
 use Rattle.trace.proofs.pair_at.Reads as reads
 use Rattle.trace.proofs.pair_at.Lts as lts
-use Rattle.trace.proofs.wide.Reads as wide-reads
+use Rattle.convert.proofs.wide.Reads as wide-reads
 
 -- src/lib.rt:26:10
 mul-wide : tie.Need-mul-wide

@@ -3,7 +3,7 @@ use Rattle.trace.proofs.unpacked.Statement.{statement}
 use Rattle.trace.proofs.unpacked.Tie as tie
 use Rattle.trace.proofs.unpacked.Reads as reads
 use Rattle.trace.proofs.unpacked.Lts as lts
-use Rattle.trace.proofs.wide.Reads as wide-reads
+use Rattle.convert.proofs.wide.Reads as wide-reads
 
 -- src/lib.rt:34:9
 wide-requires : tie.Need-wide-requires

@@ -8,7 +8,7 @@ use Rattle.astar.proofs.places.place_of.Tie as tie
 use Rattle.astar.proofs.places.place_of.Reads as reads
 use Rattle.astar.proofs.places.place_of.Lts as lts
 use Rattle.astar.proofs.places.place_in.Reads as place-in-reads
-use Rattle.astar.proofs.places.wide.Reads as wide-reads
+use Rattle.convert.proofs.wide.Reads as wide-reads
 
 -- src/places.rt:46:9
 place-in-requires : tie.Need-place-in-requires
@@ -32,19 +32,19 @@ wide-requires c κs = search needs
 
 -- src/places.rt:49:19
 mul-place-in : tie.Need-mul-place-in
-mul-place-in c = omega (arith, c .wide .ensures, c .before .before .before .before .pre .by-step (c .before .before .if1 .left))
+mul-place-in c = omega (arith, c .wide .ensures .0, c .before .before .before .before .pre .by-step (c .before .before .if1 .left))
 
 -- src/places.rt:49:19
 element-copy-out-place-in : tie.Need-element-copy-out-place-in
-element-copy-out-place-in c = omega (arith, c .wide .ensures, c .before .before .before .before .pre .by-step (c .before .before .if1 .left))
+element-copy-out-place-in c = omega (arith, c .wide .ensures .0, c .before .before .before .before .pre .by-step (c .before .before .if1 .left))
 
 -- src/places.rt:49:5
 place-in-requires-2 : tie.Need-place-in-requires-2
-place-in-requires-2 c κs = placed-step (c .before .before .before .before .before .pre) _ (c .before .before .before .if1 .left) (c .before .wide .ensures)
+place-in-requires-2 c κs = placed-step (c .before .before .before .before .before .pre) _ (c .before .before .before .if1 .left) (c .before .wide .ensures .0)
 
 -- src/places.rt:34:1
 returns-2 : tie.Need-returns-2
-returns-2 c = (c .place-in2 .ensures .0 ∙ placed-stage (c .before .before .before .before .before .before .pre) _ (c .before .before .before .before .if1 .left) (c .before .before .wide .ensures), c .place-in2 .ensures .1)
+returns-2 c = (c .place-in2 .ensures .0 ∙ placed-stage (c .before .before .before .before .before .before .pre) _ (c .before .before .before .before .if1 .left) (c .before .before .wide .ensures .0), c .place-in2 .ensures .1)
 
 pub place-of-spec : {M : Type 1} → statement M
 place-of-spec =

@@ -10,7 +10,7 @@ use Rattle.guided.proofs.run.guided.Tie as tie
 use Rattle.guided.proofs.run.guided.Reads as reads
 use Rattle.guided.proofs.run.guided.Lts as lts
 use Rattle.checks.proofs.load.Reads as load-reads
-use Rattle.guided.proofs.run.lesser.Reads as lesser-reads
+use Rattle.convert.proofs.lesser.Reads as lesser-reads
 use Rattle.guided.proofs.run.run.Reads as run-reads
 
 -- src/run.rt:188:33

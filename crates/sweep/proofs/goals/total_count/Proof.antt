@@ -12,7 +12,7 @@ use Rattle.sweep.proofs.goals.total_count.Statement.{statement}
 use Rattle.sweep.proofs.goals.total_count.Tie as tie
 use Rattle.sweep.proofs.goals.total_count.Reads as reads
 use Rattle.sweep.proofs.goals.total_count.Lts as lts
-use Rattle.sweep.proofs.goals.wide.Reads as wide-reads
+use Rattle.convert.proofs.wide.Reads as wide-reads
 
 abbrev Inv-loop : tie.InvT-loop
 Inv-loop counts stages sum₀ s₀ sum s = (s ≤ stages) × (sum ≡ total (at counts) s) × (sum ≤ s * 4294967296)

@@ -12,7 +12,7 @@ use Rattle.sweep.proofs.run.conclude.Lts as lts
 use Rattle.nodes.proofs.finishing.Reads as finishing-reads
 use Rattle.sweep.proofs.goals.cheapest_goal.Reads as cheapest-goal-reads
 use Rattle.sweep.proofs.goals.total_count.Reads as total-count-reads
-use Rattle.sweep.proofs.run.wide.Reads as wide-reads
+use Rattle.convert.proofs.wide.Reads as wide-reads
 use Rattle.trace.proofs.trail_length.Reads as trail-length-reads
 use Rattle.trace.proofs.write_trail.Reads as write-trail-reads
 

@@ -10,7 +10,7 @@ use Rattle.sweep.proofs.run.sweep.Tie as tie
 use Rattle.sweep.proofs.run.sweep.Reads as reads
 use Rattle.sweep.proofs.run.sweep.Lts as lts
 use Rattle.checks.proofs.load.Reads as load-reads
-use Rattle.sweep.proofs.run.lesser.Reads as lesser-reads
+use Rattle.convert.proofs.lesser.Reads as lesser-reads
 use Rattle.sweep.proofs.run.run.Reads as run-reads
 
 -- src/run.rt:167:23

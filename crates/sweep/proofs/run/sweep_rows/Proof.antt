@@ -12,7 +12,7 @@ use Rattle.sweep.proofs.run.sweep_rows.Lts as lts
 use Rattle.relax.proofs.relax_rows.Reads as relax-rows-reads
 use Rattle.sweep.proofs.begin.begin.Reads as begin-reads
 use Rattle.sweep.proofs.begin.clear.Reads as clear-reads
-use Rattle.sweep.proofs.run.wide.Reads as wide-reads
+use Rattle.convert.proofs.wide.Reads as wide-reads
 
 -- src/run.rt:61:18
 cast-stages : tie.Need-cast-stages
