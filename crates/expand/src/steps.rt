@@ -52,7 +52,7 @@ fn offer<'a>(
     if rest == NONE {
         return counts;
     }
-    let y = pair_at(row, stage, t.0);
+    let y = pair_at(row, Stage(stage), t);
     let v = base + cost[i] + rest;
     let mark = e.0 as u32 * 512 + n.0 as u32;
     relax(keys, via, heap, pos, stack, p, counts, y, v, mark)

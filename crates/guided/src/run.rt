@@ -110,10 +110,10 @@ fn find<'a>(
 {
     let width = z.nodes + 2;
     let stages = z.stages as usize;
-    let low = pair_at(row, z.start, 0);
-    let high = pair_at(row, z.end, 0);
+    let low = pair_at(row, Stage(z.start), Node(0));
+    let high = pair_at(row, Stage(z.end), Node(0));
     clear_keys(keys, low, high + width);
-    let begin = pair_at(row, z.start, z.root);
+    let begin = pair_at(row, Stage(z.start), Node(z.root));
     let e = search(
         keys,
         via,

@@ -6,32 +6,33 @@ ghost use Rattle.trace.specs.Trails.{Traceable, LongAs, Written};
 use convert::wide;
 use definitions::Node;
 use definitions::Stage;
+use definitions::Step;
 
 // A step, and the stage and node that it left.
 pub struct Left {
-    pub step: u16,
-    pub stage: u16,
-    pub node: u16,
+    pub step: Step,
+    pub stage: Stage,
+    pub node: Node,
 }
 
 // The number of the pair of stage s and node n.
-pub fn pair_at(row: &[u32; 256], s: u16, n: u16) -> usize
-    requires { ⌜ s < 256 ⌝ }
-    ensures { λ r. ⌜ r ≡ getD (now (row .entry)) s 0 + n ⌝ }
+pub fn pair_at(row: &[u32; 256], s: Stage, n: Node) -> usize
+    requires { ⌜ s .0 < 256 ⌝ }
+    ensures { λ r. ⌜ r ≡ getD (now (row .entry)) (s .0) 0 + n .0 ⌝ }
 {
-    wide(row[s as usize]) + n as usize
+    wide(row[s.0 as usize]) + n.0 as usize
 }
 
 // The step and the node that stand packed in one number.
 fn unpacked(from: &[u16; 1024], packed: u32) -> Left
     requires { ⌜ packed / 512 < 1024 ⌝ }
-    ensures { λ r. ⌜ (r .step ≡ packed / 512) × (r .stage ≡ getD (now (from .entry)) (r .step) 0) × (r .node ≡ packed % 512) ⌝ }
+    ensures { λ r. ⌜ (r .step .0 ≡ packed / 512) × (r .stage .0 ≡ getD (now (from .entry)) (r .step .0) 0) × (r .node .0 ≡ packed % 512) ⌝ }
 {
     let e = wide(packed / 512);
     Left {
-        step: e as u16,
-        stage: from[e],
-        node: (packed % 512) as u16,
+        step: Step(e as u16),
+        stage: Stage(from[e]),
+        node: Node((packed % 512) as u16),
     }
 }
 
@@ -54,10 +55,10 @@ pub fn trail_length<'a>(
     let mut n = node.0;
     let mut count: usize = 0;
     while first < s {
-        let at = pair_at(row, s, n);
+        let at = pair_at(row, Stage(s), Node(n));
         let b = unpacked(from, via[at]);
-        s = b.stage;
-        n = b.node;
+        s = b.stage.0;
+        n = b.node.0;
         count += 1;
     }
     count
@@ -85,11 +86,11 @@ pub fn write_trail<'a>(
     let mut n = node.0;
     let mut i = count;
     while first < s {
-        let at = pair_at(row, s, n);
+        let at = pair_at(row, Stage(s), Node(n));
         let b = unpacked(from, via[at]);
         i -= 1;
-        plan[i] = b.step;
-        s = b.stage;
-        n = b.node;
+        plan[i] = b.step.0;
+        s = b.stage.0;
+        n = b.node.0;
     }
 }

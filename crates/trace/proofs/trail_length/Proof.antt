@@ -49,7 +49,7 @@ loop-less c = follow-less _ _ _ _ _ _ _ _ (c .before .before .before .before .be
 
 -- src/lib.rt:60:5
 loop-again : tie.Need-loop-again Inv-loop μ-loop
-loop-again c = (c .unpacked .result .step ∷ c .before .before .before .before .loop .inv .0, follow-more _ _ _ _ _ _ _ _ (c .before .before .before .before .before .before .pre) _ _ _ (c .before .before .before .before .loop .inv .1) (c .before .before .before .loop-test .taken) _ _ (c .before .before .pair-at .ensures) refl _ _ _ (c .unpacked .ensures .0) (c .unpacked .ensures .1) (c .unpacked .ensures .2), omega (arith, c .before .before .before .before .loop .inv .2), omega (arith, c .before .before .before .before .loop .inv .3, follow-less _ _ _ _ _ _ _ _ (c .before .before .before .before .before .before .pre) _ _ _ (c .before .before .before .before .loop .inv .1) (c .before .before .before .loop-test .taken) _ _ (c .before .before .pair-at .ensures) refl _ _ _ (c .unpacked .ensures .0) (c .unpacked .ensures .1) (c .unpacked .ensures .2)))
+loop-again c = (c .unpacked .result .step .0 ∷ c .before .before .before .before .loop .inv .0, follow-more _ _ _ _ _ _ _ _ (c .before .before .before .before .before .before .pre) _ _ _ (c .before .before .before .before .loop .inv .1) (c .before .before .before .loop-test .taken) _ _ (c .before .before .pair-at .ensures) refl _ _ _ (c .unpacked .ensures .0) (c .unpacked .ensures .1) (c .unpacked .ensures .2), omega (arith, c .before .before .before .before .loop .inv .2), omega (arith, c .before .before .before .before .loop .inv .3, follow-less _ _ _ _ _ _ _ _ (c .before .before .before .before .before .before .pre) _ _ _ (c .before .before .before .before .loop .inv .1) (c .before .before .before .loop-test .taken) _ _ (c .before .before .pair-at .ensures) refl _ _ _ (c .unpacked .ensures .0) (c .unpacked .ensures .1) (c .unpacked .ensures .2)))
 
 -- src/lib.rt:43:1
 returns : tie.Need-returns Inv-loop μ-loop

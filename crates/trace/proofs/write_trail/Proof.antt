@@ -57,7 +57,7 @@ loop-less c = follow-less _ _ _ _ _ _ _ _ (c .before .before .before .before .be
 
 -- src/lib.rt:91:5
 loop-again : tie.Need-loop-again Inv-loop μ-loop
-loop-again c = (c .unpacked .result .step ∷ c .before .before .before .before .loop .inv .0, follow-more _ _ _ _ _ _ _ _ (c .before .before .before .before .before .before .before .pre .0) _ _ _ (c .before .before .before .before .loop .inv .1) (c .before .before .before .loop-test .taken) _ _ (c .before .before .pair-at .ensures) refl _ _ _ (c .unpacked .ensures .0) (c .unpacked .ensures .1) (c .unpacked .ensures .2), put-at (c .before .before .before .before .loop .i) _ (c .before .before .before .before .before .before .before .args .plan .now) _ _ _ (omega (arith, c .before .before .before .before .loop .inv .3, c .before .before .before .before .before .before .before .pre .1 .0)) (omega (arith, follow-some _ _ _ _ _ _ _ _ (c .before .before .before .before .before .before .before .pre .0) _ _ _ (c .before .before .before .before .loop .inv .1) _ _ (c .before .before .before .before .before .before .before .pre .1 .1) (c .before .before .before .before .loop .inv .3) (c .before .before .before .loop-test .taken))) (c .before .before .before .before .loop .inv .2), omega (arith, c .before .before .before .before .loop .inv .3, follow-some _ _ _ _ _ _ _ _ (c .before .before .before .before .before .before .before .pre .0) _ _ _ (c .before .before .before .before .loop .inv .1) _ _ (c .before .before .before .before .before .before .before .pre .1 .1) (c .before .before .before .before .loop .inv .3) (c .before .before .before .loop-test .taken)), search needs)
+loop-again c = (c .unpacked .result .step .0 ∷ c .before .before .before .before .loop .inv .0, follow-more _ _ _ _ _ _ _ _ (c .before .before .before .before .before .before .before .pre .0) _ _ _ (c .before .before .before .before .loop .inv .1) (c .before .before .before .loop-test .taken) _ _ (c .before .before .pair-at .ensures) refl _ _ _ (c .unpacked .ensures .0) (c .unpacked .ensures .1) (c .unpacked .ensures .2), put-at (c .before .before .before .before .loop .i) _ (c .before .before .before .before .before .before .before .args .plan .now) _ _ _ (omega (arith, c .before .before .before .before .loop .inv .3, c .before .before .before .before .before .before .before .pre .1 .0)) (omega (arith, follow-some _ _ _ _ _ _ _ _ (c .before .before .before .before .before .before .before .pre .0) _ _ _ (c .before .before .before .before .loop .inv .1) _ _ (c .before .before .before .before .before .before .before .pre .1 .1) (c .before .before .before .before .loop .inv .3) (c .before .before .before .loop-test .taken))) (c .before .before .before .before .loop .inv .2), omega (arith, c .before .before .before .before .loop .inv .3, follow-some _ _ _ _ _ _ _ _ (c .before .before .before .before .before .before .before .pre .0) _ _ _ (c .before .before .before .before .loop .inv .1) _ _ (c .before .before .before .before .before .before .before .pre .1 .1) (c .before .before .before .before .loop .inv .3) (c .before .before .before .loop-test .taken)), search needs)
 
 -- src/lib.rt:71:1
 same-length : tie.Need-same-length Inv-loop μ-loop
