@@ -12,9 +12,10 @@ use Rattle.definitions.specs.Fields.{part, fieldAt, stopped}
 use Rattle.definitions.specs.Charts.{ChartStep, noStep, stepFault, stepOf, lastFrom, stepFaultAfter, scanSteps}
 use Rattle.definitions.specs.declared.Field.{Field}
 use Rattle.definitions.specs.declared.Field.the-variants.{Absent, Faulty, Whole}
+use Rattle.fields.specs.Listed.{rest-kept}
 use Rattle.fields.specs.Scans.{Reading, reading-start, reading-done, reading-faulty, reading-bad, reading-step}
 use Rattle.chart.specs.Tables.{heldSteps, Room, Filled, stepBody, stepsAnswer}
-use Rattle.chart.specs.Held.{held-grown, rest-grown, nothing-filled}
+use Rattle.chart.specs.Held.{held-grown, nothing-filled}
 use Rattle.chart.specs.Limits.{step-fits}
 use Rattle.chart.specs.declared.reader.StepBody.{StepBody}
 use Rattle.chart.specs.declared.reader.StepsRead.{StepsRead}
@@ -49,9 +50,9 @@ filled-grown before x count from₀ to₀ cost₀ from to cost counted below now
     let held : heldSteps count from to cost ≡ before = rw (← counted) (now .held) in
     record {
       held = rw (long, held-grown count from to cost x (now .room) below, held);
-      from-rest = rw long (rest-grown count (x .from) from from₀ (rw (← counted) (now .from-rest)));
-      to-rest = rw long (rest-grown count (x .to) to to₀ (rw (← counted) (now .to-rest)));
-      cost-rest = rw long (rest-grown count (x .cost) cost cost₀ (rw (← counted) (now .cost-rest)));
+      from-rest = rw long (rest-kept count (count + 1) count (x .from) from from₀ (omega arith) (omega arith) (rw (← counted) (now .from-rest)));
+      to-rest = rw long (rest-kept count (count + 1) count (x .to) to to₀ (omega arith) (omega arith) (rw (← counted) (now .to-rest)));
+      cost-rest = rw long (rest-kept count (count + 1) count (x .cost) cost cost₀ (omega arith) (omega arith) (rw (← counted) (now .cost-rest)));
       room = record {
         froms = length-set from count (x .from) ∙ now .room .froms;
         tos = length-set to count (x .to) ∙ now .room .tos;

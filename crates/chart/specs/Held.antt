@@ -1,10 +1,10 @@
 -- The steps that stand in tables, by index, and how they grow by a store.
 -- Assumes nothing.
 use Prim.Native.Nat.{ℕ, _+_, _<_}
-use mathlib.Core.Path.{_≡_, refl, sym, _∙_, ap}
+use mathlib.Core.Path.{_≡_, refl, ap}
 use mathlib.Core.List.{List, [], _∷_, _++_}
-use lib.ListN.{length, getD, set, drop}
-use lib.Seq.{getD-set-same, getD-set-other, drop-set-lt, drop-drop}
+use lib.ListN.{length, getD, set}
+use lib.Seq.{getD-set-same, getD-set-other}
 use native.Mathlib.Omega.{arith}
 use Rattle.definitions.specs.Charts.{ChartStep, noStep}
 use Rattle.fields.specs.Listed.{listed-length, listed-getD, grown}
@@ -42,10 +42,6 @@ module _ (count : ℕ) (from to cost : List ℕ) (x : ChartStep) (room : Room fr
   unfolding heldSteps
   held-grown =
       grown (heldStep from to cost) (heldStep (set from count (x .from)) (set to count (x .to)) (set cost count (x .cost))) count x stored-before stored-here
-
--- the entries past a store stay
-pub rest-grown : (n v : ℕ) (l l₀ : List ℕ) → drop n l ≡ drop n l₀ → drop (n + 1) (set l n v) ≡ drop (n + 1) l₀
-rest-grown n v l l₀ h = drop-set-lt (n + 1) l n v (omega arith) ∙ sym (drop-drop 1 n l) ∙ ap (drop 1) h ∙ drop-drop 1 n l₀
 
 -- no step stored
 pub nothing-filled : (from to cost : List ℕ) → Room from to cost → Filled [] from to cost from to cost

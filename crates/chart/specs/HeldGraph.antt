@@ -1,18 +1,15 @@
--- The graph of a chart that stands in tables: what its parts are, and that a chart which was read and accepted stands there and is valid.
+-- The graph of a chart that stands in tables: its steps in order, and the first step of each stage.
 -- Assumes nothing.
-use Prim.Native.Nat.{ℕ, _≤_}
-use mathlib.Core.Path.{_≡_, sym, _∙_, ap, subst}
+use Prim.Native.Nat.{ℕ}
+use mathlib.Core.Path.{_≡_, sym, _∙_}
 use mathlib.Core.List.{List}
 use lib.ListN.{length, getD}
 use native.Mathlib.Omega.{arith}
-use Rattle.definitions.specs.Charts.{Chart, readChart}
 use Rattle.definitions.specs.Plans.{graph}
 use Rattle.definitions.specs.Limits.{Valid}
-use Rattle.chart.specs.Tables.{heldSteps, heldChart, Filled, chartAnswer}
+use Rattle.chart.specs.Tables.{heldSteps, heldChart}
 use Rattle.chart.specs.Held.{held-count, held-from}
 use Rattle.chart.specs.FirstSteps.{leavingBelow, firstStep, SortedTable, FirstTable, Firsts, Split, split-is, splits}
-use Rattle.chart.specs.Accepted.{chart-accepted}
-use Rattle.chart.specs.declared.reader.ChartRead.{ChartRead}
 
 -- ---- the first steps
 
@@ -40,26 +37,3 @@ module _ (stages start end count : ℕ) (from to cost : List ℕ) (v : Valid (gr
             below = λ e l. omega (arith, held-from count from to cost e (omega (arith, old s .inside)), old s .below e l);
             above = λ e l h. omega (arith, held-from count from to cost e (omega (arith, n)), old s .above e l (omega (arith, n)));
           })
-
--- ---- what was read: `r` is the reader's answer, and the tables are as it leaves them
-
-module _ (s : List ℕ) (r : ChartRead) (from to cost from′ to′ cost′ : List ℕ) (read : r ≡ chartAnswer (readChart s))
-    (filled : Filled (readChart s .chart .steps) from to cost from′ to′ cost′) where
-  pub read-held : heldChart (r .stages) (r .start) (r .end) (r .steps) from′ to′ cost′ ≡ readChart s .chart
-  read-held = rw (read, filled .held)
-
-  module _ (accepted : r .number ≡ 0) where
-    pub read-valid : Valid (graph (heldChart (r .stages) (r .start) (r .end) (r .steps) from′ to′ cost′))
-    read-valid = subst (λ (c : Chart). Valid (graph c)) (sym read-held) (chart-accepted s (sym (ap (λ (x : ChartRead). x .number) read) ∙ accepted))
-
-    pub read-few-stages : r .stages ≤ 256
-    read-few-stages = read-valid .few-stages
-
-    pub read-sorted : SortedTable (r .steps) from′
-    read-sorted = held-sorted (r .stages) (r .start) (r .end) (r .steps) from′ to′ cost′ read-valid
-
-    pub read-firsts : (first : List ℕ) → FirstTable (r .steps) (r .stages) from′ first
-        → Firsts (graph (heldChart (r .stages) (r .start) (r .end) (r .steps) from′ to′ cost′)) first
-    read-firsts = held-firsts (r .stages) (r .start) (r .end) (r .steps) from′ to′ cost′ read-valid
-
-pub ruleset read-laws = (read-held, read-valid, read-few-stages, read-sorted, read-firsts)

@@ -11,9 +11,10 @@ use Rattle.definitions.specs.Fields.{part, fieldAt, stopped}
 use Rattle.definitions.specs.Diagrams.{InnerNode, noNode, nodeFault, nodeOf, nodeFaultAfter, scanNodes}
 use Rattle.definitions.specs.declared.Field.{Field}
 use Rattle.definitions.specs.declared.Field.the-variants.{Absent, Faulty, Whole}
+use Rattle.fields.specs.Listed.{rest-kept}
 use Rattle.fields.specs.Scans.{Reading, reading-start, reading-done, reading-faulty, reading-bad, reading-step}
 use Rattle.diagram.specs.Tables.{heldNodes, Marked}
-use Rattle.diagram.specs.Held.{getD-held, held-grown, rest-kept}
+use Rattle.diagram.specs.Held.{getD-held, held-grown}
 use Rattle.diagram.specs.Files.{Room, Stored, Filled, ReadsNodes}
 use Rattle.diagram.specs.Limits.{NodeFits, node-fits, nodeFault-same}
 

@@ -3,8 +3,8 @@
 use Prim.Native.Nat.{ℕ, _+_, _-_, _≤_, _<_}
 use mathlib.Core.Path.{_≡_, sym, _∙_, ap}
 use mathlib.Core.List.{List, [], _∷_, _++_}
-use lib.ListN.{length, getD, set, drop}
-use lib.Seq.{getD-set-same, getD-set-other, drop-set-lt, drop-drop}
+use lib.ListN.{length, getD, set}
+use lib.Seq.{getD-set-same, getD-set-other}
 use native.Mathlib.Omega.{arith}
 use Rattle.definitions.specs.Diagrams.{Diagram, InnerNode, noNode, size, inner}
 use Rattle.definitions.specs.Limits.{Ordered}
@@ -55,12 +55,6 @@ module _ (count : ℕ) (step lo hi : List ℕ) (x : InnerNode) (room : Room step
   pub held-grown : heldNodes (count + 1) (set step (count + 2) (x .step)) (set lo (count + 2) (x .lo)) (set hi (count + 2) (x .hi)) ≡ heldNodes count step lo hi ++ x ∷ []
   unfolding heldNodes
   held-grown = grown (λ (i : ℕ). entry step lo hi (i + 2)) (λ (i : ℕ). stored (i + 2)) count x stored-before stored-here
-
--- what stays past a number stays past a later one, after a store before that
-pub rest-kept : (m n i v : ℕ) (l l₀ : List ℕ) → m ≤ n → i < n → drop m l ≡ drop m l₀ → drop n (set l i v) ≡ drop n l₀
-rest-kept m n i v l l₀ h g e =
-    let q : m + (n - m) ≡ n = omega arith in
-    drop-set-lt n l i v g ∙ rw (← q) (sym (drop-drop (n - m) m l) ∙ ap (drop (n - m)) e ∙ drop-drop (n - m) m l₀)
 
 module _ (d : Diagram) (step lo hi : List ℕ) (held : Held d step lo hi) where
   pub held-is : d ≡ heldDiagram (d .root) (length (d .nodes)) step lo hi

@@ -1,9 +1,10 @@
 -- A list given by its entries: f 0, f 1 .. in order. So a table is spoken of whose entries are stored one by one.
 -- Assumes nothing.
-use Prim.Native.Nat.{ℕ, zero, suc, _+_, _<_}
-use mathlib.Core.Path.{_≡_, refl, ap}
+use Prim.Native.Nat.{ℕ, zero, suc, _+_, _-_, _≤_, _<_}
+use mathlib.Core.Path.{_≡_, refl, sym, _∙_, ap}
 use mathlib.Core.List.{List, [], _∷_, _++_, map}
-use lib.ListN.{length, getD}
+use lib.ListN.{length, getD, set, drop}
+use lib.Seq.{drop-set-lt, drop-drop}
 use native.Mathlib.Numerals.{add-one}
 use native.Mathlib.Omega.{arith}
 use Rattle.definitions.specs.Basics.{run, upto}
@@ -36,3 +37,9 @@ module _ {A : Type 0} where
   -- one more entry stored, the entries before it kept
   pub grown : (f g : ℕ → A) (n : ℕ) (y : A) → ((j : ℕ) → j < n → g j ≡ f j) → g n ≡ y → map g (upto (n + 1)) ≡ map f (upto n) ++ y ∷ []
   grown f g n y h e = rw (add-one n, ← e) (grown-from f g 0 n n h (omega arith))
+
+-- what stays past a number stays past a later one, after a store before that
+pub rest-kept : (m n i v : ℕ) (l l₀ : List ℕ) → m ≤ n → i < n → drop m l ≡ drop m l₀ → drop n (set l i v) ≡ drop n l₀
+rest-kept m n i v l l₀ h g e =
+    let q : m + (n - m) ≡ n = omega arith in
+    drop-set-lt n l i v g ∙ rw (← q) (sym (drop-drop (n - m) m l) ∙ ap (drop (n - m)) e ∙ drop-drop (n - m) m l₀)

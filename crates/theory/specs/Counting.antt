@@ -138,10 +138,6 @@ once-distinct xs once i j hi hj e = go (order i j)
     go (same q) = q
     go (more h) = absurd (once j i h hi (sym e))
 
--- a list of distinct numbers below p is at most p long
-pub list-below : (xs : List ℕ) (p : ℕ) → ((i : ℕ) → i < length xs → getD xs i 0 < p) → Once xs → length xs ≤ p
-list-below xs p below once = pigeons p (length xs) (λ (i : ℕ). getD xs i 0) below (once-distinct xs once)
-
 -- a list of distinct members of l is no longer than l
 pub list-among : (xs l : List ℕ) → ((i : ℕ) → i < length xs → List·Memᴰ (getD xs i 0) l) → Once xs → length xs ≤ length l
 list-among xs l each once =
