@@ -10,14 +10,14 @@ use lib.Dec.{eqb}
 use borrow.Author.Tests.{eqb-true, eq-eqb}
 use Rattle.definitions.specs.Charts.{Chart}
 use Rattle.definitions.specs.Diagrams.{Diagram, advance, finish}
-use Rattle.definitions.specs.Ways.{Graph, IsWay, endOf, wayCost}
+use Rattle.definitions.specs.Ways.{Graph, IsWay, isWay, endOf, wayCost}
 use Rattle.definitions.specs.Pairs.{Automaton, stands, leastCost, goal}
-use Rattle.definitions.specs.Plans.{graph, key, automaton, saysYes, Legal, legalWay, cheapest}
+use Rattle.definitions.specs.Plans.{graph, key, automaton, saysYes, Legal, legalWay, legal, cheapest}
 use Rattle.definitions.specs.Limits.{Valid, Ordered}
 use Rattle.theory.specs.Basics.{both}
 use Rattle.theory.specs.Least.{IsLeast, least-same, least-unique}
 use Rattle.theory.specs.Diagrams.{Sorted, advanceAll, finish-leaf, verdict-stands}
-use Rattle.theory.specs.Ways.{Rising, way-rising, Passing, leastWay-least}
+use Rattle.theory.specs.Ways.{Rising, way-rising, Passing, leastWay-least, isWay-is, is-isWay}
 use Rattle.theory.specs.Pairs.{WayTo, cost-attained, cost-lower, way-reached, goal-parts, is-goal}
 
 -- ---- the variables of a way
@@ -42,6 +42,18 @@ stands-keys c d [] n = refl
 stands-keys c d (e ∷ w) n = stands-keys c d w (advance d (key c e) n)
 
 -- ---- legal plans
+
+-- the test that the marked table computes and the statement of the promises agree
+pub legal-is : (c : Chart) (d : Diagram) (w : List ℕ) → legal c d w ≡ true → Legal c d w
+unfolding legal
+legal-is c d w t =
+    let u = both (isWay (graph c) (c .start) w) (legalWay c d w) t in
+    let x = both (eqb (endOf (graph c) (c .start) w) (c .end)) (saysYes c d w) (u .1) in
+    ((isWay-is (graph c) (c .start) w (u .0), eqb-true _ _ (x .0)), x .1)
+
+pub is-legal : (c : Chart) (d : Diagram) (w : List ℕ) → Legal c d w → legal c d w ≡ true
+unfolding legal
+is-legal c d w t = simp (is-isWay (graph c) (c .start) w (t .0 .0), eq-eqb _ _ (t .0 .1), t .1)
 
 -- a legal plan of cost k
 abbrev pub LegalCost : Chart → Diagram → ℕ → Type 0

@@ -3,18 +3,19 @@
 -- Assumes nothing.
 use Prim.Native.Nat.{ℕ, zero, suc, _+_, _*_, _≤_, _<_}
 use mathlib.Core.Path.{_≡_, refl}
-use mathlib.Core.Bool.{Bool, true}
+use mathlib.Core.Bool.{Bool, true, _&&_}
 use mathlib.Core.List.{List, [], _∷_, _++_, List·Memᴰ, List·Memᴰ·head, List·Memᴰ·tail, List·Memᴰ·not-nil, List·Memᴰ·cases-cons, Memᴰ·map, Memᴰ·of-map}
 use mathlib.Core.Option.{some}
 use native.Mathlib.Omega.{arith}
+use lib.Dec.{ltb, eqb}
 use lib.ListN.{length}
-use borrow.Author.Tests.{eqb-true, eq-eqb}
+use borrow.Author.Tests.{ltb-true, eqb-true, lt-ltb, eq-eqb}
 use Rattle.definitions.specs.Basics.{keep, upto}
-use Rattle.definitions.specs.Ways.{Graph, IsWay, endOf, wayCost, leaving, waysIn, ways, leastWay}
+use Rattle.definitions.specs.Ways.{Graph, IsWay, isWay, endOf, wayCost, leaving, waysIn, ways, leastWay}
 use Rattle.definitions.specs.Pairs.{Automaton, stands}
 use Rattle.definitions.specs.Limits.{Valid}
 use Rattle.theory.specs.Least.{IsLeast, least-of}
-use Rattle.theory.specs.Basics.{either, lt-or-le, AtMost, keep-in, in-keep, each-in, in-each, run-in, in-run, least-lower, least-in}
+use Rattle.theory.specs.Basics.{both, either, lt-or-le, AtMost, keep-in, in-keep, each-in, in-each, run-in, in-run, least-lower, least-in}
 
 -- ---- the steps of a way
 
@@ -54,6 +55,19 @@ module _ (g : Graph) (v : Valid g) where
 
   pub way-bounded : (w : List ℕ) (a : ℕ) → a < g .stages → IsWay g a w → wayCost g w ≤ 255000000
   way-bounded w a h i = omega (arith, way-cheap w a i, way-length w a h i, v .few-stages)
+
+-- ---- the test and the statement agree
+
+pub isWay-is : (g : Graph) (a : ℕ) (w : List ℕ) → isWay g a w ≡ true → IsWay g a w
+isWay-is g a [] t = tt
+isWay-is g a (e ∷ w) t =
+    let u = both (ltb e (g .count) && eqb (g .from e) a) (isWay g (g .to e) w) t in
+    let s = both (ltb e (g .count)) (eqb (g .from e) a) (u .0) in
+    (ltb-true _ _ (s .0), eqb-true _ _ (s .1), isWay-is g (g .to e) w (u .1))
+
+pub is-isWay : (g : Graph) (a : ℕ) (w : List ℕ) → IsWay g a w → isWay g a w ≡ true
+is-isWay g a [] i = refl
+is-isWay g a (e ∷ w) i = simp (lt-ltb _ _ (i .0), eq-eqb _ _ (i .1)) (is-isWay g (g .to e) w (i .2))
 
 -- ---- the least cost over all ways that pass a test
 
