@@ -103,9 +103,10 @@ fn grid(across: &Axis, up: &Axis) -> String {
     }
     let (middle, centre, below) = ((left + right) / 2.0, (top + bottom) / 2.0, bottom + 42.0);
     text + &format!(
-        "<text x=\"{middle:.1}\" y=\"{below:.1}\" text-anchor=\"middle\">pairs reached (sweep) \
-         or settled (guided)</text>\n<text x=\"20\" y=\"{centre:.1}\" text-anchor=\"middle\" \
-         transform=\"rotate(-90 20 {centre:.1})\">time of a call, µs</text>\n"
+        "<text x=\"{middle:.1}\" y=\"24\" text-anchor=\"middle\">Time of a call on every load, \
+         both axes logarithmic</text>\n<text x=\"{middle:.1}\" y=\"{below:.1}\" \
+         text-anchor=\"middle\">pairs reached (sweep) or settled (guided)</text>\n<text x=\"20\" \
+         y=\"{centre:.1}\" text-anchor=\"middle\" transform=\"rotate(-90 20 {centre:.1})\">time of a call, µs</text>\n"
     )
 }
 
