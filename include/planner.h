@@ -27,7 +27,8 @@
 extern "C" {
 #endif
 
-/* Numbers of an answer: accepted, or the cause of the refusal, in the order in which causes are looked for. */
+/* Numbers of an answer: accepted, or the cause of the refusal. The chart is looked at before the diagram, each from
+ * its front; then the space; then whether there is a plan. */
 enum {
     PLANNER_ACCEPTED = 0,
     PLANNER_CUT = 1,     /* the file ends inside a field */
@@ -112,7 +113,8 @@ uint32_t planner_sweep(const uint8_t *chart, size_t chart_len,
                        planner_answer *answer);
 
 /*
- * The guided search (A*): a cheapest legal plan, from as few pairs as the estimates allow.
+ * The guided search (A*): a cheapest legal plan. It settles pairs in the order of their least cost plus their estimate
+ * and ends at the first goal pair, so no pair whose sum is above the plan's cost is settled.
  *
  * Lent, with the least length; a shorter slice gives 7:
  *   keys, via, heap, pos, stack, log   space.work

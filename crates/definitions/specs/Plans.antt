@@ -26,25 +26,25 @@ graph c = record {
 }
 
 -- the diagram's variable that a step sets: the step itself
-abbrev pub key : Chart → ℕ → ℕ
-key c e = e
+abbrev pub variable : Chart → ℕ → ℕ
+variable c e = e
 
 -- what it costs to set a variable: the cost of its step
-abbrev pub keyCost : Chart → ℕ → ℕ
-keyCost c k = graph c .cost k
+abbrev pub variableCost : Chart → ℕ → ℕ
+variableCost c k = graph c .cost k
 
 -- the diagram as the automaton that reads the steps of a way
 abbrev pub automaton : Chart → Diagram → Automaton
 automaton c d = record {
   size = size d;
   root = d .root;
-  next = λ e n. advance d (key c e) n;
+  next = λ e n. advance d (variable c e) n;
   accepts = λ n. eqb (finish d n) 1;
 }
 
 -- the diagram says yes to the set of a way's steps, all other steps being absent
 unfoldable pub saysYes : Chart → Diagram → List ℕ → Bool
-saysYes c d w = eqb (verdict d (has (map (key c) w)) (d .root)) 1
+saysYes c d w = eqb (verdict d (has (map (variable c) w)) (d .root)) 1
 
 -- w is a plan: a way from start to end
 abbrev pub IsPlan : Chart → List ℕ → Type 0
@@ -76,7 +76,7 @@ leafEstimate (suc n) = some 0
 
 -- and at an inner node the smaller of that at lo and that at hi plus the step's cost
 unfoldable pub diagramEstimate : Chart → Diagram → ℕ → Option ℕ
-diagramEstimate c d n = descend d leafEstimate (λ n x lo hi. smaller lo (plus (keyCost c (x .step)) hi)) n
+diagramEstimate c d n = descend d leafEstimate (λ n x lo hi. smaller lo (plus (variableCost c (x .step)) hi)) n
 
 -- a pair's estimate: the larger of the two, none if either is none
 unfoldable pub estimate : Chart → Diagram → Estimate

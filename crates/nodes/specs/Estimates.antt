@@ -7,7 +7,7 @@ use lib.ListN.{length, getD}
 use Rattle.definitions.specs.Charts.{Chart}
 use Rattle.definitions.specs.Diagrams.{Diagram, size}
 use Rattle.definitions.specs.Limits.{Sound}
-use Rattle.definitions.specs.Plans.{keyCost, diagramEstimate}
+use Rattle.definitions.specs.Plans.{variableCost, diagramEstimate}
 use Rattle.definitions.specs.Promises.{shown}
 use Rattle.diagram.specs.Tables.{Held}
 
@@ -23,7 +23,7 @@ pub record Joins (low high cost r : ℕ) : Type 0 where
 
 -- a table has what the steps of a chart cost
 abbrev pub Costs : Chart → List ℕ → Type 0
-Costs c cost = (k : ℕ) → k < length (c .steps) → getD cost k 0 ≡ keyCost c k
+Costs c cost = (k : ℕ) → k < length (c .steps) → getD cost k 0 ≡ variableCost c k
 
 -- A table has the estimate of each node, 4,294,967,295 where there is none, of each diagram of at most `count` inner nodes that stands in the tables,
 -- over each chart whose costs stand in the cost table

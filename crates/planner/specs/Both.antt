@@ -34,16 +34,16 @@ AgreeOn (ready c d) (turned number file place) r q = Unit {0}
 AgreeOn (turned number file place) o r q = Unit {0}
 
 -- both searches keep their promises on the same files: they agree
-pub both-agree : (s t works works′ : List ℕ) (p p′ : ℕ) (plan plan′ costs costs′ : List ℕ) (r : Answer) (trip trip′ log log′ : List ℕ) (q : Answer)
-    → Swept (load s t works p) plan plan′ costs costs′ r → Guided (load s t works′ p′) trip trip′ log log′ q
+pub both-agree : (s t works works′ : List ℕ) (p p′ : ℕ) (plan plan′ costs costs′ : List ℕ) (r : Answer) (guidedPlan guidedPlan′ log log′ : List ℕ) (q : Answer)
+    → Swept (load s t works p) plan plan′ costs costs′ r → Guided (load s t works′ p′) guidedPlan guidedPlan′ log log′ q
     → AgreeOn (load s t works p) (load s t works′ p′) r q
-both-agree s t works works′ p p′ plan plan′ costs costs′ r trip trip′ log log′ q = go (load s t works p) refl (load s t works′ p′) refl
+both-agree s t works works′ p p′ plan plan′ costs costs′ r guidedPlan guidedPlan′ log log′ q = go (load s t works p) refl (load s t works′ p′) refl
   where
-    go : (o : Load) → load s t works p ≡ o → (o′ : Load) → load s t works′ p′ ≡ o′ → Swept o plan plan′ costs costs′ r → Guided o′ trip trip′ log log′ q → AgreeOn o o′ r q
+    go : (o : Load) → load s t works p ≡ o → (o′ : Load) → load s t works′ p′ ≡ o′ → Swept o plan plan′ costs costs′ r → Guided o′ guidedPlan guidedPlan′ log log′ q → AgreeOn o o′ r q
     go (turned number file place) e o′ e′ x y = tt
     go (ready c d) e (turned number file place) e′ x y = tt
     go (ready c d) e (ready c′ d′) e′ x y =
         let a = ready-files s t works p c d e in
         let b = ready-files s t works′ p′ c′ d′ e′ in
-        agreement c d plan plan′ costs costs′ r trip trip′ log log′ q x
-        (subst₂ (λ (i : Chart) (j : Diagram). Guided (ready i j) trip trip′ log log′ q) (b .0 ∙ sym (a .0)) (b .1 ∙ sym (a .1)) y)
+        agreement c d plan plan′ costs costs′ r guidedPlan guidedPlan′ log log′ q x
+        (subst₂ (λ (i : Chart) (j : Diagram). Guided (ready i j) guidedPlan guidedPlan′ log log′ q) (b .0 ∙ sym (a .0)) (b .1 ∙ sym (a .1)) y)

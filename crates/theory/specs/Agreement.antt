@@ -47,7 +47,7 @@ outcomes (some m) c d j k p p′ u u′ r q x y h = record {
   fewer = omega (arith, ap (λ (z : Answer). z .count) (x .0), ap (λ (z : Answer). z .count) (y .0));
 }
 
-pub agreement : (c : Chart) (d : Diagram) (plan plan′ costs costs′ : List ℕ) (r : Answer) (trip trip′ log log′ : List ℕ) (q : Answer)
-    → Swept (ready c d) plan plan′ costs costs′ r → Guided (ready c d) trip trip′ log log′ q → Agree r q
-agreement c d plan plan′ costs costs′ r trip trip′ log log′ q s t =
-    outcomes (cheapest c d) c d (length (reachedPairs (graph c) (automaton c d))) (q .count) plan plan′ trip trip′ r q (s .0) (t .0) (t .1 .few)
+pub agreement : (c : Chart) (d : Diagram) (plan plan′ costs costs′ : List ℕ) (r : Answer) (guidedPlan guidedPlan′ log log′ : List ℕ) (q : Answer)
+    → Swept (ready c d) plan plan′ costs costs′ r → Guided (ready c d) guidedPlan guidedPlan′ log log′ q → Agree r q
+agreement c d plan plan′ costs costs′ r guidedPlan guidedPlan′ log log′ q s t =
+    outcomes (cheapest c d) c d (length (reachedPairs (graph c) (automaton c d))) (q .count) plan plan′ guidedPlan guidedPlan′ r q (s .0) (t .0) (t .1 .few)

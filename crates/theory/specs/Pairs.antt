@@ -16,7 +16,7 @@ use Rattle.definitions.specs.Charts.{Chart}
 use Rattle.definitions.specs.Diagrams.{Diagram, finish}
 use Rattle.definitions.specs.Ways.{Graph, IsWay, endOf, wayCost, leastWay}
 use Rattle.definitions.specs.Pairs.{Automaton, stands, leastCost, reached, goal, pair, stageOf, nodeOf, pairs, reachedPairs, Estimate, sum}
-use Rattle.definitions.specs.Plans.{graph, automaton, key}
+use Rattle.definitions.specs.Plans.{graph, automaton, variable}
 use Rattle.definitions.specs.Limits.{Valid, Sound}
 use Rattle.theory.specs.Basics.{both, pick-true, pick-false, AtMost, none-not-some, isSome-some, sumOf-some, sumOf-parts, keep-in, in-keep, run-in, in-run}
 use Rattle.theory.specs.Least.{IsLeast, least-of}
@@ -35,8 +35,8 @@ pub record Lawful (g : Graph) (a : Automaton) : Type 0 where
 pub lawful : (c : Chart) (d : Diagram) → Sound (length (c .steps)) d → Lawful (graph c) (automaton c d)
 lawful c d s = record {
   root-inside = s .root-inside;
-  next-inside = λ e n h i. omega (arith, advance-le d (s .ordered) (key c e) n);
-  next-dead = λ e h. advance-leaf d (s .ordered) (key c e) 0 (omega arith);
+  next-inside = λ e n h i. omega (arith, advance-le d (s .ordered) (variable c e) n);
+  next-dead = λ e h. advance-leaf d (s .ordered) (variable c e) 0 (omega arith);
   dead = ne-eqb (finish d 0) 1 (λ q. omega (arith, finish-leaf d (s .ordered) 0 (omega arith)));
 }
 

@@ -12,7 +12,7 @@ use Rattle.definitions.specs.Charts.{Chart}
 use Rattle.definitions.specs.Diagrams.{Diagram, advance, finish}
 use Rattle.definitions.specs.Ways.{Graph, IsWay, isWay, endOf, wayCost}
 use Rattle.definitions.specs.Pairs.{Automaton, stands, leastCost, goal}
-use Rattle.definitions.specs.Plans.{graph, key, automaton, saysYes, Legal, legalWay, legal, cheapest}
+use Rattle.definitions.specs.Plans.{graph, variable, automaton, saysYes, Legal, legalWay, legal, cheapest}
 use Rattle.definitions.specs.Limits.{Valid, Ordered}
 use Rattle.theory.specs.Basics.{both}
 use Rattle.theory.specs.Least.{IsLeast, least-same, least-unique}
@@ -23,23 +23,23 @@ use Rattle.theory.specs.Pairs.{WayTo, cost-attained, cost-lower, way-rea
 -- ---- the variables of a way
 
 -- variables never fall as the steps rise
-pub key-rises : (c : Chart) (e f : ℕ) → e ≤ f → f < graph c .count → key c e ≤ key c f
-key-rises c e f h l = h
+pub variable-rises : (c : Chart) (e f : ℕ) → e ≤ f → f < graph c .count → variable c e ≤ variable c f
+variable-rises c e f h l = h
 
 rising-sorted : (c : Chart) (w : List ℕ) (s k j : ℕ) → IsWay (graph c) s w → Rising k w
-    → ((e : ℕ) → k ≤ e → e < graph c .count → j ≤ key c e) → Sorted j (map (key c) w)
+    → ((e : ℕ) → k ≤ e → e < graph c .count → j ≤ variable c e) → Sorted j (map (variable c) w)
 rising-sorted c [] s k j i r h = tt
 rising-sorted c (e ∷ w) s k j i r h =
-    (h e (r .0) (i .0), rising-sorted c w (graph c .to e) (suc e) (key c e) (i .2) (r .1) (λ f l i. key-rises c e f (omega arith) i))
+    (h e (r .0) (i .0), rising-sorted c w (graph c .to e) (suc e) (variable c e) (i .2) (r .1) (λ f l i. variable-rises c e f (omega arith) i))
 
-pub keys-sorted : (c : Chart) → Valid (graph c) → (w : List ℕ) (s : ℕ) → IsWay (graph c) s w → Sorted 0 (map (key c) w)
-keys-sorted c v w s i = rising-sorted c w s 0 0 i (way-rising (graph c) v w s i) (λ e l i. omega arith)
+pub variables-sorted : (c : Chart) → Valid (graph c) → (w : List ℕ) (s : ℕ) → IsWay (graph c) s w → Sorted 0 (map (variable c) w)
+variables-sorted c v w s i = rising-sorted c w s 0 0 i (way-rising (graph c) v w s i) (λ e l i. omega arith)
 
 -- a way stands where the list of its variables stands
-pub stands-keys : (c : Chart) (d : Diagram) (w : List ℕ) (n : ℕ) → stands (automaton c d) n w ≡ advanceAll d n (map (key c) w)
+pub stands-variables : (c : Chart) (d : Diagram) (w : List ℕ) (n : ℕ) → stands (automaton c d) n w ≡ advanceAll d n (map (variable c) w)
 unfolding stands
-stands-keys c d [] n = refl
-stands-keys c d (e ∷ w) n = stands-keys c d w (advance d (key c e) n)
+stands-variables c d [] n = refl
+stands-variables c d (e ∷ w) n = stands-variables c d w (advance d (variable c e) n)
 
 -- ---- legal plans
 
@@ -79,7 +79,7 @@ module _ (c : Chart) (d : Diagram) (v : Valid (graph c)) where
     pub says-yes-stands : (w : List ℕ) (s : ℕ) → IsWay (graph c) s w → saysYes c d w ≡ automaton c d .accepts (stands (automaton c d) (d .root) w)
     unfolding saysYes
     says-yes-stands w s i =
-        ap (λ (n : ℕ). eqb n 1) (verdict-stands d o (map (key c) w) 0 (d .root) (keys-sorted c v w s i) ∙ ap (finish d) (sym (stands-keys c d w (d .root))))
+        ap (λ (n : ℕ). eqb n 1) (verdict-stands d o (map (variable c) w) 0 (d .root) (variables-sorted c v w s i) ∙ ap (finish d) (sym (stands-variables c d w (d .root))))
 
     -- legal plans are the ways to goal pairs
     pub goal-legal : (n k : ℕ) → automaton c d .accepts n ≡ true → (w : WayTo (graph c) (automaton c d) (c .end) n k) → Legal c d (w .steps)
