@@ -1,13 +1,24 @@
 -- How much space the searches need for two files.
 -- Assumes nothing.
 use Prim.Native.Nat.{ℕ}
-use mathlib.Core.List.{List, [], _∷_}
-use Rattle.definitions.specs.Answers.{Load, ready, turned, load, workNeed, planNeed}
+use mathlib.Core.Bool.{not}
+use mathlib.Core.List.{List}
+use lib.Dec.{eqb}
+use lib.ListN.{length}
+use Rattle.definitions.specs.Basics.{pick}
+use Rattle.definitions.specs.Charts.{readChart}
+use Rattle.definitions.specs.Diagrams.{readDiagram}
+use Rattle.definitions.specs.Answers.{Load, ready, turned, workNeed, planNeed}
 use Rattle.planner.specs.declared.space.Space.{Space}
 
--- the outcome of the checks on the files alone: with the space of 256 stages × 512 nodes and 255 steps, which is enough for all files that are accepted
-abbrev pub filesOnly : List ℕ → List ℕ → Load
-filesOnly chart rules = load chart rules (131072 ∷ []) 255
+-- the checks on the files alone: the chart (file 1), then the diagram (file 2)
+unfoldable pub filesOnly : List ℕ → List ℕ → Load
+filesOnly chart rules =
+    let c = readChart chart in
+    let d = readDiagram rules (length (c .chart .steps)) in
+    pick (not (eqb (c .number) 0)) (turned (c .number) 1 (c .place))
+    (pick (not (eqb (d .number) 0)) (turned (d .number) 2 (d .place))
+    (ready (c .chart) (d .diagram)))
 
 -- the refusal, or what both files need
 abbrev pub spaceNeeded : Load → Space

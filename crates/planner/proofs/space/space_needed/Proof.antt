@@ -1,6 +1,10 @@
 -- `planner::space_needed` meets its contract.
 use native.Mathlib.Omega.{arith}
-use Rattle.planner.specs.Space.{filesOnly}
+use mathlib.Core.Path.{_≡_, _∙_, ap}
+use mathlib.Core.List.{[], _∷_}
+use Rattle.definitions.specs.Answers.{Load, load}
+use Rattle.planner.specs.Space.{spaceNeeded}
+use Rattle.planner.specs.Enough.{load-most}
 use Rattle.planner.proofs.Needed.{needed-turned, needed-ready, small}
 use borrow.Author.Needs.{needs}
 use Rattle.planner.proofs.space.space_needed.Statement.{statement}
@@ -15,7 +19,7 @@ load-requires c κs = search needs
 
 -- src/space.rt:43:9
 returns : tie.Need-returns
-returns c = needed-turned _ _ _ _ _ _ _ (filesOnly (c .before .before .before .before .before .before .before .before .before .before .before .args .chart .now) (c .before .before .before .before .before .before .before .before .before .before .before .args .rules .now)) (c .before .before .load .ensures) (c .if1 .taken)
+returns c = needed-turned _ _ _ _ _ _ _ (load (c .before .before .before .before .before .before .before .before .before .before .before .args .chart .now) (c .before .before .before .before .before .before .before .before .before .before .before .args .rules .now) (131072 ∷ []) 255) (c .before .before .load .ensures) (c .if1 .taken) ∙ ap (λ (o : Load). spaceNeeded o) (load-most (c .before .before .before .before .before .before .before .before .before .before .before .args .chart .now) (c .before .before .before .before .before .before .before .before .before .before .before .args .rules .now))
 
 -- src/space.rt:52:18
 cast-stages : tie.Need-cast-stages
@@ -23,19 +27,19 @@ cast-stages c = search needs
 
 -- src/space.rt:57:25
 add-t19 : tie.Need-add-t19
-add-t19 c = omega (arith, small _ _ _ _ _ _ _ (filesOnly (c .before .before .before .before .before .before .before .before .before .before .before .before .before .before .args .chart .now) (c .before .before .before .before .before .before .before .before .before .before .before .before .before .before .args .rules .now)) (c .before .before .before .before .before .load .ensures) (c .before .before .before .if1 .left) .narrow)
+add-t19 c = omega (arith, small _ _ _ _ _ _ _ (load (c .before .before .before .before .before .before .before .before .before .before .before .before .before .before .args .chart .now) (c .before .before .before .before .before .before .before .before .before .before .before .before .before .before .args .rules .now) (131072 ∷ []) 255) (c .before .before .before .before .before .load .ensures) (c .before .before .before .if1 .left) .narrow)
 
 -- src/space.rt:57:15
 mul-t20 : tie.Need-mul-t20
-mul-t20 c = omega (arith, small _ _ _ _ _ _ _ (filesOnly (c .before .before .before .before .before .before .before .before .before .before .before .before .before .before .args .chart .now) (c .before .before .before .before .before .before .before .before .before .before .before .before .before .before .args .rules .now)) (c .before .before .before .before .before .load .ensures) (c .before .before .before .if1 .left) .few-pairs)
+mul-t20 c = omega (arith, small _ _ _ _ _ _ _ (load (c .before .before .before .before .before .before .before .before .before .before .before .before .before .before .args .chart .now) (c .before .before .before .before .before .before .before .before .before .before .before .before .before .before .args .rules .now) (131072 ∷ []) 255) (c .before .before .before .before .before .load .ensures) (c .before .before .before .if1 .left) .few-pairs)
 
 -- src/space.rt:58:15
 sub-t21 : tie.Need-sub-t21
-sub-t21 c = omega (arith, small _ _ _ _ _ _ _ (filesOnly (c .before .before .before .before .before .before .before .before .before .before .before .before .before .before .args .chart .now) (c .before .before .before .before .before .before .before .before .before .before .before .before .before .before .args .rules .now)) (c .before .before .before .before .before .load .ensures) (c .before .before .before .if1 .left) .one-stage)
+sub-t21 c = omega (arith, small _ _ _ _ _ _ _ (load (c .before .before .before .before .before .before .before .before .before .before .before .before .before .before .args .chart .now) (c .before .before .before .before .before .before .before .before .before .before .before .before .before .before .args .rules .now) (131072 ∷ []) 255) (c .before .before .before .before .before .load .ensures) (c .before .before .before .if1 .left) .one-stage)
 
 -- src/space.rt:21:1
 returns-2 : tie.Need-returns-2
-returns-2 c = needed-ready _ _ _ _ _ _ _ (filesOnly (c .before .before .before .before .before .before .before .before .before .before .before .before .before .before .args .chart .now) (c .before .before .before .before .before .before .before .before .before .before .before .before .before .before .args .rules .now)) (c .before .before .before .before .before .load .ensures) (c .before .before .before .if1 .left)
+returns-2 c = needed-ready _ _ _ _ _ _ _ (load (c .before .before .before .before .before .before .before .before .before .before .before .before .before .before .args .chart .now) (c .before .before .before .before .before .before .before .before .before .before .before .before .before .before .args .rules .now) (131072 ∷ []) 255) (c .before .before .before .before .before .load .ensures) (c .before .before .before .if1 .left) ∙ ap (λ (o : Load). spaceNeeded o) (load-most (c .before .before .before .before .before .before .before .before .before .before .before .before .before .before .args .chart .now) (c .before .before .before .before .before .before .before .before .before .before .before .before .before .before .args .rules .now))
 
 pub space-needed-spec : {M : Type 1} → statement M
 space-needed-spec =
