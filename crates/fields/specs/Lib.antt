@@ -3,3 +3,4 @@ pub mod Positions
 pub mod Scans
 pub mod Listed
 pub mod Refused
+pub mod Lies

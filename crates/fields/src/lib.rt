@@ -4,6 +4,7 @@ pub mod reader;
 ghost use mathlib.Core.Path.{_≡_};
 ghost use Prim.Native.Nat.{_+_, _-_, _*_, _<_, min};
 ghost use lib.ListN.{length};
+ghost use Rattle.fields.specs.Lies.{refusedAt};
 ghost use Rattle.definitions.specs.Fields.{two, four, fieldAt, refusedField};
 use crate::reader::moved;
 use crate::reader::new;
@@ -63,6 +64,7 @@ fn field_end(s: &[u8], place: usize) -> usize
 // or another file mark, gives an empty part of the chart.
 pub fn refused_field<'a>(chart: &'a [u8], rules: &'a [u8], file: u32, place: usize) -> &'a [u8]
     ensures { λ r. ⌜ now r ≡ refusedField (now (chart .entry)) (now (rules .entry)) file place ⌝ }
+    ensures { λ r. ⌜ r .ptr ≡ refusedAt (chart .entry .ptr) (rules .entry .ptr) (now (chart .entry)) (now (rules .entry)) file place ⌝ }
 {
     if file == 1 {
         if place < chart.len() {

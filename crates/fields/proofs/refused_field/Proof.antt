@@ -1,3 +1,5 @@
+-- `fields::refused_field` meets its contract.
+use Rattle.fields.specs.Lies.{lies-chart, lies-past-chart, lies-rules, lies-past-rules, lies-none}
 use borrow.Author.Needs.{needs}
 use Rattle.fields.specs.Refused.{refused-laws}
 use Rattle.fields.proofs.refused_field.Statement.{statement}
@@ -24,7 +26,7 @@ part-result-end c = search needs
 
 -- src/lib.rt:70:13
 returns : tie.Need-returns
-returns c = search refused-laws
+returns c = (search refused-laws, lies-chart _ _ _ _ _ _ (c .before .before .before .if1 .taken) (c .before .before .if2 .taken))
 
 -- src/lib.rt:72:16
 sub-result-2 : tie.Need-sub-result-2
@@ -40,7 +42,7 @@ part-result-end-2 c = search needs
 
 -- src/lib.rt:72:9
 returns-2 : tie.Need-returns-2
-returns-2 c = search refused-laws
+returns-2 c = (search refused-laws, lies-past-chart _ _ _ _ _ _ (c .before .before .if1 .taken) (c .before .if2 .left))
 
 -- src/lib.rt:76:17
 field-end-requires-2 : tie.Need-field-end-requires-2
@@ -60,7 +62,7 @@ part-result-end-3 c = search needs
 
 -- src/lib.rt:77:13
 returns-3 : tie.Need-returns-3
-returns-3 c = search refused-laws
+returns-3 c = (search refused-laws, lies-rules _ _ _ _ _ _ (c .before .before .before .before .if1 .left) (c .before .before .before .if3 .taken) (c .before .before .if4 .taken))
 
 -- src/lib.rt:79:16
 sub-result-4 : tie.Need-sub-result-4
@@ -76,7 +78,7 @@ part-result-end-4 c = search needs
 
 -- src/lib.rt:79:9
 returns-4 : tie.Need-returns-4
-returns-4 c = search refused-laws
+returns-4 c = (search refused-laws, lies-past-rules _ _ _ _ _ _ (c .before .before .before .if1 .left) (c .before .before .if3 .taken) (c .before .if4 .left))
 
 -- src/lib.rt:81:5
 sub-result-5 : tie.Need-sub-result-5
@@ -92,7 +94,7 @@ part-result-end-5 c = search needs
 
 -- src/lib.rt:64:1
 returns-5 : tie.Need-returns-5
-returns-5 c = search refused-laws
+returns-5 c = (search refused-laws, lies-none _ _ _ _ _ _ (c .before .before .if1 .left) (c .before .if3 .left))
 
 pub refused-field-spec : {M : Type 1} → statement M
 refused-field-spec =

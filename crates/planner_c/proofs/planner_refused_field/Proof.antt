@@ -24,7 +24,7 @@ same-length c = search needs
 
 -- src/lib.rt:137:1
 returns : tie.Need-returns
-returns c = (ap length (c .before .before .before .before .refused-field .ensures), copied _ _ _ _ _ (c .before .before .before .before .refused-field .ensures) (c .before .before .copy .ensures))
+returns c = (ap length (c .before .before .before .before .refused-field .ensures .0), copied _ _ _ _ _ (c .before .before .before .before .refused-field .ensures .0) (c .before .before .copy .ensures))
 
 pub planner-refused-field-spec : {M : Type 1} → statement M
 planner-refused-field-spec =
