@@ -120,11 +120,11 @@ pub extern "C" fn planner_both(
         log,
         plan,
     );
-    let swept = answers.sweep;
-    let found = answers.guided;
-    store(swept, sweep_answer);
-    store(found, guided_answer);
-    found.number
+    let s = answers.sweep;
+    let g = answers.guided;
+    store(s, sweep_answer);
+    store(g, guided_answer);
+    g.number
 }
 
 // The bytes of the field at a place of the chart (file 1) or of the diagram (file 2), copied to the front of `field` as
