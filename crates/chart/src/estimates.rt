@@ -7,9 +7,7 @@ ghost use Rattle.definitions.specs.Plans.{graph};
 ghost use Rattle.chart.specs.Tables.{heldChart};
 ghost use Rattle.chart.specs.Estimates.{Lowered, EstimateTable};
 use crate::reader::ChartRead;
-
-// No estimate: it is above every cost.
-pub const NONE: u32 = 4294967295;
+use definitions::NONE;
 
 // The smaller of the cost known so far and the cost through a step that leaves `rest`.
 fn through(known: u32, cost: u32, rest: u32) -> u32

@@ -3,7 +3,6 @@ mod estimates;
 mod reader;
 mod stages;
 
-pub use estimates::NONE;
 pub use estimates::chart_estimates;
 pub use reader::ChartRead;
 pub use reader::read_chart;

@@ -9,6 +9,9 @@ pub struct Step(pub u16);
 // A node of the rule diagram: 0 is "no", 1 is "yes", the inner nodes are 2, 3, 4 .. in file order.
 pub struct Node(pub u16);
 
+// The cost of a pair that is not reached, and the estimate where there is none: above every cost.
+pub const NONE: u32 = 4294967295;
+
 // What stands at a place of a file where a field of some tag and length is due.
 pub enum Field {
     // The file ends at this place.

@@ -5,9 +5,6 @@ ghost use Rattle.expand.specs.Estimates.{PairEstimate};
 use definitions::Node;
 use definitions::Stage;
 
-// No estimate, and the key of a pair that was never opened: it is above every cost.
-pub const NONE: u32 = 4294967295;
-
 // The larger of two numbers.
 fn larger(a: u32, b: u32) -> u32
     ensures { λ r. ⌜ (r ≡ max a b) × (a ≤ 4294967295) × (b ≤ 4294967295) ⌝ }

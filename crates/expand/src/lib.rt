@@ -3,6 +3,5 @@ mod estimate;
 mod relax;
 mod steps;
 
-pub use estimate::NONE;
 pub use estimate::pair_estimate;
 pub use steps::settle;

@@ -5,7 +5,7 @@ ghost use lib.ListN.{length};
 ghost use Rattle.queue.specs.Queue.{Contains, Queue};
 ghost use Rattle.guided_model.specs.Moves.{Offerable, Relaxed};
 ghost use Rattle.expand.specs.Kept.{Kept};
-use crate::estimate::NONE;
+use definitions::NONE;
 use queue::Counts;
 
 // Offers pair y the key v, by a step and a node that `mark` has: where that is lower than the key that y has, y gets it and is opened or moved up.

@@ -2,7 +2,7 @@
 ghost use Prim.Native.Nat.{_≤_};
 ghost use lib.ListN.{length};
 ghost use Rattle.guided.specs.Clears.{Cleared};
-use expand::NONE;
+use definitions::NONE;
 
 // Clears the keys from `first` to before `until`: none of these pairs was ever opened.
 pub fn clear_keys(keys: &mut [u32], first: usize, until: usize)

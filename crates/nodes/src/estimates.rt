@@ -2,9 +2,7 @@
 ghost use Prim.Native.Nat.{_+_};
 ghost use Rattle.nodes.specs.Walks.{Falls};
 ghost use Rattle.nodes.specs.Estimates.{Priced, Joins, Estimated};
-
-// Stands for no estimate.
-const NONE: u32 = 4294967295;
+use definitions::NONE;
 
 // A node's estimate, from that at its lo, that at its hi and the cost of its step. A sum that is no number below NONE
 // counts as none.

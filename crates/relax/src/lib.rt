@@ -8,13 +8,11 @@ ghost use Rattle.relax.specs.Standing.{Open, Offering, stepped, Standing
 use checks::Shape;
 use convert::index;
 use convert::wide;
+use definitions::NONE;
 use definitions::Node;
 use definitions::Step;
 use nodes::advance;
 use nodes::descend_to;
-
-// The cost of a pair that is not reached.
-const NONE: u32 = 4294967295;
 
 // The pair of stage s, whose row starts at `base`, and node t is offered the cost v. `mark` has the step and the node
 // that offer it.

@@ -4,9 +4,7 @@ ghost use mathlib.Core.List.{_++_};
 ghost use Prim.Native.Nat.{_+_, _≤_, _<_};
 ghost use lib.ListN.{length, drop, replicate};
 ghost use Rattle.sweep.specs.Begin.{Begun};
-
-// The cost of a pair that is not reached.
-const NONE: u32 = 4294967295;
+use definitions::NONE;
 
 // The first `pairs` costs become NONE.
 pub fn clear(costs: &mut [u32], pairs: usize)

@@ -5,9 +5,7 @@ ghost use Rattle.sweep_model.specs.Totals.{total};
 ghost use Rattle.sweep.specs.Goals.{Better, Chosen, Listed};
 ghost use Rattle.relax.specs.Standing.{at};
 use convert::wide;
-
-// The cost of a pair that is not reached.
-const NONE: u32 = 4294967295;
+use definitions::NONE;
 
 // A goal pair's cost, NONE where there is none yet, and its node.
 pub struct Best {

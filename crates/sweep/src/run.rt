@@ -20,6 +20,7 @@ use checks::load;
 use convert::lesser;
 use convert::wide;
 use definitions::Answer;
+use definitions::NONE;
 use definitions::Node;
 use definitions::Stage;
 use nodes::finishing;
@@ -27,9 +28,6 @@ use relax::relax_rows;
 use rows::row_starts;
 use trace::trail_length;
 use trace::write_trail;
-
-// The cost of a pair that is not reached.
-const NONE: u32 = 4294967295;
 
 // The least cost of every pair, from any content of the slices.
 fn sweep_rows<'a>(

@@ -6,10 +6,8 @@ use crate::files::put_root;
 use crate::files::put_step;
 use crate::show;
 use crate::trials::first;
+use definitions::NONE;
 use sweep::sweep;
-
-// The cost of a pair that is not reached.
-const NONE: u32 = 4294967295;
 
 // What a plan slice is filled with.
 const UNUSED: u16 = 9999;

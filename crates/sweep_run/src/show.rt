@@ -1,9 +1,7 @@
 // What the program writes: answers, plans, cost slices, and how many entries have changed that should stay.
 ghost use Prim.Native.Nat.{_≤_};
 use definitions::Answer;
-
-// The cost of a pair that is not reached.
-const NONE: u32 = 4294967295;
+use definitions::NONE;
 
 fn number(name: &[u8], x: u64) {
     io::write_all(1, name);
