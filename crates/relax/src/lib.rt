@@ -10,6 +10,7 @@ use convert::index;
 use convert::wide;
 use definitions::NONE;
 use definitions::Node;
+use definitions::Stage;
 use definitions::Step;
 use nodes::advance;
 use nodes::descend_to;
@@ -57,19 +58,19 @@ fn relax_step<'a>(
     cost: &'a [u32; 1024],
     row: &'a [u32; 256],
     e: usize,
-    n: u16,
+    n: Node,
     v: u32,
-    t: u16,
+    t: Node,
 )
-    requires { ⌜ Offering (now to) (now cost) (now row) e n v t (now costs) (now via) (now nodes) (now counts) ⌝ }
-    ensures { λ _. ⌜ rows (now (costs .exit)) (now (via .exit)) (now (nodes .exit)) (now (counts .exit)) ≡ stepped (now (to .entry)) (now (cost .entry)) (now (row .entry)) e n v t (rows (now (costs .entry)) (now (via .entry)) (now (nodes .entry)) (now (counts .entry))) ⌝ }
+    requires { ⌜ Offering (now to) (now cost) (now row) e (n .0) v (t .0) (now costs) (now via) (now nodes) (now counts) ⌝ }
+    ensures { λ _. ⌜ rows (now (costs .exit)) (now (via .exit)) (now (nodes .exit)) (now (counts .exit)) ≡ stepped (now (to .entry)) (now (cost .entry)) (now (row .entry)) e (n .0) v (t .0) (rows (now (costs .entry)) (now (via .entry)) (now (nodes .entry)) (now (counts .entry))) ⌝ }
 {
-    if t == 0 {
+    if t.0 == 0 {
         return;
     }
     let s = to[e] as usize;
     let base = wide(row[s]);
-    let mark = e as u32 * 512 + n as u32;
+    let mark = e as u32 * 512 + n.0 as u32;
     offer(
         costs,
         via,
@@ -77,7 +78,7 @@ fn relax_step<'a>(
         counts,
         base,
         s,
-        t as usize,
+        t.0 as usize,
         v + cost[e],
         mark,
     );
@@ -98,17 +99,17 @@ fn relax_node<'a>(
     step: &'a [u16; 512],
     lo: &'a [u16; 512],
     hi: &'a [u16; 512],
-    s: u16,
-    n: u16,
+    s: Stage,
+    n: Node,
     v: u32,
     start: usize,
     until: usize,
 )
-    requires { ⌜ Standing z (now from) (now to) (now cost) (now first) (now row) (now step) (now lo) (now hi) s n v (rows (now costs) (now via) (now nodes) (now counts)) ⌝ }
-    requires { ⌜ (start ≡ getD (now first) s 0) × (until ≡ getD (now first) (s + 1) 0) ⌝ }
-    ensures { λ _. ⌜ rows (now (costs .exit)) (now (via .exit)) (now (nodes .exit)) (now (counts .exit)) ≡ relaxSteps (graphIn z (now (from .entry)) (now (to .entry)) (now (cost .entry))) (automatonIn z (now (from .entry)) (now (to .entry)) (now (cost .entry)) (now (step .entry)) (now (lo .entry)) (now (hi .entry))) n v start (until - start) (rows (now (costs .entry)) (now (via .entry)) (now (nodes .entry)) (now (counts .entry))) ⌝ }
+    requires { ⌜ Standing z (now from) (now to) (now cost) (now first) (now row) (now step) (now lo) (now hi) (s .0) (n .0) v (rows (now costs) (now via) (now nodes) (now counts)) ⌝ }
+    requires { ⌜ (start ≡ getD (now first) (s .0) 0) × (until ≡ getD (now first) (s .0 + 1) 0) ⌝ }
+    ensures { λ _. ⌜ rows (now (costs .exit)) (now (via .exit)) (now (nodes .exit)) (now (counts .exit)) ≡ relaxSteps (graphIn z (now (from .entry)) (now (to .entry)) (now (cost .entry))) (automatonIn z (now (from .entry)) (now (to .entry)) (now (cost .entry)) (now (step .entry)) (now (lo .entry)) (now (hi .entry))) (n .0) v start (until - start) (rows (now (costs .entry)) (now (via .entry)) (now (nodes .entry)) (now (counts .entry))) ⌝ }
 {
-    let mut m = Node(n);
+    let mut m = n;
     let mut e = start;
     while e < until {
         let key = Step(e as u16);
@@ -117,7 +118,7 @@ fn relax_node<'a>(
             return;
         }
         let t = advance(step, hi, key, m);
-        relax_step(costs, via, nodes, counts, to, cost, row, e, n, v, t.0);
+        relax_step(costs, via, nodes, counts, to, cost, row, e, n, v, t);
         e += 1;
     }
 }
@@ -137,12 +138,12 @@ fn relax_row<'a>(
     step: &'a [u16; 512],
     lo: &'a [u16; 512],
     hi: &'a [u16; 512],
-    s: u16,
+    s: Stage,
 )
-    requires { ⌜ Row z (now from) (now to) (now cost) (now first) (now row) (now step) (now lo) (now hi) s (rows (now costs) (now via) (now nodes) (now counts)) × (s < z .stages) ⌝ }
-    ensures { λ _. ⌜ rows (now (costs .exit)) (now (via .exit)) (now (nodes .exit)) (now (counts .exit)) ≡ relaxNodes (graphIn z (now (from .entry)) (now (to .entry)) (now (cost .entry))) (automatonIn z (now (from .entry)) (now (to .entry)) (now (cost .entry)) (now (step .entry)) (now (lo .entry)) (now (hi .entry))) (at (now (first .entry))) s 0 (getD (now (counts .entry)) s 0) (rows (now (costs .entry)) (now (via .entry)) (now (nodes .entry)) (now (counts .entry))) ⌝ }
+    requires { ⌜ Row z (now from) (now to) (now cost) (now first) (now row) (now step) (now lo) (now hi) (s .0) (rows (now costs) (now via) (now nodes) (now counts)) × (s .0 < z .stages) ⌝ }
+    ensures { λ _. ⌜ rows (now (costs .exit)) (now (via .exit)) (now (nodes .exit)) (now (counts .exit)) ≡ relaxNodes (graphIn z (now (from .entry)) (now (to .entry)) (now (cost .entry))) (automatonIn z (now (from .entry)) (now (to .entry)) (now (cost .entry)) (now (step .entry)) (now (lo .entry)) (now (hi .entry))) (at (now (first .entry))) (s .0) 0 (getD (now (counts .entry)) (s .0) 0) (rows (now (costs .entry)) (now (via .entry)) (now (nodes .entry)) (now (counts .entry))) ⌝ }
 {
-    let at = s as usize;
+    let at = s.0 as usize;
     let base = wide(row[at]);
     let start = index(first[at]);
     let until = index(first[at + 1]);
@@ -166,7 +167,7 @@ fn relax_row<'a>(
             lo,
             hi,
             s,
-            n as u16,
+            Node(n as u16),
             v,
             start,
             until,
@@ -211,7 +212,7 @@ pub fn relax_rows<'a>(
             step,
             lo,
             hi,
-            s,
+            Stage(s),
         );
         s += 1;
     }

@@ -1,9 +1,9 @@
 -- `relax::relax_node` meets its contract: what is left of the steps comes to the same as all of them.
-use Prim.Native.Nat.{ℕ, _-_}
+use Prim.Native.Nat.{ℕ, _+_, _-_}
 use mathlib.Core.Path.{_≡_, refl, sym, _∙_, ap}
 use native.Mathlib.Omega.{arith}
 use borrow.Author.Needs.{needs}
-use lib.ListN.{length}
+use lib.ListN.{length, getD}
 use Rattle.checks.specs.declared.Shape.{Shape}
 use Rattle.sweep_model.specs.Model.{rows}
 use Rattle.relax.specs.Standing.{Standing}
@@ -17,80 +17,81 @@ use Rattle.nodes.proofs.descend_to.Reads as descend-to-reads
 use Rattle.relax.proofs.relax_step.Reads as relax-step-reads
 
 abbrev Inv-loop : tie.InvT-loop
-Inv-loop costs₀ via₀ nodes₀ counts₀ from to cost first row step lo hi s n v start until m₀ e₀ costs via nodes counts m e =
-    ((z : Shape) → Standing z from to cost first row step lo hi s n v (rows costs₀ via₀ nodes₀ counts₀)
-    → Walking z from to cost first row step lo hi s n v start until (rows costs₀ via₀ nodes₀ counts₀) (rows costs via nodes counts) e (m .0))
+Inv-loop costs₀ via₀ nodes₀ counts₀ from to cost first row step lo hi n v start until m₀ e₀ costs via nodes counts m e =
+    ((z : Shape) (s : ℕ) → Standing z from to cost first row step lo hi s (n .0) v (rows costs₀ via₀ nodes₀ counts₀)
+    → (start ≡ getD first s 0) → (until ≡ getD first (s + 1) 0)
+    → Walking z from to cost first row step lo hi s (n .0) v start until (rows costs₀ via₀ nodes₀ counts₀) (rows costs via nodes counts) e (m .0))
     × (length costs ≡ length costs₀)
     × (length via ≡ length via₀)
     × (length nodes ≡ length nodes₀)
 
 abbrev μ-loop : tie.MeasureT-loop
-μ-loop costs₀ via₀ nodes₀ counts₀ from to cost first row step lo hi s n v start until m₀ e₀ costs via nodes counts m e =
+μ-loop costs₀ via₀ nodes₀ counts₀ from to cost first row step lo hi n v start until m₀ e₀ costs via nodes counts m e =
     until - e
 
--- src/lib.rt:107:5
+-- src/lib.rt:114:5
 loop-holds : tie.Need-loop-holds Inv-loop μ-loop
-loop-holds c = (λ z st. walk-start _ _ _ _ _ _ _ _ _ _ _ _ _ _ _ st, refl, refl, refl)
+loop-holds c = (λ z s st ef el. walk-start _ _ _ _ _ _ _ _ _ _ _ _ _ _ _ st, refl, refl, refl)
 
--- src/lib.rt:108:24
+-- src/lib.rt:115:24
 cast-t24 : tie.Need-cast-t24 Inv-loop μ-loop
-cast-t24 c = omega (arith, walk-step _ _ _ _ _ _ _ _ _ _ _ _ _ _ _ _ _ _ (c .before .loop .inv .0 _ (c .before .before .before .before .before .pre .0)) (c .before .before .before .before .before .pre .1 .0) (c .before .before .before .before .before .pre .1 .1) (c .loop-test .taken))
+cast-t24 c = omega (arith, walk-step _ _ _ _ _ _ _ _ _ _ _ _ _ _ _ _ _ _ (c .before .loop .inv .0 _ _ (c .before .before .before .before .before .pre .0) (c .before .before .before .before .before .pre .1 .0) (c .before .before .before .before .before .pre .1 .1)) (c .before .before .before .before .before .pre .1 .0) (c .before .before .before .before .before .pre .1 .1) (c .loop-test .taken))
 
--- src/lib.rt:109:9
+-- src/lib.rt:116:9
 descend-to-requires : tie.Need-descend-to-requires Inv-loop μ-loop
-descend-to-requires c κs = (walk-marked _ _ _ _ _ _ _ _ _ _ _ _ _ _ _ _ _ _ (c .before .loop .inv .0 _ (c .before .before .before .before .before .pre .0)) (c .before .before .before .before .before .pre .1 .0) (c .before .before .before .before .before .pre .1 .1), walk-falls _ _ _ _ _ _ _ _ _ _ _ _ _ _ _ _ _ _ (c .before .loop .inv .0 _ (c .before .before .before .before .before .pre .0)) (c .before .before .before .before .before .pre .1 .0) (c .before .before .before .before .before .pre .1 .1) _ (omega arith))
+descend-to-requires c κs = (walk-marked _ _ _ _ _ _ _ _ _ _ _ _ _ _ _ _ _ _ (c .before .loop .inv .0 _ _ (c .before .before .before .before .before .pre .0) (c .before .before .before .before .before .pre .1 .0) (c .before .before .before .before .before .pre .1 .1)) (c .before .before .before .before .before .pre .1 .0) (c .before .before .before .before .before .pre .1 .1), walk-falls _ _ _ _ _ _ _ _ _ _ _ _ _ _ _ _ _ _ (c .before .loop .inv .0 _ _ (c .before .before .before .before .before .pre .0) (c .before .before .before .before .before .pre .1 .0) (c .before .before .before .before .before .pre .1 .1)) (c .before .before .before .before .before .pre .1 .0) (c .before .before .before .before .before .pre .1 .1) _ (omega arith))
 
--- src/lib.rt:111:13
+-- src/lib.rt:118:13
 same-length : tie.Need-same-length Inv-loop μ-loop
 same-length c = omega (arith, c .before .before .before .before .loop .inv .1)
 
--- src/lib.rt:111:13
+-- src/lib.rt:118:13
 same-length-2 : tie.Need-same-length-2 Inv-loop μ-loop
 same-length-2 c = omega (arith, c .before .before .before .before .loop .inv .2)
 
--- src/lib.rt:111:13
+-- src/lib.rt:118:13
 same-length-3 : tie.Need-same-length-3 Inv-loop μ-loop
 same-length-3 c = omega (arith, c .before .before .before .before .loop .inv .3)
 
--- src/lib.rt:111:13
+-- src/lib.rt:118:13
 returns : tie.Need-returns Inv-loop μ-loop
-returns c = walk-dead _ _ _ _ _ _ _ _ _ _ _ _ _ _ _ _ _ _ (c .before .before .before .before .loop .inv .0 _ (c .before .before .before .before .before .before .before .before .pre .0)) (c .before .before .before .before .before .before .before .before .pre .1 .0) (c .before .before .before .before .before .before .before .before .pre .1 .1) (c .before .before .before .loop-test .taken) _ (c .before .before .descend-to .ensures) (c .if1 .taken)
+returns c = walk-dead _ _ _ _ _ _ _ _ _ _ _ _ _ _ _ _ _ _ (c .before .before .before .before .loop .inv .0 _ _ (c .before .before .before .before .before .before .before .before .pre .0) (c .before .before .before .before .before .before .before .before .pre .1 .0) (c .before .before .before .before .before .before .before .before .pre .1 .1)) (c .before .before .before .before .before .before .before .before .pre .1 .0) (c .before .before .before .before .before .before .before .before .pre .1 .1) (c .before .before .before .loop-test .taken) _ (c .before .before .descend-to .ensures) (c .if1 .taken)
 
--- src/lib.rt:113:13
+-- src/lib.rt:120:13
 advance-requires : tie.Need-advance-requires Inv-loop μ-loop
-advance-requires c κs = (walk-marked _ _ _ _ _ _ _ _ _ _ _ _ _ _ _ _ _ _ (c .before .before .before .before .loop .inv .0 _ (c .before .before .before .before .before .before .before .before .pre .0)) (c .before .before .before .before .before .before .before .before .pre .1 .0) (c .before .before .before .before .before .before .before .before .pre .1 .1), walk-falls _ _ _ _ _ _ _ _ _ _ _ _ _ _ _ _ _ _ (c .before .before .before .before .loop .inv .0 _ (c .before .before .before .before .before .before .before .before .pre .0)) (c .before .before .before .before .before .before .before .before .pre .1 .0) (c .before .before .before .before .before .before .before .before .pre .1 .1) _ (c .before .before .descend-to .ensures .below) .inside, omega (arith, walk-step _ _ _ _ _ _ _ _ _ _ _ _ _ _ _ _ _ _ (c .before .before .before .before .loop .inv .0 _ (c .before .before .before .before .before .before .before .before .pre .0)) (c .before .before .before .before .before .before .before .before .pre .1 .0) (c .before .before .before .before .before .before .before .before .pre .1 .1) (c .before .before .before .loop-test .taken)))
+advance-requires c κs = (walk-marked _ _ _ _ _ _ _ _ _ _ _ _ _ _ _ _ _ _ (c .before .before .before .before .loop .inv .0 _ _ (c .before .before .before .before .before .before .before .before .pre .0) (c .before .before .before .before .before .before .before .before .pre .1 .0) (c .before .before .before .before .before .before .before .before .pre .1 .1)) (c .before .before .before .before .before .before .before .before .pre .1 .0) (c .before .before .before .before .before .before .before .before .pre .1 .1), walk-falls _ _ _ _ _ _ _ _ _ _ _ _ _ _ _ _ _ _ (c .before .before .before .before .loop .inv .0 _ _ (c .before .before .before .before .before .before .before .before .pre .0) (c .before .before .before .before .before .before .before .before .pre .1 .0) (c .before .before .before .before .before .before .before .before .pre .1 .1)) (c .before .before .before .before .before .before .before .before .pre .1 .0) (c .before .before .before .before .before .before .before .before .pre .1 .1) _ (c .before .before .descend-to .ensures .below) .inside, omega (arith, walk-step _ _ _ _ _ _ _ _ _ _ _ _ _ _ _ _ _ _ (c .before .before .before .before .loop .inv .0 _ _ (c .before .before .before .before .before .before .before .before .pre .0) (c .before .before .before .before .before .before .before .before .pre .1 .0) (c .before .before .before .before .before .before .before .before .pre .1 .1)) (c .before .before .before .before .before .before .before .before .pre .1 .0) (c .before .before .before .before .before .before .before .before .pre .1 .1) (c .before .before .before .loop-test .taken)))
 
--- src/lib.rt:114:9
+-- src/lib.rt:121:9
 relax-step-requires : tie.Need-relax-step-requires Inv-loop μ-loop
-relax-step-requires c κs = walk-offering _ _ _ _ _ _ _ _ _ _ _ _ _ _ _ _ _ _ (c .before .before .before .before .before .before .before .before .before .loop .inv .0 _ (c .before .before .before .before .before .before .before .before .before .before .before .before .before .pre .0)) (c .before .before .before .before .before .before .before .before .before .before .before .before .before .pre .1 .0) (c .before .before .before .before .before .before .before .before .before .before .before .before .before .pre .1 .1) (c .before .before .before .before .before .before .before .before .loop-test .taken) _ (c .before .before .before .before .before .before .before .descend-to .ensures) _ (c .before .before .before .before .advance .ensures)
+relax-step-requires c κs = walk-offering _ _ _ _ _ _ _ _ _ _ _ _ _ _ _ _ _ _ (c .before .before .before .before .before .before .before .before .before .loop .inv .0 _ _ (c .before .before .before .before .before .before .before .before .before .before .before .before .before .pre .0) (c .before .before .before .before .before .before .before .before .before .before .before .before .before .pre .1 .0) (c .before .before .before .before .before .before .before .before .before .before .before .before .before .pre .1 .1)) (c .before .before .before .before .before .before .before .before .before .before .before .before .before .pre .1 .0) (c .before .before .before .before .before .before .before .before .before .before .before .before .before .pre .1 .1) (c .before .before .before .before .before .before .before .before .loop-test .taken) _ (c .before .before .before .before .before .before .before .descend-to .ensures) _ (c .before .before .before .before .advance .ensures)
 
--- src/lib.rt:115:9
+-- src/lib.rt:122:9
 add-e : tie.Need-add-e Inv-loop μ-loop
-add-e c = omega (arith, walk-step _ _ _ _ _ _ _ _ _ _ _ _ _ _ _ _ _ _ (c .before .before .before .before .before .before .before .before .before .before .before .before .before .before .before .before .loop .inv .0 _ (c .before .before .before .before .before .before .before .before .before .before .before .before .before .before .before .before .before .before .before .before .pre .0)) (c .before .before .before .before .before .before .before .before .before .before .before .before .before .before .before .before .before .before .before .before .pre .1 .0) (c .before .before .before .before .before .before .before .before .before .before .before .before .before .before .before .before .before .before .before .before .pre .1 .1) (c .before .before .before .before .before .before .before .before .before .before .before .before .before .before .before .loop-test .taken))
+add-e c = omega (arith, walk-step _ _ _ _ _ _ _ _ _ _ _ _ _ _ _ _ _ _ (c .before .before .before .before .before .before .before .before .before .before .before .before .before .before .before .before .loop .inv .0 _ _ (c .before .before .before .before .before .before .before .before .before .before .before .before .before .before .before .before .before .before .before .before .pre .0) (c .before .before .before .before .before .before .before .before .before .before .before .before .before .before .before .before .before .before .before .before .pre .1 .0) (c .before .before .before .before .before .before .before .before .before .before .before .before .before .before .before .before .before .before .before .before .pre .1 .1)) (c .before .before .before .before .before .before .before .before .before .before .before .before .before .before .before .before .before .before .before .before .pre .1 .0) (c .before .before .before .before .before .before .before .before .before .before .before .before .before .before .before .before .before .before .before .before .pre .1 .1) (c .before .before .before .before .before .before .before .before .before .before .before .before .before .before .before .loop-test .taken))
 
--- src/lib.rt:107:5
+-- src/lib.rt:114:5
 loop-less : tie.Need-loop-less Inv-loop μ-loop
 loop-less c = search needs
 
--- src/lib.rt:107:5
+-- src/lib.rt:114:5
 loop-again : tie.Need-loop-again Inv-loop μ-loop
-loop-again c = (λ z st. walk-more _ _ _ _ _ _ _ _ _ _ _ _ _ _ _ _ _ _ (c .before .before .before .before .before .before .before .before .before .before .before .before .before .before .before .before .loop .inv .0 z st) (c .before .before .before .before .before .before .before .before .before .before .before .before .before .before .before .before .before .before .before .before .pre .1 .0) (c .before .before .before .before .before .before .before .before .before .before .before .before .before .before .before .before .before .before .before .before .pre .1 .1) (c .before .before .before .before .before .before .before .before .before .before .before .before .before .before .before .loop-test .taken) _ (c .before .before .before .before .before .before .before .before .before .before .before .before .before .before .descend-to .ensures) _ (c .before .before .before .before .before .before .before .before .before .before .before .advance .ensures) _ (c .before .before .before .before .before .before .relax-step .ensures), omega (arith, c .before .before .before .before .before .before .before .before .before .before .before .before .before .before .before .before .loop .inv .1, c .before .before .before .before .before .before .relax-step .kept .0), omega (arith, c .before .before .before .before .before .before .before .before .before .before .before .before .before .before .before .before .loop .inv .2, c .before .before .before .before .before .before .relax-step .kept .1 .0), omega (arith, c .before .before .before .before .before .before .before .before .before .before .before .before .before .before .before .before .loop .inv .3, c .before .before .before .before .before .before .relax-step .kept .1 .1 .0))
+loop-again c = (λ z s st ef el. walk-more _ _ _ _ _ _ _ _ _ _ _ _ _ _ _ _ _ _ (c .before .before .before .before .before .before .before .before .before .before .before .before .before .before .before .before .loop .inv .0 z s st ef el) ef el (c .before .before .before .before .before .before .before .before .before .before .before .before .before .before .before .loop-test .taken) _ (c .before .before .before .before .before .before .before .before .before .before .before .before .before .before .descend-to .ensures) _ (c .before .before .before .before .before .before .before .before .before .before .before .advance .ensures) _ (c .before .before .before .before .before .before .relax-step .ensures), omega (arith, c .before .before .before .before .before .before .before .before .before .before .before .before .before .before .before .before .loop .inv .1, c .before .before .before .before .before .before .relax-step .kept .0), omega (arith, c .before .before .before .before .before .before .before .before .before .before .before .before .before .before .before .before .loop .inv .2, c .before .before .before .before .before .before .relax-step .kept .1 .0), omega (arith, c .before .before .before .before .before .before .before .before .before .before .before .before .before .before .before .before .loop .inv .3, c .before .before .before .before .before .before .relax-step .kept .1 .1 .0))
 
--- src/lib.rt:81:1
+-- src/lib.rt:88:1
 same-length-4 : tie.Need-same-length-4 Inv-loop μ-loop
 same-length-4 c = omega (arith, c .before .loop .inv .1)
 
--- src/lib.rt:81:1
+-- src/lib.rt:88:1
 same-length-5 : tie.Need-same-length-5 Inv-loop μ-loop
 same-length-5 c = omega (arith, c .before .loop .inv .2)
 
--- src/lib.rt:81:1
+-- src/lib.rt:88:1
 same-length-6 : tie.Need-same-length-6 Inv-loop μ-loop
 same-length-6 c = omega (arith, c .before .loop .inv .3)
 
--- src/lib.rt:81:1
+-- src/lib.rt:88:1
 returns-2 : tie.Need-returns-2 Inv-loop μ-loop
-returns-2 c = walk-done _ _ _ _ _ _ _ _ _ _ _ _ _ _ _ _ _ _ (c .before .loop .inv .0 _ (c .before .before .before .before .before .pre .0)) (c .before .before .before .before .before .pre .1 .0) (c .before .before .before .before .before .pre .1 .1) (c .loop-test .left)
+returns-2 c = walk-done _ _ _ _ _ _ _ _ _ _ _ _ _ _ _ _ _ _ (c .before .loop .inv .0 _ _ (c .before .before .before .before .before .pre .0) (c .before .before .before .before .before .pre .1 .0) (c .before .before .before .before .before .pre .1 .1)) (c .before .before .before .before .before .pre .1 .0) (c .before .before .before .before .before .pre .1 .1) (c .loop-test .left)
 
 pub relax-node-spec : {M : Type 1} → statement M
 relax-node-spec =
