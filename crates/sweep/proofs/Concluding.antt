@@ -115,16 +115,16 @@ module _ (z : Shape) (from to cost first row step lo hi costs via nodes counts :
         steps : List ℕ
         steps = best-steps c d (tb .valid) (sound-in z from to cost step lo hi tb) (at first) F (f .before) (f .fresh) base listed base-is listed-is goals accepted-is best chosen h from froms
 
-        trail : Trail via from (z .nodes + 2) (z .start) (z .end) (best .node) steps
+        trail : Trail via from (z .nodes + 2) (z .start) (z .end) (best .node .0) steps
         unfolding steps
         trail =
-            subst₂ (λ (x : List ℕ) (w : ℕ). Trail x from w (z .start) (z .end) (best .node) steps) (sym via-is) (width-is z from to cost step lo hi tb)
+            subst₂ (λ (x : List ℕ) (w : ℕ). Trail x from w (z .start) (z .end) (best .node .0) steps) (sym via-is) (width-is z from to cost step lo hi tb)
             (best-trail c d (tb .valid) (sound-in z from to cost step lo hi tb) (at first) F (f .before) (f .fresh) base listed base-is listed-is goals accepted-is best chosen h from froms)
 
         fits : pairs g a ≤ length via
         fits = omega (arith, final-table g a (tb .valid) (lawful-in z from to cost step lo hi tb) (f .before) (f .fresh) (at first) F .via-fits, ap length via-is)
 
-        pub end-traceable : Traceable via from row (z .nodes + 2) (z .stages) (z .start) (z .end) (best .node)
+        pub end-traceable : Traceable via from row (z .nodes + 2) (z .stages) (z .start) (z .end) (best .node .0)
         end-traceable = record {
           rows = y .rows;
           few = few-stages z from to cost step lo hi tb;
@@ -140,7 +140,7 @@ module _ (z : Shape) (from to cost first row step lo hi costs via nodes counts :
           trail = trail;
         }
 
-        module _ (l : ℕ) (long : LongAs via from (z .nodes + 2) (z .start) (z .end) (best .node) l) where
+        module _ (l : ℕ) (long : LongAs via from (z .nodes + 2) (z .start) (z .end) (best .node .0) l) where
           short : length steps ≤ z .stages - 1
           unfolding steps
           short = best-short c d (tb .valid) (sound-in z from to cost step lo hi tb) (at first) F (f .before) (f .fresh) base listed base-is listed-is goals accepted-is best chosen h from froms
@@ -149,7 +149,7 @@ module _ (z : Shape) (from to cost first row step lo hi costs via nodes counts :
           end-fits plan p = omega (arith, long steps trail, short)
 
           pub concludes-some : (plan plan′ : List ℕ) (ans : Answer) → z .stages - 1 ≤ length plan
-              → Written via from (z .nodes + 2) (z .start) (z .end) (best .node) l plan plan′ → length plan′ ≡ length plan
+              → Written via from (z .nodes + 2) (z .start) (z .end) (best .node .0) l plan plan′ → length plan′ ≡ length plan
               → ans ≡ accepted (best .cost) l count → Concludes z from to cost step lo hi plan plan′ ans
           unfolding steps
           concludes-some plan plan′ ans p w k e = record {

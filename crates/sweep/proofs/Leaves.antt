@@ -22,7 +22,7 @@ module _ (base start root : ℕ) (costs nodes counts : List ℕ) where
   begun-one h = record { cost = sym (pick-false _ _ _ (ne-eqb root 0 h)); node = sym (pick-false _ _ _ (ne-eqb root 0 h)); count = sym (pick-false _ _ _ (ne-eqb root 0 h)) }
 
 module _ (best : Best) (n v : ℕ) where
-  pub better-taken : (ok : Bool) (r : Best) → v < best .cost → ok ≡ true → r .cost ≡ v → r .node ≡ n → Better best n v ok r
+  pub better-taken : (ok : Bool) (r : Best) → v < best .cost → ok ≡ true → r .cost ≡ v → r .node .0 ≡ n → Better best n v ok r
   better-taken ok r h y p q = record { taken = λ _ _. (p, q); dearer = λ d. absurd (omega arith); no-goal = λ d. absurd (true-not-false (sym y ∙ d)) }
 
   pub better-no : (ok : Bool) → ok ≡ false → Better best n v ok best
@@ -46,14 +46,14 @@ module _ (base : ℕ) (costs nodes : List ℕ) (goals : List Bool) where
     here e = either (lt-or-le v (best .cost)) (λ h. omega (arith, b .taken h e .0)) (λ h. omega (arith, ap (λ (x : Best). x .cost) (b .dearer h)))
 
     old : r ≡ best → r .cost < 4294967295
-        → (j : ℕ) × (j < k + 1) × (getD nodes (base + j) 0 ≡ r .node) × (getD goals (r .node) false ≡ true) × (getD costs (base + r .node) 0 ≡ r .cost)
+        → (j : ℕ) × (j < k + 1) × (getD nodes (base + j) 0 ≡ r .node .0) × (getD goals (r .node .0) false ≡ true) × (getD costs (base + r .node .0) 0 ≡ r .cost)
     old e h = let x = c .one (omega (arith, ap (λ (x : Best). x .cost) e)) in rw e (x .0, omega (arith, x .1), x .2, x .3, x .4)
 
     new : v < best .cost → getD goals n false ≡ true
-        → (j : ℕ) × (j < k + 1) × (getD nodes (base + j) 0 ≡ r .node) × (getD goals (r .node) false ≡ true) × (getD costs (base + r .node) 0 ≡ r .cost)
+        → (j : ℕ) × (j < k + 1) × (getD nodes (base + j) 0 ≡ r .node .0) × (getD goals (r .node .0) false ≡ true) × (getD costs (base + r .node .0) 0 ≡ r .cost)
     new h e =
         let t = b .taken h e in
-        let q : r .node ≡ n = t .1 ∙ em in
+        let q : r .node .0 ≡ n = t .1 ∙ em in
         (k, omega arith, sym (q ∙ en), ap (λ (i : ℕ). getD goals i false) q ∙ e, ap (λ (i : ℕ). getD costs (base + i) 0) q ∙ sym ev ∙ sym (t .0))
 
     pub chosen-more : Chosen base (k + 1) costs nodes goals r
@@ -67,7 +67,7 @@ module _ (base : ℕ) (costs nodes : List ℕ) (goals : List Bool) where
     }
       where
         go : r .cost < 4294967295 → v < best .cost → (y : Bool) → getD goals n false ≡ y
-            → (j : ℕ) × (j < k + 1) × (getD nodes (base + j) 0 ≡ r .node) × (getD goals (r .node) false ≡ true) × (getD costs (base + r .node) 0 ≡ r .cost)
+            → (j : ℕ) × (j < k + 1) × (getD nodes (base + j) 0 ≡ r .node .0) × (getD goals (r .node .0) false ≡ true) × (getD costs (base + r .node .0) 0 ≡ r .cost)
         go h l true e = new l e
         go h l false e = old (b .no-goal e) h
 

@@ -88,33 +88,33 @@ module _ (c : Chart) (d : Diagram) (v : Valid (graph c)) (s : Sound (length (c .
         (λ k x. omega (arith, low k x, way-inside g a v l E (x .0) k (cost-attained g a E (x .0) k (x .2))))
 
     module _ (h : best .cost < unreached) where
-      found : (k : ℕ) × (k < count) × (getD (r .nodes) (base + k) 0 ≡ best .node) × (getD yes′ (best .node) false ≡ true) × (getD (r .cost) (base + best .node) 0 ≡ best .cost)
+      found : (k : ℕ) × (k < count) × (getD (r .nodes) (base + k) 0 ≡ best .node .0) × (getD yes′ (best .node .0) false ≡ true) × (getD (r .cost) (base + best .node .0) 0 ≡ best .cost)
       found = ch .one h
 
-      pub best-inside : best .node < a .size
+      pub best-inside : best .node .0 < a .size
       best-inside =
           omega (arith, t .lists E (found .0) (v .end-inside) (omega (arith, found .1)), found .2, ap (λ (b : ℕ). getD (r .nodes) (b + found .0) 0) eb)
 
-      accepts : a .accepts (best .node) ≡ true
-      accepts = sym (ey (best .node) best-inside) ∙ found .3
+      accepts : a .accepts (best .node .0) ≡ true
+      accepts = sym (ey (best .node .0) best-inside) ∙ found .3
 
-      best-cost : costAt (a .size) r E (best .node) ≡ best .cost
-      best-cost = ap (λ (b : ℕ). getD (r .cost) (b + best .node) 0) (sym eb) ∙ found .4
+      best-cost : costAt (a .size) r E (best .node .0) ≡ best .cost
+      best-cost = ap (λ (b : ℕ). getD (r .cost) (b + best .node .0) 0) (sym eb) ∙ found .4
 
-      least-is : leastCost g a E (best .node) ≡ some (best .cost)
-      least-is = shown-some _ (best .cost) (sym best-cost ∙ final-cost g a v l r₁ new first F E (best .node) (v .end-inside) best-inside) h
+      least-is : leastCost g a E (best .node .0) ≡ some (best .cost)
+      least-is = shown-some _ (best .cost) (sym best-cost ∙ final-cost g a v l r₁ new first F E (best .node .0) (v .end-inside) best-inside) h
 
       pub some-found : cheapest c d ≡ some (best .cost)
-      some-found = cheapest-some c d v (s .ordered) (best .node) (best .cost) (is-goal g a (best .node) (cost-reached g a E (best .node) (best .cost) least-is) accepts) least-is low
+      some-found = cheapest-some c d v (s .ordered) (best .node .0) (best .cost) (is-goal g a (best .node .0) (cost-reached g a E (best .node .0) (best .cost) least-is) accepts) least-is low
 
       module _ (from : List ℕ) (froms : (e : ℕ) → e < g .count → getD from e 0 ≡ g .from e) where
-        best-traced : Traced g a (r .via) from E (best .node) (best .cost)
-        best-traced = subst (Traced g a (r .via) from E (best .node)) best-cost (traced g a v (g .stages) r t from froms E (best .node) (v .end-inside) best-inside (omega (arith, best-cost)))
+        best-traced : Traced g a (r .via) from E (best .node .0) (best .cost)
+        best-traced = subst (Traced g a (r .via) from E (best .node .0)) best-cost (traced g a v (g .stages) r t from froms E (best .node .0) (v .end-inside) best-inside (omega (arith, best-cost)))
 
         pub best-steps : List ℕ
         best-steps = best-traced .way .steps
 
-        pub best-trail : Trail (r .via) from (a .size) (c .start) E (best .node) best-steps
+        pub best-trail : Trail (r .via) from (a .size) (c .start) E (best .node .0) best-steps
         unfolding best-steps
         best-trail = best-traced .trail
 
@@ -134,7 +134,7 @@ module _ (c : Chart) (d : Diagram) (v : Valid (graph c)) (s : Sound (length (c .
               ea ∙ ap (λ (i : ℕ). accepted (best .cost) i k) (el ∙ sym q),
               record {
                 fits = omega (arith, best-short);
-                legal = subst (Legal c d) (sym tk) (goal-legal c d v (s .ordered) (best .node) (best .cost) accepts w);
+                legal = subst (Legal c d) (sym tk) (goal-legal c d v (s .ordered) (best .node .0) (best .cost) accepts w);
                 costs = ap (wayCost g) tk ∙ w .costs;
                 long = long;
                 rest = ap₂ (λ (i : ℕ) (z : List ℕ). drop i z) q ep ∙ drop-append-seam (w .steps) (drop l′ plan) ∙ ap (λ (i : ℕ). drop i plan) (el ∙ sym q);

@@ -9,7 +9,7 @@ use Rattle.sweep.specs.declared.goals.Best.{Best}
 
 -- the better of the best so far and node n at cost v, if that is a goal
 pub record Better (best : Best) (n v : ℕ) (yes : Bool) (r : Best) : Type 0 where
-  pub taken : v < best .cost → yes ≡ true → (r .cost ≡ v) × (r .node ≡ n)
+  pub taken : v < best .cost → yes ≡ true → (r .cost ≡ v) × (r .node .0 ≡ n)
   pub dearer : best .cost ≤ v → r ≡ best
   pub no-goal : yes ≡ false → r ≡ best
 
@@ -23,4 +23,4 @@ pub record Listed (base count : ℕ) (costs nodes : List ℕ) : Type 0 where
 pub record Chosen (base count : ℕ) (costs nodes : List ℕ) (yes : List Bool) (r : Best) : Type 0 where
   pub bounded : r .cost ≤ 4294967295
   pub least : (k : ℕ) → k < count → getD yes (getD nodes (base + k) 0) false ≡ true → r .cost ≤ getD costs (base + getD nodes (base + k) 0) 0
-  pub one : r .cost < 4294967295 → (k : ℕ) × (k < count) × (getD nodes (base + k) 0 ≡ r .node) × (getD yes (r .node) false ≡ true) × (getD costs (base + r .node) 0 ≡ r .cost)
+  pub one : r .cost < 4294967295 → (k : ℕ) × (k < count) × (getD nodes (base + k) 0 ≡ r .node .0) × (getD yes (r .node .0) false ≡ true) × (getD costs (base + r .node .0) 0 ≡ r .cost)

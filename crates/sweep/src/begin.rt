@@ -5,6 +5,7 @@ ghost use Prim.Native.Nat.{_+_, _≤_, _<_};
 ghost use lib.ListN.{length, drop, replicate};
 ghost use Rattle.sweep.specs.Begin.{Begun};
 use definitions::NONE;
+use definitions::Node;
 
 // The first `pairs` costs become NONE.
 pub fn clear(costs: &mut [u32], pairs: usize)
@@ -25,15 +26,15 @@ pub fn begin(
     counts: &mut [u32; 256],
     base: usize,
     start: usize,
-    root: u16,
+    root: Node,
 )
-    requires { ⌜ (start < 256) × (base + root < length (now costs)) × (base < length (now nodes)) ⌝ }
-    ensures { λ _. ⌜ Begun base start root (now (costs .entry)) (now (nodes .entry)) (now (counts .entry)) (now (costs .exit)) (now (nodes .exit)) (now (counts .exit)) ⌝ }
+    requires { ⌜ (start < 256) × (base + root .0 < length (now costs)) × (base < length (now nodes)) ⌝ }
+    ensures { λ _. ⌜ Begun base start (root .0) (now (costs .entry)) (now (nodes .entry)) (now (counts .entry)) (now (costs .exit)) (now (nodes .exit)) (now (counts .exit)) ⌝ }
 {
-    if root == 0 {
+    if root.0 == 0 {
         return;
     }
-    costs[base + root as usize] = 0;
-    nodes[base] = root as u32;
+    costs[base + root.0 as usize] = 0;
+    nodes[base] = root.0 as u32;
     counts[start] = 1;
 }

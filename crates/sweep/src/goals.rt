@@ -6,16 +6,17 @@ ghost use Rattle.sweep.specs.Goals.{Better, Chosen, Listed};
 ghost use Rattle.relax.specs.Standing.{at};
 use convert::wide;
 use definitions::NONE;
+use definitions::Node;
 
 // A goal pair's cost, NONE where there is none yet, and its node.
 pub struct Best {
     pub cost: u32,
-    pub node: u16,
+    pub node: Node,
 }
 
 // The better of the best goal pair so far and node n at cost v, if that is one.
-fn better(best: Best, n: u16, v: u32, yes: bool) -> Best
-    ensures { λ r. ⌜ Better best n v yes r ⌝ }
+fn better(best: Best, n: Node, v: u32, yes: bool) -> Best
+    ensures { λ r. ⌜ Better best (n .0) v yes r ⌝ }
 {
     let cost = best.cost;
     if cost <= v {
@@ -40,13 +41,13 @@ pub fn cheapest_goal<'a>(
 {
     let mut best = Best {
         cost: NONE,
-        node: 0,
+        node: Node(0),
     };
     let mut k: usize = 0;
     while k < count {
         let n = wide(nodes[base + k]);
         let v = costs[base + n];
-        best = better(best, n as u16, v, yes[n]);
+        best = better(best, Node(n as u16), v, yes[n]);
         k += 1;
     }
     best

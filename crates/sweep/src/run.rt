@@ -54,7 +54,7 @@ fn sweep_rows<'a>(
     let start = z.start as usize;
     clear(costs, stages * width);
     let base = wide(row[start]);
-    begin(costs, nodes, counts, base, start, z.root);
+    begin(costs, nodes, counts, base, start, Node(z.root));
     relax_rows(
         costs,
         via,
@@ -120,7 +120,7 @@ fn conclude<'a>(
         stages,
         Stage(z.start),
         Stage(z.end),
-        Node(best.node),
+        best.node,
     );
     write_trail(
         via,
@@ -130,7 +130,7 @@ fn conclude<'a>(
         stages,
         Stage(z.start),
         Stage(z.end),
-        Node(best.node),
+        best.node,
         steps,
         plan,
     );
