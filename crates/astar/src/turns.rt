@@ -11,7 +11,7 @@ use expand::settle;
 // Whether a goal pair was settled, its node and its cost; and how many pairs were settled.
 pub struct Ended {
     pub found: bool,
-    pub node: u16,
+    pub node: Node,
     pub cost: u32,
     pub count: usize,
 }
@@ -47,18 +47,18 @@ pub fn search<'a>(
     let mut counts = queue::insert(keys, heap, pos, stack, p, queue::empty(), begin, rest);
     let mut count: usize = 0;
     let mut found = false;
-    let mut node: u16 = 0;
+    let mut node = Node(0);
     let mut total: u32 = 0;
     'search: while 0 < counts.held {
         let next = queue::take(keys, heap, pos, stack, p, counts);
         let x = next.pair;
         log[count] = x as u32;
         count += 1;
-        let at = place_of(via, to, row, begin, z.start, x);
-        let stage = at.stage as usize;
+        let at = place_of(via, to, row, begin, Stage(z.start), x);
+        let stage = at.stage.0 as usize;
         let sum = next.counts.floor;
-        let base = sum - pair_estimate(by_stage, by_node, Stage(at.stage), Node(at.node));
-        if is_goal(yes, z.end, at.stage, at.node) {
+        let base = sum - pair_estimate(by_stage, by_node, at.stage, at.node);
+        if is_goal(yes, Stage(z.end), at.stage, at.node) {
             found = true;
             node = at.node;
             total = base;
@@ -82,8 +82,8 @@ pub fn search<'a>(
             by_stage,
             by_node,
             z,
-            Stage(at.stage),
-            Node(at.node),
+            at.stage,
+            at.node,
             base,
             first[stage],
             first[stage + 1],

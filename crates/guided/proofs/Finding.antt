@@ -153,17 +153,17 @@ module _ {z : Shape} {from to cost first row step lo hi byStage byNode : List �
           (s : Searched z from to cost step lo hi (pairsIn z) keys′ via heap pos stack log keys″ via″ heap″ pos″ stack″ log″ e) where
         module _ (f : e .found ≡ true) where
           -- a goal pair was settled
-          settled : GoalSettled C D via″ from (e .node) (e .cost) (e .count) log log″
+          settled : GoalSettled C D via″ from (e .node .0) (e .cost) (e .count) log log″
           settled = s .goal f
 
-          trail : Trail via″ from (z .nodes + 2) (z .start) (z .end) (e .node) (settled .steps)
-          trail = subst (λ (k : ℕ). Trail via″ from k (z .start) (z .end) (e .node) (settled .steps)) width (settled .trail)
+          trail : Trail via″ from (z .nodes + 2) (z .start) (z .end) (e .node .0) (settled .steps)
+          trail = subst (λ (k : ℕ). Trail via″ from k (z .start) (z .end) (e .node .0) (settled .steps)) width (settled .trail)
 
-          short : {w : List ℕ} → Trail via″ from (z .nodes + 2) (z .start) (z .end) (e .node) w → length w ≤ length plan
+          short : {w : List ℕ} → Trail via″ from (z .nodes + 2) (z .start) (z .end) (e .node .0) w → length w ≤ length plan
           short x = omega (arith, trail-short x, t .ready .tables .valid .end-inside, sp .1)
 
           pub find-traces : length via″ ≡ length via
-              → Traceable via″ from row (z .nodes + 2) (z .stages) (z .start) (z .end) (e .node) × Fits z via″ from (e .node) plan
+              → Traceable via″ from row (z .nodes + 2) (z .stages) (z .start) (z .end) (e .node .0) × Fits z via″ from (e .node .0) plan
           find-traces l = (
             record {
               rows = t .ready .rows;
@@ -178,7 +178,7 @@ module _ {z : Shape} {from to cost first row step lo hi byStage byNode : List �
             λ w x. short x,
           )
 
-          pub find-some : {plan′ : List ℕ} {r : Answer} → Traces z via″ from (e .node) (e .cost) (e .count) plan plan′ r → length plan′ ≡ length plan
+          pub find-some : {plan′ : List ℕ} {r : Answer} → Traces z via″ from (e .node .0) (e .cost) (e .count) plan plan′ r → length plan′ ≡ length plan
               → Promised z from to cost step lo hi keys via heap pos stack log plan keys″ via″ heap″ pos″ stack″ log″ plan′ r
           find-some {plan′} {r} x l = record {
             outcome = outcome-some C D (e .count) plan (e .cost) (settled .steps) plan′ r (settled .best) (settled .legal) (settled .costs) (short trail)

@@ -37,14 +37,14 @@ fn trace_plan<'a>(
     from: &'a [u16; 1024],
     row: &'a [u32; 256],
     z: Shape,
-    node: u16,
+    node: Node,
     cost: u32,
     count: usize,
     plan: &mut [u16],
 ) -> Answer
-    requires { ⌜ Traceable (now via) (now from) (now row) (z .nodes + 2) (z .stages) (z .start) (z .end) node ⌝ }
-    requires { ⌜ Fits z (now via) (now from) node (now plan) ⌝ }
-    ensures { λ r. ⌜ Traces z (now (via .entry)) (now (from .entry)) node cost count (now (plan .entry)) (now (plan .exit)) r ⌝ }
+    requires { ⌜ Traceable (now via) (now from) (now row) (z .nodes + 2) (z .stages) (z .start) (z .end) (node .0) ⌝ }
+    requires { ⌜ Fits z (now via) (now from) (node .0) (now plan) ⌝ }
+    ensures { λ r. ⌜ Traces z (now (via .entry)) (now (from .entry)) (node .0) cost count (now (plan .entry)) (now (plan .exit)) r ⌝ }
 {
     let width = z.nodes + 2;
     let stages = z.stages as usize;
@@ -56,7 +56,7 @@ fn trace_plan<'a>(
         stages,
         Stage(z.start),
         Stage(z.end),
-        Node(node),
+        node,
     );
     write_trail(
         via,
@@ -66,7 +66,7 @@ fn trace_plan<'a>(
         stages,
         Stage(z.start),
         Stage(z.end),
-        Node(node),
+        node,
         length,
         plan,
     );

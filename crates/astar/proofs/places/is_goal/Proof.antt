@@ -6,17 +6,21 @@ use Rattle.astar.proofs.places.is_goal.Tie as tie
 use Rattle.astar.proofs.places.is_goal.Reads as reads
 use Rattle.astar.proofs.places.is_goal.Lts as lts
 
--- src/places.rt:58:16
+-- src/places.rt:55:20
+cast-result : tie.Need-cast-result
+cast-result c = search needs
+
+-- src/places.rt:55:16
 element-copy-out-result : tie.Need-element-copy-out-result
 element-copy-out-result c = search needs
 
--- src/places.rt:58:9
+-- src/places.rt:55:9
 returns : tie.Need-returns
-returns c = goal-there _ _ _ (c .before .if1 .taken)
+returns c = goal-there _ _ _ (c .before .before .if1 .taken)
 
--- src/places.rt:53:1
+-- src/places.rt:50:1
 returns-2 : tie.Need-returns-2
 returns-2 c = goal-elsewhere _ _ _ (c .if1 .left)
 
 pub is-goal-spec : {M : Type 1} → statement M
-is-goal-spec = tie.close (tie.spec element-copy-out-result returns returns-2)
+is-goal-spec = tie.close (tie.spec cast-result element-copy-out-result returns returns-2)
