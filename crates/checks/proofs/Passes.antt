@@ -15,7 +15,7 @@ use Rattle.definitions.specs.Diagrams.{Diagram, InnerNode, readDiagram}
 use Rattle.definitions.specs.Diagrams as diagrams
 use Rattle.definitions.specs.Plans.{graph}
 use Rattle.definitions.specs.Limits.{Valid, Sound}
-use Rattle.definitions.specs.Answers.{Load, ready, turned, load, spaceFits, workNeed}
+use Rattle.definitions.specs.Answers.{Load, ready, refused, load, spaceFits, workNeed}
 use Rattle.chart.specs.Tables as chart
 use Rattle.chart.specs.Held.{held-count}
 use Rattle.chart.specs.Accepted.{chart-accepted}
@@ -26,7 +26,7 @@ use Rattle.diagram.specs.Held.{held-tables}
 use Rattle.diagram.specs.Accepted.{diagram-accepted}
 use Rattle.diagram.specs.declared.reader.DiagramRead.{DiagramRead}
 use Rattle.checks.specs.Tables.{Room, Tables, LoadsAs, chartIn, diagramIn}
-use Rattle.checks.specs.Outcome.{chart-turns, rules-turn, space-turns, all-ready}
+use Rattle.checks.specs.Outcome.{chart-refuses, rules-refuse, space-refuses, all-ready}
 use Rattle.checks.specs.declared.Shape.{Shape}
 use Rattle.checks.specs.declared.Loaded.{Loaded}
 
@@ -34,11 +34,11 @@ module _ (s t : List ℕ) (work plan : ℕ) (x : ChartRead) (ex : x ≡ chart.ch
   number-is : x .number ≡ readChart s .number
   number-is = ap (λ (y : ChartRead). y .number) ex
 
-  pub chart-turned : (from to cost step lo hi : List ℕ) (r : Loaded) → (x .number ≡ 0 → ⊥)
+  pub chart-refused : (from to cost step lo hi : List ℕ) (r : Loaded) → (x .number ≡ 0 → ⊥)
       → (r .number ≡ x .number) × (r .file ≡ 1) × (r .place ≡ x .place) → LoadsAs (load s t (work ∷ []) plan) from to cost step lo hi r
-  chart-turned from to cost step lo hi r h e =
+  chart-refused from to cost step lo hi r h e =
       let n : readChart s .number ≡ 0 → ⊥ = λ q. h (number-is ∙ q) in
-      rw (chart-turns s t (work ∷ []) plan n) (e .0 ∙ number-is, e .1, e .2 ∙ ap (λ (y : ChartRead). y .place) ex, n)
+      rw (chart-refuses s t (work ∷ []) plan n) (e .0 ∙ number-is, e .1, e .2 ∙ ap (λ (y : ChartRead). y .place) ex, n)
 
   module _ (cx : x .number ≡ 0) where
     chart-passed : readChart s .number ≡ 0
@@ -66,12 +66,12 @@ module _ (s t : List ℕ) (work plan : ℕ) (x : ChartRead) (ex : x ≡ chart.ch
       rules-number : y .number ≡ d .number
       rules-number = ap (λ (z : DiagramRead). z .number) ey ∙ ap (λ (z : diagrams.DiagramRead). z .number) same-file
 
-      pub rules-turned : (from to cost step lo hi : List ℕ) (r : Loaded) → (y .number ≡ 0 → ⊥)
+      pub rules-refused : (from to cost step lo hi : List ℕ) (r : Loaded) → (y .number ≡ 0 → ⊥)
           → (r .number ≡ y .number) × (r .file ≡ 2) × (r .place ≡ y .place) → LoadsAs (load s t (work ∷ []) plan) from to cost step lo hi r
-      rules-turned from to cost step lo hi r h e =
+      rules-refused from to cost step lo hi r h e =
           let n : d .number ≡ 0 → ⊥ = λ q. h (rules-number ∙ q) in
           let p : y .place ≡ d .place = ap (λ (z : DiagramRead). z .place) ey ∙ ap (λ (z : diagrams.DiagramRead). z .place) same-file in
-          rw (rules-turn s t (work ∷ []) plan chart-passed n) (e .0 ∙ rules-number, e .1, e .2 ∙ p, n)
+          rw (rules-refuse s t (work ∷ []) plan chart-passed n) (e .0 ∙ rules-number, e .1, e .2 ∙ p, n)
 
       module _ (cy : y .number ≡ 0) where
         rules-passed : d .number ≡ 0
@@ -95,16 +95,16 @@ module _ (s t : List ℕ) (work plan : ℕ) (x : ChartRead) (ex : x ≡ chart.ch
         need-is : workNeed (readChart s .chart) (d .diagram) ≡ x .stages * (y .nodes + 2)
         need-is = ap₂ (λ (i j : ℕ). i * (j + 2)) (sym stages-is) (sym nodes-is)
 
-        pub work-turned : (from to cost step lo hi : List ℕ) (r : Loaded) → work < x .stages * (y .nodes + 2)
+        pub work-refused : (from to cost step lo hi : List ℕ) (r : Loaded) → work < x .stages * (y .nodes + 2)
             → (r .number ≡ 7) × (r .file ≡ 0) × (r .place ≡ 0) → LoadsAs (load s t (work ∷ []) plan) from to cost step lo hi r
-        work-turned from to cost step lo hi r h e =
-            rw (space-turns s t (work ∷ []) plan chart-passed rules-passed (simp (lt-leb (workNeed (readChart s .chart) (d .diagram)) work (omega (arith, need-is)))))
+        work-refused from to cost step lo hi r h e =
+            rw (space-refuses s t (work ∷ []) plan chart-passed rules-passed (simp (lt-leb (workNeed (readChart s .chart) (d .diagram)) work (omega (arith, need-is)))))
             (e .0, e .1, e .2, λ q. omega arith)
 
-        pub plan-turned : (from to cost step lo hi : List ℕ) (r : Loaded) → x .stages * (y .nodes + 2) ≤ work → plan < x .stages - 1
+        pub plan-refused : (from to cost step lo hi : List ℕ) (r : Loaded) → x .stages * (y .nodes + 2) ≤ work → plan < x .stages - 1
             → (r .number ≡ 7) × (r .file ≡ 0) × (r .place ≡ 0) → LoadsAs (load s t (work ∷ []) plan) from to cost step lo hi r
-        plan-turned from to cost step lo hi r h k e =
-            rw (space-turns s t (work ∷ []) plan chart-passed rules-passed
+        plan-refused from to cost step lo hi r h k e =
+            rw (space-refuses s t (work ∷ []) plan chart-passed rules-passed
             (simp (le-leb (workNeed (readChart s .chart) (d .diagram)) work (omega (arith, need-is)), lt-leb (readChart s .chart .stages - 1) plan (omega (arith, stages-is)))))
             (e .0, e .1, e .2, λ q. omega arith)
 

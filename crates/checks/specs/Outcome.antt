@@ -11,26 +11,26 @@ use borrow.Author.Tests.{le-leb, lt-leb, eq-eqb, ne-eqb, leb-true, leb-false, no
 use Rattle.definitions.specs.Basics.{pick, every}
 use Rattle.definitions.specs.Charts.{Chart, readChart}
 use Rattle.definitions.specs.Diagrams.{Diagram, readDiagram}
-use Rattle.definitions.specs.Answers.{Load, ready, turned, load, workNeed, planNeed, spaceFits}
+use Rattle.definitions.specs.Answers.{Load, ready, refused, load, workNeed, planNeed, spaceFits}
 use Rattle.theory.specs.Basics.{pick-true, pick-false, pick-cases, either, both}
 
 module _ (s t : List ℕ) (works : List ℕ) (plan : ℕ) where
   abbrev stepCount : ℕ
   stepCount = length (readChart s .chart .steps)
 
-  pub chart-turns : (readChart s .number ≡ 0 → ⊥) → load s t works plan ≡ turned (readChart s .number) 1 (readChart s .place)
+  pub chart-refuses : (readChart s .number ≡ 0 → ⊥) → load s t works plan ≡ refused (readChart s .number) 1 (readChart s .place)
   unfolding load
-  chart-turns h = pick-true _ _ _ (ap not (ne-eqb (readChart s .number) 0 h))
+  chart-refuses h = pick-true _ _ _ (ap not (ne-eqb (readChart s .number) 0 h))
 
   module _ (c : readChart s .number ≡ 0) where
-    pub rules-turn : (readDiagram t stepCount .number ≡ 0 → ⊥) → load s t works plan ≡ turned (readDiagram t stepCount .number) 2 (readDiagram t stepCount .place)
+    pub rules-refuse : (readDiagram t stepCount .number ≡ 0 → ⊥) → load s t works plan ≡ refused (readDiagram t stepCount .number) 2 (readDiagram t stepCount .place)
     unfolding load
-    rules-turn h = pick-false _ _ _ (ap not (eq-eqb _ 0 c)) ∙ pick-true _ _ _ (ap not (ne-eqb (readDiagram t stepCount .number) 0 h))
+    rules-refuse h = pick-false _ _ _ (ap not (eq-eqb _ 0 c)) ∙ pick-true _ _ _ (ap not (ne-eqb (readDiagram t stepCount .number) 0 h))
 
     module _ (d : readDiagram t stepCount .number ≡ 0) where
-      pub space-turns : spaceFits (readChart s .chart) (readDiagram t stepCount .diagram) works plan ≡ false → load s t works plan ≡ turned 7 0 0
+      pub space-refuses : spaceFits (readChart s .chart) (readDiagram t stepCount .diagram) works plan ≡ false → load s t works plan ≡ refused 7 0 0
       unfolding load
-      space-turns h = pick-false _ _ _ (ap not (eq-eqb _ 0 c)) ∙ pick-false _ _ _ (ap not (eq-eqb _ 0 d)) ∙ pick-true _ _ _ (ap not h)
+      space-refuses h = pick-false _ _ _ (ap not (eq-eqb _ 0 c)) ∙ pick-false _ _ _ (ap not (eq-eqb _ 0 d)) ∙ pick-true _ _ _ (ap not h)
 
       pub all-ready : spaceFits (readChart s .chart) (readDiagram t stepCount .diagram) works plan ≡ true
           → load s t works plan ≡ ready (readChart s .chart) (readDiagram t stepCount .diagram)
@@ -50,8 +50,8 @@ pub load-shorter : (s t : List ℕ) (a b : ℕ) (works : List ℕ) (plan : ℕ) 
 unfolding load
 load-shorter s t a b works plan = rw (shorter _ a b works)
 
-turned-not-ready : (number file place : ℕ) (c : Chart) (d : Diagram) → turned number file place ≡ ready c d → ⊥
-turned-not-ready number file place c d e = let z : _≡_ {A = ℕ} 0 1 = cc in omega arith
+refused-not-ready : (number file place : ℕ) (c : Chart) (d : Diagram) → refused number file place ≡ ready c d → ⊥
+refused-not-ready number file place c d e = let z : _≡_ {A = ℕ} 0 1 = cc in omega arith
 
 ready-left : (c′ : Chart) (d′ : Diagram) (c : Chart) (d : Diagram) → ready c′ d′ ≡ ready c d → c′ ≡ c
 ready-left c′ d′ c d e = cc
@@ -69,9 +69,9 @@ ready-parts : (s t works : List ℕ) (plan : ℕ) (c : Chart) (d : Diagram) → 
     × (spaceFits (readChart s .chart) (readDiagram t (length (readChart s .chart .steps)) .diagram) works plan ≡ true)
 unfolding load
 ready-parts s t works plan c d e =
-    either (pick-cases _ _ _ _ e) (λ x. absurd (turned-not-ready _ _ _ c d (x .1)))
-    (λ x. either (pick-cases _ _ _ _ (x .1)) (λ y. absurd (turned-not-ready _ _ _ c d (y .1)))
-    (λ y. either (pick-cases _ _ _ _ (y .1)) (λ w. absurd (turned-not-ready _ _ _ c d (w .1)))
+    either (pick-cases _ _ _ _ e) (λ x. absurd (refused-not-ready _ _ _ c d (x .1)))
+    (λ x. either (pick-cases _ _ _ _ (x .1)) (λ y. absurd (refused-not-ready _ _ _ c d (y .1)))
+    (λ y. either (pick-cases _ _ _ _ (y .1)) (λ w. absurd (refused-not-ready _ _ _ c d (w .1)))
     (λ w. (ready-left _ _ c d (w .1), ready-right _ _ c d (w .1), not-false _ (w .0)))))
 
 pub ready-files : (s t works : List ℕ) (plan : ℕ) (c : Chart) (d : Diagram) → load s t works plan ≡ ready c d

@@ -8,7 +8,7 @@ use Rattle.definitions.specs.Charts.{Chart}
 use Rattle.definitions.specs.Diagrams.{Diagram}
 use Rattle.definitions.specs.Plans.{graph}
 use Rattle.definitions.specs.Limits.{Valid, Sound}
-use Rattle.definitions.specs.Answers.{Load, ready, turned}
+use Rattle.definitions.specs.Answers.{Load, ready, refused}
 use Rattle.chart.specs.Tables as chart
 use Rattle.diagram.specs.Tables as diagram
 use Rattle.diagram.specs.Files as files
@@ -36,6 +36,6 @@ pub record Tables (z : Shape) (from to cost step lo hi : List ℕ) : Type 0 wher
 
 -- what the answer says, by the outcome of the checks
 abbrev pub LoadsAs : Load → List ℕ → List ℕ → List ℕ → List ℕ → List ℕ → List ℕ → Loaded → Type 0
-LoadsAs (turned number file place) from to cost step lo hi r = (r .number ≡ number) × (r .file ≡ file) × (r .place ≡ place) × (number ≡ 0 → ⊥)
+LoadsAs (refused number file place) from to cost step lo hi r = (r .number ≡ number) × (r .file ≡ file) × (r .place ≡ place) × (number ≡ 0 → ⊥)
 LoadsAs (ready c d) from to cost step lo hi r =
     (r .number ≡ 0) × (chartIn (r .shape) from to cost ≡ c) × (diagramIn (r .shape) step lo hi ≡ d) × Tables (r .shape) from to cost step lo hi

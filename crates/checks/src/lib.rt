@@ -27,7 +27,7 @@ pub struct Loaded {
 }
 
 // The answer where a check fails.
-fn turned(number: u32, file: u32, place: usize) -> Loaded
+fn refused(number: u32, file: u32, place: usize) -> Loaded
     ensures { λ r. ⌜ (r .number ≡ number) × (r .file ≡ file) × (r .place ≡ place) ⌝ }
 {
     Loaded {
@@ -64,18 +64,18 @@ pub fn load(
 {
     let c = read_chart(chart, from, to, cost);
     if c.number != 0 {
-        return turned(c.number as u32, 1, c.place);
+        return refused(c.number as u32, 1, c.place);
     }
     let d = read_diagram(rules, c.steps, step, lo, hi);
     if d.number != 0 {
-        return turned(d.number as u32, 2, d.place);
+        return refused(d.number as u32, 2, d.place);
     }
     let stages = c.stages as usize;
     if work < stages * (d.nodes + 2) {
-        return turned(7, 0, 0);
+        return refused(7, 0, 0);
     }
     if plan < stages - 1 {
-        return turned(7, 0, 0);
+        return refused(7, 0, 0);
     }
     Loaded {
         number: 0,

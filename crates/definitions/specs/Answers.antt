@@ -13,7 +13,7 @@ use Rattle.definitions.specs.declared.Answer.{Answer}
 -- both files and the space pass, or a refusal: its number, file and place
 pub data Load : Type 0 where
   ready : Chart → Diagram → Load
-  turned : ℕ → ℕ → ℕ → Load
+  refused : ℕ → ℕ → ℕ → Load
 
 -- how many entries each work slice needs, and how many the plan slice needs
 abbrev pub workNeed : Chart → Diagram → ℕ
@@ -31,9 +31,9 @@ unfoldable pub load : List ℕ → List ℕ → List ℕ → ℕ → Load
 load chart rules works plan =
     let c = readChart chart in
     let d = readDiagram rules (length (c .chart .steps)) in
-    pick (not (eqb (c .number) 0)) (turned (c .number) 1 (c .place))
-    (pick (not (eqb (d .number) 0)) (turned (d .number) 2 (d .place))
-    (pick (not (spaceFits (c .chart) (d .diagram) works plan)) (turned 7 0 0)
+    pick (not (eqb (c .number) 0)) (refused (c .number) 1 (c .place))
+    (pick (not (eqb (d .number) 0)) (refused (d .number) 2 (d .place))
+    (pick (not (spaceFits (c .chart) (d .diagram) works plan)) (refused 7 0 0)
     (ready (c .chart) (d .diagram))))
 
 -- a refusal has cost 0 and length 0

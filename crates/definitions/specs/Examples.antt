@@ -8,7 +8,7 @@ use Rattle.definitions.specs.Basics.{pick, each}
 use Rattle.definitions.specs.Fields.{fieldAt, onField, scan, fieldBytes, refusedField}
 use Rattle.definitions.specs.Charts.{Chart, ChartStep, ChartRead, headFault, stepFault, readChart}
 use Rattle.definitions.specs.Diagrams.{Diagram, InnerNode, DiagramRead, nodeFault, readDiagram}
-use Rattle.definitions.specs.Answers.{Load, ready, turned, load}
+use Rattle.definitions.specs.Answers.{Load, ready, refused, load}
 use Rattle.definitions.specs.Marked.{st, nd, chart, rules}
 
 abbrev le2 : ℕ → List ℕ
@@ -44,7 +44,7 @@ rulesRefusal s count = readDiagram s count .number ∷ readDiagram s count .plac
 
 abbrev loadRefusal : Load → List ℕ
 loadRefusal (ready c d) = []
-loadRefusal (turned number file place) = number ∷ file ∷ place ∷ []
+loadRefusal (refused number file place) = number ∷ file ∷ place ∷ []
 
 pub whole-chart : readChart (chartBytes chart) ≡ record { number = 0; place = 0; chart = chart }
 unfolding pick fieldAt onField scan headFault stepFault readChart

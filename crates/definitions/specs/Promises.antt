@@ -15,7 +15,7 @@ use Rattle.definitions.specs.Diagrams.{Diagram}
 use Rattle.definitions.specs.Ways.{Graph, wayCost}
 use Rattle.definitions.specs.Pairs.{Automaton, Estimate, pair, pairs, stageOf, nodeOf, leastCost, goal, sum, reachedPairs}
 use Rattle.definitions.specs.Plans.{graph, automaton, Legal, cheapest, estimate}
-use Rattle.definitions.specs.Answers.{Load, ready, turned, workNeed, refusal, accepted}
+use Rattle.definitions.specs.Answers.{Load, ready, refused, workNeed, refusal, accepted}
 use Rattle.definitions.specs.declared.Answer.{Answer}
 
 -- ---- the plan slice, for both searches
@@ -39,7 +39,7 @@ Outcome (some m) c d k plan plan′ r = (r ≡ accepted m (r .length) k) × Plan
 -- a work slice of which only this is promised: a refusal other than 8 leaves it, and so do the entries past stage count × N.
 -- Its first stage count × N entries are left free
 abbrev pub Scratch : Load → List ℕ → List ℕ → Type 0
-Scratch (turned number file place) work work′ = work′ ≡ work
+Scratch (refused number file place) work work′ = work′ ≡ work
 Scratch (ready c d) work work′ = (length work′ ≡ length work) × (drop (workNeed c d) work′ ≡ drop (workNeed c d) work)
 
 -- ---- the sweep (dynamic programming in topological order)
@@ -54,7 +54,7 @@ leastCosts g a = map (λ p. shown (leastCost g a (stageOf a p) (nodeOf a p))) (u
 
 -- the plan slice and the cost slice before and after, and the answer. The count is the number of reached pairs
 abbrev pub Swept : Load → List ℕ → List ℕ → List ℕ → List ℕ → Answer → Type 0
-Swept (turned number file place) plan plan′ costs costs′ r = (r ≡ refusal number file place 0) × (plan′ ≡ plan) × (costs′ ≡ costs)
+Swept (refused number file place) plan plan′ costs costs′ r = (r ≡ refusal number file place 0) × (plan′ ≡ plan) × (costs′ ≡ costs)
 Swept (ready c d) plan plan′ costs costs′ r =
     Outcome (cheapest c d) c d (length (reachedPairs (graph c) (automaton c d))) plan plan′ r
     × (costs′ ≡ leastCosts (graph c) (automaton c d) ++ drop (workNeed c d) costs)
@@ -121,7 +121,7 @@ module _ (g : Graph) (a : Automaton) (h : Estimate) where
 
 -- the plan slice and the log slice before and after, and the answer. The count is the log's length
 abbrev pub Guided : Load → List ℕ → List ℕ → List ℕ → List ℕ → Answer → Type 0
-Guided (turned number file place) plan plan′ log log′ r = (r ≡ refusal number file place 0) × (plan′ ≡ plan) × (log′ ≡ log)
+Guided (refused number file place) plan plan′ log log′ r = (r ≡ refusal number file place 0) × (plan′ ≡ plan) × (log′ ≡ log)
 Guided (ready c d) plan plan′ log log′ r =
     Outcome (cheapest c d) c d (r .count) plan plan′ r
     × Logged (graph c) (automaton c d) (estimate c d) (cheapest c d) (r .count) log log′

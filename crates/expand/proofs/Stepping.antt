@@ -15,7 +15,7 @@ use Rattle.theory.specs.Pairs.{Lawful}
 use Rattle.rows.specs.Rows.{row-at}
 use Rattle.trace.specs.Trails.{packed}
 use Rattle.diagram.specs.Tables.{Marked}
-use Rattle.nodes.specs.Walks.{Falls, Lowers, AdvancesFrom}
+use Rattle.nodes.specs.Walks.{Falls, Lowers, BranchesTo}
 use Rattle.nodes.specs.Falling.{lo-falls}
 use Rattle.nodes.specs.Advancing.{advancing-dead}
 use Rattle.checks.specs.declared.Shape.{Shape}
@@ -98,7 +98,7 @@ module _ {z : Shape} {from to cost row step lo hi byStage byNode : List ℕ} {s 
     cost-is : getD cost e 0 ≡ g .cost e
     cost-is = cost-at z from to cost step lo hi (o .guides .tables) e i
 
-    module _ (m t : ℕ) (low : Lowers step lo e n m) (enters : AdvancesFrom step hi e m t) where
+    module _ (m t : ℕ) (low : Lowers step lo e n m) (enters : BranchesTo step hi e m t) where
       next-is : t ≡ a .next e n
       next-is = enters lo n low .is (diagramIn z step lo hi) (o .guides .tables .held) node-inside
 

@@ -11,7 +11,7 @@ use definitions::NONE;
 use definitions::Node;
 use definitions::Stage;
 use definitions::Step;
-use nodes::advance;
+use nodes::branch;
 use nodes::descend_to;
 use queue::Counts;
 use trace::pair_at;
@@ -46,7 +46,7 @@ fn offer<'a>(
     ensures { λ r. ⌜ Opened z (now (from .entry)) (now (to .entry)) (now (cost .entry)) (now (row .entry)) (now (step .entry)) (now (lo .entry)) (now (hi .entry)) (now («by_stage» .entry)) (now («by_node» .entry)) (s .0) (n .0) base p (e .0) (e .0 + 1) (now (keys .entry)) (now (via .entry)) (now (heap .entry)) (now (pos .entry)) (now (stack .entry)) counts (now (keys .exit)) (now (via .exit)) (now (heap .exit)) (now (pos .exit)) (now (stack .exit)) r ⌝ }
 {
     let i = e.0 as usize;
-    let t = advance(step, hi, e, m);
+    let t = branch(step, hi, e, m);
     let stage = to[i];
     let rest = pair_estimate(by_stage, by_node, Stage(stage), Node(t.0));
     if rest == NONE {

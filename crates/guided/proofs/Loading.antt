@@ -11,7 +11,7 @@ use borrow.Author.Tests.{leb-true}
 use Rattle.definitions.specs.Basics.{pick, every}
 use Rattle.definitions.specs.Charts.{Chart, readChart}
 use Rattle.definitions.specs.Diagrams.{Diagram, size, readDiagram}
-use Rattle.definitions.specs.Answers.{Load, ready, turned, load, workNeed, planNeed, spaceFits, refusal}
+use Rattle.definitions.specs.Answers.{Load, ready, refused, load, workNeed, planNeed, spaceFits, refusal}
 use Rattle.definitions.specs.Promises.{Guided, Scratch}
 use Rattle.definitions.specs.declared.Answer.{Answer}
 use Rattle.theory.specs.Basics.{either, both, pick-cases}
@@ -43,11 +43,11 @@ Whole o keys via heap pos stack log plan keys′ via′ heap′ pos′ stack′ 
     × (Scratch o keys keys′ × (Scratch o via via′ × (Scratch o heap heap′ × (Scratch o pos pos′ × Scratch o stack stack′))))
 
 module _ (from to cost step lo hi : List ℕ) (r : Loaded) where
-  pub whole-turned : (o : Load) (keys via heap pos stack log plan : List ℕ) → LoadsAs o from to cost step lo hi r → (r .number ≡ 0 → ⊥)
+  pub whole-refused : (o : Load) (keys via heap pos stack log plan : List ℕ) → LoadsAs o from to cost step lo hi r → (r .number ≡ 0 → ⊥)
       → Whole o keys via heap pos stack log plan keys via heap pos stack log plan (refusal (r .number) (r .file) (r .place) 0)
-  whole-turned (turned number file place) keys via heap pos stack log plan x h =
+  whole-refused (refused number file place) keys via heap pos stack log plan x h =
       ((rw (x .0, x .1, x .2) refl, refl, refl), (refl, (refl, (refl, (refl, refl)))))
-  whole-turned (ready c d) keys via heap pos stack log plan x h = absurd (h (x .0))
+  whole-refused (ready c d) keys via heap pos stack log plan x h = absurd (h (x .0))
 
   -- the chart and the diagram stand in the tables, and there is room
   pub load-ready : (s t : List ℕ) (work plan : ℕ) → LoadsAs (load s t (work ∷ []) plan) from to cost step lo hi r → r .number ≡ 0
@@ -56,7 +56,7 @@ module _ (from to cost step lo hi : List ℕ) (r : Loaded) where
     where
       go : (o : Load) → load s t (work ∷ []) plan ≡ o → LoadsAs o from to cost step lo hi r
           → Tables (r .shape) from to cost step lo hi × (pairsIn (r .shape) ≤ work) × (r .shape .stages - 1 ≤ plan)
-      go (turned number file place) e y = absurd (y .3 (sym (y .0) ∙ h))
+      go (refused number file place) e y = absurd (y .3 (sym (y .0) ∙ h))
       go (ready c d) e y =
           let f = ready-space s t work plan c d e in
           let ec : c .stages ≡ r .shape .stages = sym (ap (λ (i : Chart). i .stages) (y .1)) in
@@ -68,7 +68,7 @@ module _ (from to cost step lo hi : List ℕ) (r : Loaded) where
       → Promised (r .shape) from to cost step lo hi keys via heap pos stack log plan keys′ via′ heap′ pos′ stack′ log′ plan′ a
       → length keys′ ≡ length keys → length via′ ≡ length via → length heap′ ≡ length heap → length pos′ ≡ length pos → length stack′ ≡ length stack
       → Whole o keys via heap pos stack log plan keys′ via′ heap′ pos′ stack′ log′ plan′ a
-  whole-ready (turned number file place) keys via heap pos stack log plan keys′ via′ heap′ pos′ stack′ log′ plan′ a x h p lk lv lh lp ls = absurd (x .3 (sym (x .0) ∙ h))
+  whole-ready (refused number file place) keys via heap pos stack log plan keys′ via′ heap′ pos′ stack′ log′ plan′ a x h p lk lv lh lp ls = absurd (x .3 (sym (x .0) ∙ h))
   whole-ready (ready c d) keys via heap pos stack log plan keys′ via′ heap′ pos′ stack′ log′ plan′ a x h p lk lv lh lp ls =
       subst₂ (λ (i : Chart) (j : Diagram). Whole (ready i j) keys via heap pos stack log plan keys′ via′ heap′ pos′ stack′ log′ plan′ a) (x .1) (x .2)
       ((p .outcome, p .logged), ((lk, at keys′ keys (p .past .keys-past)), ((lv, at via′ via (p .past .via-past)), ((lh, at heap′ heap (p .past .heap-past)), ((lp, at pos′ pos (p .past .pos-past)), (ls, at stack′ stack (p .past .stack-past)))))))

@@ -30,8 +30,8 @@ pub record Advances (step lo hi : List ℕ) (e n r : ℕ) : Type 0 where
   pub is : (d : Diagram) → Held d step lo hi → n < size d → r ≡ advance d e n
 
 -- the second half: step e leads to r from each node that is lowered to m for it
-abbrev pub AdvancesFrom : List ℕ → List ℕ → ℕ → ℕ → ℕ → Type 0
-AdvancesFrom step hi e m r = (lo : List ℕ) (n : ℕ) → Lowers step lo e n m → Advances step lo hi e n r
+abbrev pub BranchesTo : List ℕ → List ℕ → ℕ → ℕ → ℕ → Type 0
+BranchesTo step hi e m r = (lo : List ℕ) (n : ℕ) → Lowers step lo e n m → Advances step lo hi e n r
 
 -- a table says of each node of a diagram of at most `count` inner nodes whether it finishes at 1
 pub record Finishing (lo : List ℕ) (count : ℕ) (r : List Bool) : Type 0 where

@@ -3,6 +3,6 @@ mod estimates;
 mod walks;
 
 pub use estimates::diagram_estimates;
-pub use walks::advance;
+pub use walks::branch;
 pub use walks::descend_to;
 pub use walks::finishing;

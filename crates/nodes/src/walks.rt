@@ -1,7 +1,7 @@
 // The walks over the tables of a rule diagram: advancing a node by a step, and which nodes finish at 1.
 ghost use Prim.Native.Nat.{_+_, _<_};
 ghost use Rattle.diagram.specs.Tables.{Marked};
-ghost use Rattle.nodes.specs.Walks.{Falls, Lowers, AdvancesFrom, Finishing};
+ghost use Rattle.nodes.specs.Walks.{Falls, Lowers, BranchesTo, Finishing};
 use definitions::Node;
 use definitions::Step;
 
@@ -18,10 +18,10 @@ pub fn descend_to(step: &[u16; 512], lo: &[u16; 512], e: Step, n: Node) -> Node
     Node(m)
 }
 
-// The node got by advancing a node by a step, the second half: from the node that it is lowered to.
-pub fn advance<'a>(step: &'a [u16; 512], hi: &'a [u16; 512], e: Step, m: Node) -> Node
+// The second half: to hi where step `e` is the lowered node's own. Both halves together advance a node.
+pub fn branch<'a>(step: &'a [u16; 512], hi: &'a [u16; 512], e: Step, m: Node) -> Node
     requires { ⌜ Marked (now step) × (m .0 < 512) × (e .0 < 65535) ⌝ }
-    ensures { λ r. ⌜ AdvancesFrom (now (step .entry)) (now (hi .entry)) (e .0) (m .0) (r .0) ⌝ }
+    ensures { λ r. ⌜ BranchesTo (now (step .entry)) (now (hi .entry)) (e .0) (m .0) (r .0) ⌝ }
 {
     let key = e.0;
     let at = m.0 as usize;

@@ -7,7 +7,7 @@ use native.Mathlib.Nat.{mul-le-mul-right}
 use native.Mathlib.Omega.{arith}
 use Rattle.definitions.specs.Charts.{Chart}
 use Rattle.definitions.specs.Diagrams.{Diagram}
-use Rattle.definitions.specs.Answers.{Load, ready, turned, workNeed, planNeed}
+use Rattle.definitions.specs.Answers.{Load, ready, refused, workNeed, planNeed}
 use Rattle.checks.specs.Tables.{LoadsAs, chartIn, diagramIn}
 use Rattle.checks.specs.Ready.{few-stages, few-nodes, width-is}
 use Rattle.checks.specs.declared.Loaded.{Loaded}
@@ -19,14 +19,14 @@ abbrev spaced : ℕ → ℕ → Space
 spaced work plan = record { number = 0; file = 0; place = 0; work = work; plan = plan }
 
 module _ (from to cost step lo hi : List ℕ) (x : Loaded) where
-  pub needed-turned : (o : Load) → LoadsAs o from to cost step lo hi x → (x .number ≡ 0 → ⊥)
+  pub needed-refused : (o : Load) → LoadsAs o from to cost step lo hi x → (x .number ≡ 0 → ⊥)
       → record { number = x .number; file = x .file; place = x .place; work = 0; plan = 0 } ≡ spaceNeeded o
-  needed-turned (turned number file place) l h = rw (l .0, l .1, l .2)
-  needed-turned (ready c d) l h = absurd (h (l .0))
+  needed-refused (refused number file place) l h = rw (l .0, l .1, l .2)
+  needed-refused (ready c d) l h = absurd (h (l .0))
 
   pub needed-ready : (o : Load) → LoadsAs o from to cost step lo hi x → x .number ≡ 0
       → spaced (x .shape .stages * (x .shape .nodes + 2)) (x .shape .stages - 1) ≡ spaceNeeded o
-  needed-ready (turned number file place) l h = absurd (l .3 (sym (l .0) ∙ h))
+  needed-ready (refused number file place) l h = absurd (l .3 (sym (l .0) ∙ h))
   needed-ready (ready c d) l h =
       let w : workNeed (chartIn (x .shape) from to cost) (diagramIn (x .shape) step lo hi) ≡ x .shape .stages * (x .shape .nodes + 2) =
       ap (λ (n : ℕ). x .shape .stages * n) (width-is (x .shape) from to cost step lo hi (l .3))
@@ -40,7 +40,7 @@ module _ (from to cost step lo hi : List ℕ) (x : Loaded) where
     pub few-pairs : x .shape .stages * (x .shape .nodes + 2) ≤ 131072
 
   pub small : (o : Load) → LoadsAs o from to cost step lo hi x → x .number ≡ 0 → Small
-  small (turned number file place) l h = absurd (l .3 (sym (l .0) ∙ h))
+  small (refused number file place) l h = absurd (l .3 (sym (l .0) ∙ h))
   small (ready c d) l h =
       let f = few-nodes (x .shape) from to cost step lo hi (l .3) in
       let m = mul-le-mul-right (x .shape .nodes + 2) (few-stages (x .shape) from to cost step lo hi (l .3)) in

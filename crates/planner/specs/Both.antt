@@ -6,7 +6,7 @@ use mathlib.Core.List.{List, [], _∷_}
 use lib.ListN.{length}
 use Rattle.definitions.specs.Charts.{Chart, readChart}
 use Rattle.definitions.specs.Diagrams.{Diagram, readDiagram}
-use Rattle.definitions.specs.Answers.{Load, ready, turned, load}
+use Rattle.definitions.specs.Answers.{Load, ready, refused, load}
 use Rattle.definitions.specs.Promises.{Swept, Guided, Scratch}
 use Rattle.definitions.specs.declared.Answer.{Answer}
 use Rattle.theory.specs.Agreement.{Agree, agreement}
@@ -30,8 +30,8 @@ pub record GuidedKept (s t plan plan′ keys keys′ via via′ heap heap′ pos
 -- where all checks pass for both, they agree: both give a legal plan or both give 8, the costs are equal, and the guided count is at most the sweep's
 abbrev pub AgreeOn : Load → Load → Answer → Answer → Type 0
 AgreeOn (ready c d) (ready c′ d′) r q = Agree r q
-AgreeOn (ready c d) (turned number file place) r q = Unit {0}
-AgreeOn (turned number file place) o r q = Unit {0}
+AgreeOn (ready c d) (refused number file place) r q = Unit {0}
+AgreeOn (refused number file place) o r q = Unit {0}
 
 -- both searches keep their promises on the same files: they agree
 pub both-agree : (s t works works′ : List ℕ) (p p′ : ℕ) (plan plan′ costs costs′ : List ℕ) (r : Answer) (guidedPlan guidedPlan′ log log′ : List ℕ) (q : Answer)
@@ -40,8 +40,8 @@ pub both-agree : (s t works works′ : List ℕ) (p p′ : ℕ) (plan plan′ co
 both-agree s t works works′ p p′ plan plan′ costs costs′ r guidedPlan guidedPlan′ log log′ q = go (load s t works p) refl (load s t works′ p′) refl
   where
     go : (o : Load) → load s t works p ≡ o → (o′ : Load) → load s t works′ p′ ≡ o′ → Swept o plan plan′ costs costs′ r → Guided o′ guidedPlan guidedPlan′ log log′ q → AgreeOn o o′ r q
-    go (turned number file place) e o′ e′ x y = tt
-    go (ready c d) e (turned number file place) e′ x y = tt
+    go (refused number file place) e o′ e′ x y = tt
+    go (ready c d) e (refused number file place) e′ x y = tt
     go (ready c d) e (ready c′ d′) e′ x y =
         let a = ready-files s t works p c d e in
         let b = ready-files s t works′ p′ c′ d′ e′ in

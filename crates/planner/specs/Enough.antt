@@ -13,11 +13,11 @@ use Rattle.definitions.specs.Charts.{Chart, readChart}
 use Rattle.definitions.specs.Diagrams.{Diagram, size, readDiagram}
 use Rattle.definitions.specs.Plans.{graph}
 use Rattle.definitions.specs.Limits.{Valid, Sound}
-use Rattle.definitions.specs.Answers.{load, ready, turned, workNeed, planNeed, spaceFits}
+use Rattle.definitions.specs.Answers.{load, ready, refused, workNeed, planNeed, spaceFits}
 use Rattle.theory.specs.Basics.{pick-true, pick-false, either, same-or-not}
 use Rattle.chart.specs.Accepted.{chart-accepted}
 use Rattle.diagram.specs.Accepted.{diagram-accepted}
-use Rattle.checks.specs.Outcome.{chart-turns, rules-turn, all-ready}
+use Rattle.checks.specs.Outcome.{chart-refuses, rules-refuse, all-ready}
 use Rattle.planner.specs.Space.{filesOnly}
 
 module _ (s t : List ℕ) where
@@ -27,13 +27,13 @@ module _ (s t : List ℕ) where
   abbrev D : Diagram
   D = readDiagram t (length (C .steps)) .diagram
 
-  files-chart : (readChart s .number ≡ 0 → ⊥) → filesOnly s t ≡ turned (readChart s .number) 1 (readChart s .place)
+  files-chart : (readChart s .number ≡ 0 → ⊥) → filesOnly s t ≡ refused (readChart s .number) 1 (readChart s .place)
   unfolding filesOnly
   files-chart h = pick-true _ _ _ (ap not (ne-eqb (readChart s .number) 0 h))
 
   module _ (c : readChart s .number ≡ 0) where
     files-rules : (readDiagram t (length (C .steps)) .number ≡ 0 → ⊥)
-        → filesOnly s t ≡ turned (readDiagram t (length (C .steps)) .number) 2 (readDiagram t (length (C .steps)) .place)
+        → filesOnly s t ≡ refused (readDiagram t (length (C .steps)) .number) 2 (readDiagram t (length (C .steps)) .place)
     unfolding filesOnly
     files-rules h = pick-false _ _ _ (ap not (eq-eqb _ 0 c)) ∙ pick-true _ _ _ (ap not (ne-eqb (readDiagram t (length (C .steps)) .number) 0 h))
 
@@ -56,5 +56,5 @@ module _ (s t : List ℕ) where
       either (same-or-not (readChart s .number) 0)
       (λ c. either (same-or-not (readDiagram t (length (C .steps)) .number) 0)
       (λ d. all-ready s t (131072 ∷ []) 255 c d (most c d) ∙ sym (files-ready c d))
-      (λ d. rules-turn s t (131072 ∷ []) 255 c d ∙ sym (files-rules c d)))
-      (λ c. chart-turns s t (131072 ∷ []) 255 c ∙ sym (files-chart c))
+      (λ d. rules-refuse s t (131072 ∷ []) 255 c d ∙ sym (files-rules c d)))
+      (λ c. chart-refuses s t (131072 ∷ []) 255 c ∙ sym (files-chart c))

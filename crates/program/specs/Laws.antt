@@ -13,7 +13,7 @@ use Rattle.definitions.specs.Diagrams.{Diagram}
 use Rattle.definitions.specs.Ways.{wayCost}
 use Rattle.definitions.specs.Pairs.{reachedPairs}
 use Rattle.definitions.specs.Plans.{graph, automaton, estimate, Legal, cheapest}
-use Rattle.definitions.specs.Answers.{Load, ready, turned, load, refusal, accepted}
+use Rattle.definitions.specs.Answers.{Load, ready, refused, load, refusal, accepted}
 use Rattle.definitions.specs.Promises.{Outcome, Swept, Guided, Settled, Found, Ended}
 use Rattle.definitions.specs.declared.Answer.{Answer}
 use Rattle.theory.specs.Basics.{pick-true, pick-false, pick-cases, either}
@@ -36,20 +36,20 @@ accepted-report cost steps count plan sweep = pick-true _ _ _ (eq-eqb 0 0 refl)
 
 -- ---- the checks
 
-turned-number : (n f p n′ f′ p′ : ℕ) → turned n f p ≡ turned n′ f′ p′ → n ≡ n′
-turned-number n f p n′ f′ p′ e = cc
+refused-number : (n f p n′ f′ p′ : ℕ) → refused n f p ≡ refused n′ f′ p′ → n ≡ n′
+refused-number n f p n′ f′ p′ e = cc
 
-ready-not-turned : (c : Chart) (d : Diagram) (n f p : ℕ) → ready c d ≡ turned n f p → ⊥
-ready-not-turned c d n f p e = let z : _≡_ {A = ℕ} 0 1 = cc in omega arith
+ready-not-refused : (c : Chart) (d : Diagram) (n f p : ℕ) → ready c d ≡ refused n f p → ⊥
+ready-not-refused c d n f p e = let z : _≡_ {A = ℕ} 0 1 = cc in omega arith
 
 -- a refusal's number is not 0
-refusal-number : (s t works : List ℕ) (plan number file place : ℕ) → load s t works plan ≡ turned number file place → number ≡ 0 → ⊥
+refusal-number : (s t works : List ℕ) (plan number file place : ℕ) → load s t works plan ≡ refused number file place → number ≡ 0 → ⊥
 unfolding load
 refusal-number s t works plan number file place e z =
-    either (pick-cases _ _ _ _ e) (λ x. eqb-false _ 0 (not-true _ (x .0)) (turned-number _ _ _ _ _ _ (x .1) ∙ z))
-    (λ x. either (pick-cases _ _ _ _ (x .1)) (λ y. eqb-false _ 0 (not-true _ (y .0)) (turned-number _ _ _ _ _ _ (y .1) ∙ z))
-    (λ y. either (pick-cases _ _ _ _ (y .1)) (λ w. let q : 7 ≡ 0 = turned-number _ _ _ _ _ _ (w .1) ∙ z in omega arith)
-    (λ w. absurd (ready-not-turned _ _ _ _ _ (w .1)))))
+    either (pick-cases _ _ _ _ e) (λ x. eqb-false _ 0 (not-true _ (x .0)) (refused-number _ _ _ _ _ _ (x .1) ∙ z))
+    (λ x. either (pick-cases _ _ _ _ (x .1)) (λ y. eqb-false _ 0 (not-true _ (y .0)) (refused-number _ _ _ _ _ _ (y .1) ∙ z))
+    (λ y. either (pick-cases _ _ _ _ (y .1)) (λ w. let q : 7 ≡ 0 = refused-number _ _ _ _ _ _ (w .1) ∙ z in omega arith)
+    (λ w. absurd (ready-not-refused _ _ _ _ _ (w .1)))))
 
 -- the sweep's space and the guided search's pass the same checks
 same-load : (chart rules : List ℕ) → sweepLoad chart rules ≡ guidedLoad chart rules
@@ -81,7 +81,7 @@ module _ {chart rules out out′ : List ℕ} {r : ℕ} (w : Written chart rules 
       (e, w .text .held ∙ ap (λ (z : List ℕ). z ++ drop r out) (take-all (r - 0) text (omega arith)))
 
   -- a file or the space is refused: the refusal's line
-  pub refused-text : (number file place : ℕ) → guidedLoad chart rules ≡ turned number file place → Appended out 0 (refusedText number file place) out′ r
+  pub refused-text : (number file place : ℕ) → guidedLoad chart rules ≡ refused number file place → Appended out 0 (refusedText number file place) out′ r
   refused-text number file place e =
       let p = subst (λ (o : Load). Guided o (w .plan) (w .plan′) (w .log) (w .log′) (w .guided)) e (w .searched) in
       let q : report (w .guided) (w .plan′) (w .sweep) ≡ refusedText number file place =

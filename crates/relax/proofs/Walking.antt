@@ -19,7 +19,7 @@ use Rattle.theory.specs.Pairs.{pair-inside}
 use Rattle.trace.specs.Trails.{packed}
 use Rattle.diagram.specs.Tables.{Marked}
 use Rattle.nodes.specs.Falling.{lo-falls}
-use Rattle.nodes.specs.Walks.{lowered, Falls, Lowers, AdvancesFrom}
+use Rattle.nodes.specs.Walks.{lowered, Falls, Lowers, BranchesTo}
 use Rattle.nodes.specs.Lowered.{advance-lowered}
 use Rattle.sweep_model.specs.Model.{unreached, Rows, rows, costAt, countAt, offer, relaxStep, relaxSteps}
 use Rattle.sweep_model.specs.Rows.{Table, Entry, entry-low}
@@ -199,7 +199,7 @@ module _ (z : Shape) (from to cost first row step lo hi : List ℕ) where
           pub walk-dead : m′ ≡ 0 → r ≡ relaxSteps g a n v start (until - start) r₀
           walk-dead q = sym (w .same ∙ dead (until - e) e (omega arith) q r)
 
-          module _ (t : ℕ) (y : AdvancesFrom step hi e m′ t) where
+          module _ (t : ℕ) (y : BranchesTo step hi e m′ t) where
             advanced-is : t ≡ advance d e n
             advanced-is = y lo m x .is d (st′ .ready .tables .held) small ∙ w .carried e (omega arith)
 

@@ -12,7 +12,7 @@ use definitions::NONE;
 use definitions::Node;
 use definitions::Stage;
 use definitions::Step;
-use nodes::advance;
+use nodes::branch;
 use nodes::descend_to;
 
 // The pair of stage s, whose row starts at `base`, and node t is offered the cost v. `mark` has the step and the node
@@ -117,7 +117,7 @@ fn relax_node<'a>(
         if m.0 == 0 {
             return;
         }
-        let t = advance(step, hi, key, m);
+        let t = branch(step, hi, key, m);
         relax_step(costs, via, nodes, counts, to, cost, row, e, n, v, t);
         e += 1;
     }

@@ -11,7 +11,7 @@ use Rattle.definitions.specs.Diagrams.{Diagram, size}
 use Rattle.definitions.specs.Ways.{Graph}
 use Rattle.definitions.specs.Pairs.{Automaton, pairs, reachedPairs}
 use Rattle.definitions.specs.Plans.{graph, automaton, cheapest}
-use Rattle.definitions.specs.Answers.{Load, ready, turned, load, workNeed, planNeed, refusal}
+use Rattle.definitions.specs.Answers.{Load, ready, refused, load, workNeed, planNeed, refusal}
 use Rattle.definitions.specs.Promises.{Swept, Scratch, leastCosts}
 use Rattle.definitions.specs.declared.Answer.{Answer}
 use Rattle.chart.specs.FirstSteps.{SortedTable, FirstTable}
@@ -97,14 +97,14 @@ pub record Kept (o : Load) (plan plan′ costs costs′ via via′ nodes nodes�
   pub nodes-scratch : Scratch o nodes nodes′
 
 -- a refusal leaves everything
-kept-turned : (o : Load) (from to cost step lo hi plan costs via nodes : List ℕ) (x : Loaded) (r : Answer) → LoadsAs o from to cost step lo hi x → (x .number ≡ 0 → ⊥)
+kept-refused : (o : Load) (from to cost step lo hi plan costs via nodes : List ℕ) (x : Loaded) (r : Answer) → LoadsAs o from to cost step lo hi x → (x .number ≡ 0 → ⊥)
     → r ≡ refusal (x .number) (x .file) (x .place) 0 → Kept o plan plan costs costs via via nodes nodes r
-kept-turned (turned number file place) from to cost step lo hi plan costs via nodes x r l h e = record {
+kept-refused (refused number file place) from to cost step lo hi plan costs via nodes x r l h e = record {
   answers = (e ∙ rw (l .0, l .1, l .2), refl, refl);
   via-scratch = refl;
   nodes-scratch = refl;
 }
-kept-turned (ready c d) from to cost step lo hi plan costs via nodes x r l h e = absurd (h (l .0))
+kept-refused (ready c d) from to cost step lo hi plan costs via nodes x r l h e = absurd (h (l .0))
 
 -- where all checks pass, the tables are ready and the space is enough
 record Passed (s t : List ℕ) (work plan : ℕ) (from to cost step lo hi : List ℕ) (x : Loaded) : Type 0 where
@@ -113,7 +113,7 @@ record Passed (s t : List ℕ) (work plan : ℕ) (from to cost step lo hi : List
 
 passed : (s t : List ℕ) (work plan : ℕ) (from to cost step lo hi : List ℕ) (x : Loaded) (o : Load) → load s t (work ∷ []) plan ≡ o → LoadsAs o from to cost step lo hi x → x .number ≡ 0
     → Passed s t work plan from to cost step lo hi x
-passed s t work plan from to cost step lo hi x (turned number file place) e l h = absurd (l .3 (sym (l .0) ∙ h))
+passed s t work plan from to cost step lo hi x (refused number file place) e l h = absurd (l .3 (sym (l .0) ∙ h))
 passed s t work plan from to cost step lo hi x (ready c d) e l h = record { tables = l .3; outcome = e ∙ sym (ap₂ (λ (i : Chart) (j : Diagram). ready i j) (l .1) (l .2)) }
 
 module _ (s t plan costs via nodes : List ℕ) (work : ℕ) (ew : work ≡ min (min (length costs) (length via)) (length nodes)) (from to cost step lo hi : List ℕ) (x : Loaded)
@@ -127,9 +127,9 @@ module _ (s t plan costs via nodes : List ℕ) (work : ℕ) (ew : work ≡ min (
       load-shorter s t (length costs) (length via) (length nodes ∷ []) (length plan) ∙ load-shorter s t (min (length costs) (length via)) (length nodes) [] (length plan)
       ∙ ap (λ (k : ℕ). load s t (k ∷ []) (length plan)) (sym ew)
 
-  pub whole-turned : (r : Answer) → (x .number ≡ 0 → ⊥) → r ≡ refusal (x .number) (x .file) (x .place) 0
+  pub whole-refused : (r : Answer) → (x .number ≡ 0 → ⊥) → r ≡ refusal (x .number) (x .file) (x .place) 0
       → Kept (load s t works (length plan)) plan plan costs costs via via nodes nodes r
-  whole-turned r h e = rw shortest (kept-turned (load s t (work ∷ []) (length plan)) from to cost step lo hi plan costs via nodes x r l h e)
+  whole-refused r h e = rw shortest (kept-refused (load s t (work ∷ []) (length plan)) from to cost step lo hi plan costs via nodes x r l h e)
 
   module _ (h : x .number ≡ 0) where
     abbrev z : Shape

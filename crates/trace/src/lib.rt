@@ -9,7 +9,7 @@ use definitions::Stage;
 use definitions::Step;
 
 // A step, and the stage and node that it left.
-pub struct Left {
+pub struct Predecessor {
     pub step: Step,
     pub stage: Stage,
     pub node: Node,
@@ -24,12 +24,12 @@ pub fn pair_at(row: &[u32; 256], s: Stage, n: Node) -> usize
 }
 
 // The step and the node that stand packed in one number.
-fn unpacked(from: &[u16; 1024], packed: u32) -> Left
+fn unpacked(from: &[u16; 1024], packed: u32) -> Predecessor
     requires { ⌜ packed / 512 < 1024 ⌝ }
     ensures { λ r. ⌜ (r .step .0 ≡ packed / 512) × (r .stage .0 ≡ getD (now (from .entry)) (r .step .0) 0) × (r .node .0 ≡ packed % 512) ⌝ }
 {
     let e = wide(packed / 512);
-    Left {
+    Predecessor {
         step: Step(e as u16),
         stage: Stage(from[e]),
         node: Node((packed % 512) as u16),

@@ -5,7 +5,7 @@ use mathlib.Core.List.{[], _∷_}
 use Rattle.definitions.specs.Answers.{Load, load}
 use Rattle.planner.specs.Space.{spaceNeeded}
 use Rattle.planner.specs.Enough.{load-most}
-use Rattle.planner.proofs.Needed.{needed-turned, needed-ready, small}
+use Rattle.planner.proofs.Needed.{needed-refused, needed-ready, small}
 use borrow.Author.Needs.{needs}
 use Rattle.planner.proofs.space.space_needed.Statement.{statement}
 use Rattle.planner.proofs.space.space_needed.Tie as tie
@@ -19,7 +19,7 @@ load-requires c κs = search needs
 
 -- src/space.rt:43:9
 returns : tie.Need-returns
-returns c = needed-turned _ _ _ _ _ _ _ (load (c .before .before .before .before .before .before .before .before .before .before .before .args .chart .now) (c .before .before .before .before .before .before .before .before .before .before .before .args .rules .now) (131072 ∷ []) 255) (c .before .before .load .ensures) (c .if1 .taken) ∙ ap (λ (o : Load). spaceNeeded o) (load-most (c .before .before .before .before .before .before .before .before .before .before .before .args .chart .now) (c .before .before .before .before .before .before .before .before .before .before .before .args .rules .now))
+returns c = needed-refused _ _ _ _ _ _ _ (load (c .before .before .before .before .before .before .before .before .before .before .before .args .chart .now) (c .before .before .before .before .before .before .before .before .before .before .before .args .rules .now) (131072 ∷ []) 255) (c .before .before .load .ensures) (c .if1 .taken) ∙ ap (λ (o : Load). spaceNeeded o) (load-most (c .before .before .before .before .before .before .before .before .before .before .before .args .chart .now) (c .before .before .before .before .before .before .before .before .before .before .before .args .rules .now))
 
 -- src/space.rt:52:18
 cast-stages : tie.Need-cast-stages

@@ -3,7 +3,7 @@ use Prim.Native.Nat.{ℕ, _+_, _-_, _*_, _≤_, min}
 use mathlib.Core.Path.{_≡_, refl, sym, _∙_, ap}
 use native.Mathlib.Omega.{arith}
 use lib.ListN.{length}
-use Rattle.sweep.proofs.Whole.{whole-turned, whole-tables, whole-space, whole-runs}
+use Rattle.sweep.proofs.Whole.{whole-refused, whole-tables, whole-space, whole-runs}
 use borrow.Author.Needs.{needs}
 use Rattle.sweep.proofs.run.sweep.Statement.{statement}
 use Rattle.sweep.proofs.run.sweep.Tie as tie
@@ -27,7 +27,7 @@ load-requires c κs = search needs
 
 -- src/run.rt:172:9
 returns : tie.Need-returns
-returns c = let k = whole-turned (c .before .before .before .before .before .before .before .before .before .before .before .before .before .before .before .before .before .args .chart .now) (c .before .before .before .before .before .before .before .before .before .before .before .before .before .before .before .before .before .args .rules .now) (c .before .before .before .before .before .before .before .before .before .before .before .before .before .before .before .before .before .args .plan .now) (c .before .before .before .before .before .before .before .before .before .before .before .before .before .before .before .before .before .args .cost .now) (c .before .before .before .before .before .before .before .before .before .before .before .before .before .before .before .before .before .args .via .now) (c .before .before .before .before .before .before .before .before .before .before .before .before .before .before .before .before .before .args .nodes .now) (c .before .before .before .before .before .before .before .before .before .lesser2 .result) (c .before .before .before .before .before .before .before .before .before .lesser2 .ensures ∙ ap (λ (k : ℕ). min k (length (c .before .before .before .before .before .before .before .before .before .before .before .before .before .before .before .before .before .args .nodes .now))) (c .before .before .before .before .before .before .before .before .before .before .lesser .ensures)) _ _ _ _ _ _ _ (c .before .before .load .ensures) _ (c .if1 .taken) refl in (k .answers, (k .via-scratch, k .nodes-scratch))
+returns c = let k = whole-refused (c .before .before .before .before .before .before .before .before .before .before .before .before .before .before .before .before .before .args .chart .now) (c .before .before .before .before .before .before .before .before .before .before .before .before .before .before .before .before .before .args .rules .now) (c .before .before .before .before .before .before .before .before .before .before .before .before .before .before .before .before .before .args .plan .now) (c .before .before .before .before .before .before .before .before .before .before .before .before .before .before .before .before .before .args .cost .now) (c .before .before .before .before .before .before .before .before .before .before .before .before .before .before .before .before .before .args .via .now) (c .before .before .before .before .before .before .before .before .before .before .before .before .before .before .before .before .before .args .nodes .now) (c .before .before .before .before .before .before .before .before .before .lesser2 .result) (c .before .before .before .before .before .before .before .before .before .lesser2 .ensures ∙ ap (λ (k : ℕ). min k (length (c .before .before .before .before .before .before .before .before .before .before .before .before .before .before .before .before .before .args .nodes .now))) (c .before .before .before .before .before .before .before .before .before .before .lesser .ensures)) _ _ _ _ _ _ _ (c .before .before .load .ensures) _ (c .if1 .taken) refl in (k .answers, (k .via-scratch, k .nodes-scratch))
 
 -- src/run.rt:182:5
 run-requires : tie.Need-run-requires

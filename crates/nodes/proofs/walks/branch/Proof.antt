@@ -1,10 +1,10 @@
--- `nodes::advance` meets its contract.
+-- `nodes::branch` meets its contract.
 use Rattle.nodes.specs.Advancing.{advancing-hi, advancing-stays}
 use borrow.Author.Needs.{needs}
-use Rattle.nodes.proofs.walks.advance.Statement.{statement}
-use Rattle.nodes.proofs.walks.advance.Tie as tie
-use Rattle.nodes.proofs.walks.advance.Reads as reads
-use Rattle.nodes.proofs.walks.advance.Lts as lts
+use Rattle.nodes.proofs.walks.branch.Statement.{statement}
+use Rattle.nodes.proofs.walks.branch.Tie as tie
+use Rattle.nodes.proofs.walks.branch.Reads as reads
+use Rattle.nodes.proofs.walks.branch.Lts as lts
 
 cast-at : tie.Need-cast-at
 cast-at c = search needs
@@ -27,7 +27,7 @@ returns c = λ lo n low. advancing-hi _ lo _ _ n _ (c .before .before .before .b
 returns-2 : tie.Need-returns-2
 returns-2 c = λ lo n low. advancing-stays _ lo _ _ n _ (c .before .before .before .pre .0) low (c .if1 .left)
 
-pub advance-spec : {M : Type 1} → statement M
-advance-spec =
+pub branch-spec : {M : Type 1} → statement M
+branch-spec =
     tie.close
     (tie.spec cast-at mul-if1 element-copy-out-if1 mul-t12 element-copy-out-t15 returns returns-2)
