@@ -340,7 +340,8 @@ def all_files():
 def stored():
     """What stands in the repository at these places."""
     found = [ROOT / "crates/plan/stdout", ROOT / "crates/plan_run/stdout"]
-    for folder in ("example", "crates/plan/data", "crates/plan_run/data"):
+    found += [ROOT / "example/chart.bin", ROOT / "example/rules.bin"]
+    for folder in ("crates/plan/data", "crates/plan_run/data"):
         found += (ROOT / folder).rglob("*")
     return {str(f.relative_to(ROOT)): f.read_bytes() for f in found if f.is_file()}
 
