@@ -3,6 +3,8 @@
 
 mod log;
 
+use std::fmt::Display;
+
 use crate::planner::{Answer, GuidedSlices, Space, SweepSlices};
 use crate::reference::rules::verdict;
 use crate::reference::ways::{cost_of, is_plan, set_of};
@@ -26,26 +28,35 @@ fn demand(holds: bool, sentence: &str, found: impl FnOnce() -> String) -> Checke
     Err(format!("\"{sentence}\": {}", found()))
 }
 
-/// The first place at which two lists differ, in words.
-fn first_difference<T: PartialEq + std::fmt::Display>(
+/// The first entry at which two lists differ, in words; those before `from` are not looked at.
+fn first_difference<T: PartialEq + Display>(
     name: &str,
+    from: usize,
     want: &[T],
     found: &[T],
 ) -> String {
-    match want.iter().zip(found).position(|(a, b)| a != b) {
-        Some(at) => format!("{name}[{at}] is {} and not {}", found[at], want[at]),
+    let mut entries = want.iter().zip(found).enumerate().skip(from);
+    match entries.find(|(_, (want, found))| want != found) {
+        Some((at, (want, found))) => format!("{name}[{at}] is {found} and not {want}"),
         None => format!("{name} has {} entries and not {}", found.len(), want.len()),
     }
 }
 
 /// Demands that two lists are equal.
-fn same<T: PartialEq + std::fmt::Display>(
+fn same<T: PartialEq + Display>(sentence: &str, name: &str, want: &[T], found: &[T]) -> Checked {
+    same_from(0, sentence, name, want, found)
+}
+
+/// Demands that two lists are equal from an entry on.
+fn same_from<T: PartialEq + Display>(
+    from: usize,
     sentence: &str,
     name: &str,
     want: &[T],
     found: &[T],
 ) -> Checked {
-    demand(want == found, sentence, || first_difference(name, want, found))
+    let equal = want[from..] == found[from..];
+    demand(equal, sentence, || first_difference(name, from, want, found))
 }
 
 /// Checks a sweep.
@@ -65,7 +76,7 @@ pub fn sweep(
     let pairs = facts.problem.pairs();
     demand(after.cost.len() == before.cost.len(), STAY, || "cost changed its length".into())?;
     same(COST_SLICE, "cost", &reference::cost_slice(facts), &after.cost[..pairs])?;
-    same(STAY, "cost", &before.cost[pairs..], &after.cost[pairs..])?;
+    same_from(pairs, STAY, "cost", &before.cost, &after.cost)?;
     check_free(&before.free(), &after.free(), pairs)?;
     check_plan(facts, &before.plan, &after.plan, answer)
 }
@@ -139,7 +150,7 @@ pub fn refused_field(call: FieldCall, before: &[u8], after: &[u8], length: usize
     demand(after.len() == before.len(), STAY, || format!("{name} changed its length"))?;
     let fits = length.min(before.len());
     same(sentence, &name, &want[..fits], &after[..fits])?;
-    same(STAY, &name, &before[fits..], &after[fits..])
+    same_from(fits, STAY, &name, before, after)
 }
 
 fn check_answer(expected: &Expected, answer: Answer, count_sentence: &str) -> Checked {
@@ -221,7 +232,7 @@ fn check_free(
 ) -> Checked {
     for ((name, old), (_, new)) in before.iter().zip(after) {
         demand(old.len() == new.len(), STAY, || format!("{name} changed its length"))?;
-        same(STAY, name, &old[pairs..], &new[pairs..])?;
+        same_from(pairs, STAY, name, old, new)?;
     }
     Ok(())
 }
@@ -247,5 +258,5 @@ fn check_plan(facts: &Facts, before: &[u16], after: &[u16], answer: Answer) -> C
     demand(cost == answer.cost, PLAN_HELD, || {
         format!("{plan:?} costs {cost} and the answer says {}", answer.cost)
     })?;
-    same(PLAN_HELD, "plan past its length", &before[length..], &after[length..])
+    same_from(length, PLAN_HELD, "plan", before, after)
 }

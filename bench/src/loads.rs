@@ -51,7 +51,7 @@ pub fn growth() -> Vec<Load> {
     nodes.chain(stages).collect()
 }
 
-/// A chart of order 14.
+/// A generated chart of so many stages.
 fn generated(stages: u32) -> Chart {
     load(WORD, stages).expect("a word and stages in range")
 }

@@ -175,12 +175,13 @@ pub fn measure(
             contenders.push(contender(planner.as_ref(), search, load, &mut buffers));
         }
     }
-    for _ in 0..rounds {
-        for contender in &mut contenders {
+    for round in 0..rounds {
+        // Another one begins each round.
+        let begin = round % contenders.len();
+        let (last, first) = contenders.split_at_mut(begin);
+        for contender in first.iter_mut().chain(last) {
             contender.sample(&mut buffers, load);
         }
-        // Another one begins the next round.
-        contenders.rotate_left(1);
     }
     Ok(Measured {
         name: load.name.clone(),

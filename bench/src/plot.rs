@@ -114,7 +114,7 @@ fn grid(across: &Axis, up: &Axis) -> String {
 fn marks(series: &Series, at: usize, across: &Axis, up: &Axis) -> String {
     let colour = COLOURS[at % COLOURS.len()];
     let mark = |x: f64, y: f64| {
-        if at.is_multiple_of(2) {
+        if at % 2 == 0 {
             format!("<circle cx=\"{x:.1}\" cy=\"{y:.1}\" r=\"3.5\" fill=\"{colour}\"/>\n")
         } else {
             let (x, y) = (x - 3.5, y - 3.5);

@@ -1,12 +1,14 @@
 //! The checker itself: every falsified result must be caught.
 
+use std::fmt::Debug;
+
 use planner_bench::cases::{Case, Cases};
-use planner_bench::check;
+use planner_bench::check::{self, Checked};
 use planner_bench::compare::{dirty, dirty_plan};
 use planner_bench::files::Problem;
 use planner_bench::generate::Random;
 use planner_bench::planner::{Answer, GuidedSlices, Planner, SweepSlices};
-use planner_bench::reference::{judge, Facts};
+use planner_bench::reference::{judge, Facts, Judged};
 use planner_bench::same::Same;
 
 /// Changes a result and says whether there was something to change.
@@ -172,50 +174,62 @@ const GUIDED: [(&str, Falsify<GuidedSlices>); 24] = [
     }),
 ];
 
-#[test]
-fn every_falsified_sweep_is_caught() {
-    let mut random = Random::new(6);
-    let problems = problems();
-    for (name, falsify) in SWEEP {
-        let mut caught = 0;
-        for (case, facts) in &problems {
-            let before = sweep_slices(&facts.problem, &mut random);
-            let mut after = before.clone();
-            let mut answer = Same.sweep(&case.chart, &case.rules, &mut after);
-            let judged = Ok(facts.clone());
-            assert_eq!(check::sweep(&judged, &before, &after, answer), Ok(()));
-            if falsify(facts, &mut answer, &mut after) {
-                let found = check::sweep(&judged, &before, &after, answer);
-                assert!(found.is_err(), "{name}: {facts:?}");
-                caught += 1;
+/// A search: the slices lent to it, its run, its check.
+struct Search<S> {
+    lend: fn(&Problem, &mut Random) -> S,
+    run: fn(&Case, &mut S) -> Answer,
+    check: fn(&Judged, &S, &S, Answer) -> Checked,
+}
+
+impl<S: Clone + PartialEq + Debug> Search<S> {
+    /// Every honest result passes, and each falsified one is caught, on many problems.
+    fn catches(&self, falsified: &[(&str, Falsify<S>)], seed: u64) {
+        let mut random = Random::new(seed);
+        let problems = problems();
+        for (name, falsify) in falsified {
+            let mut caught = 0;
+            for (case, facts) in &problems {
+                let before = (self.lend)(&facts.problem, &mut random);
+                let mut after = before.clone();
+                let mut answer = (self.run)(case, &mut after);
+                let judged = Ok(facts.clone());
+                assert_eq!((self.check)(&judged, &before, &after, answer), Ok(()));
+                let honest = (answer, after.clone());
+                let applied = falsify(facts, &mut answer, &mut after);
+                if applied && (answer, &after) != (honest.0, &honest.1) {
+                    let found = (self.check)(&judged, &before, &after, answer);
+                    assert!(found.is_err(), "{name}: {facts:?} {answer:?} {after:?}");
+                    caught += 1;
+                }
             }
+            assert!(caught > 100, "{name}: tried {caught} times");
         }
-        assert!(caught > 100, "{name}: tried {caught} times");
     }
 }
 
 #[test]
+fn every_falsified_sweep_is_caught() {
+    let run = |case: &Case, lent: &mut _| Same.sweep(&case.chart, &case.rules, lent);
+    Search { lend: sweep_slices, run, check: check::sweep }.catches(&SWEEP, 6);
+}
+
+#[test]
 fn every_falsified_guided_search_is_caught() {
-    let mut random = Random::new(7);
-    let problems = problems();
-    for (name, falsify) in GUIDED {
-        let mut caught = 0;
-        for (case, facts) in &problems {
-            let before = guided_slices(&facts.problem, &mut random);
-            let mut after = before.clone();
-            let mut answer = Same.guided(&case.chart, &case.rules, &mut after);
-            let judged = Ok(facts.clone());
-            assert_eq!(check::guided(&judged, &before, &after, answer), Ok(()));
-            let honest = (answer, after.clone());
-            let applied = falsify(facts, &mut answer, &mut after);
-            if applied && (answer, &after) != (honest.0, &honest.1) {
-                let found = check::guided(&judged, &before, &after, answer);
-                assert!(found.is_err(), "{name}: {facts:?} {answer:?} {after:?}");
-                caught += 1;
-            }
-        }
-        assert!(caught > 100, "{name}: tried {caught} times");
-    }
+    let run = |case: &Case, lent: &mut _| Same.guided(&case.chart, &case.rules, lent);
+    Search { lend: guided_slices, run, check: check::guided }.catches(&GUIDED, 7);
+}
+
+#[test]
+fn a_difference_is_told_by_its_place_in_the_slice() {
+    let (case, facts) = problems().swap_remove(0);
+    let pairs = facts.problem.pairs();
+    let before = sweep_slices(&facts.problem, &mut Random::new(10));
+    let mut after = before.clone();
+    let answer = Same.sweep(&case.chart, &case.rules, &mut after);
+    after.cost[pairs + 2] ^= 1;
+    let text = check::sweep(&Ok(facts), &before, &after, answer).unwrap_err();
+    let (at, found, want) = (pairs + 2, after.cost[pairs + 2], before.cost[pairs + 2]);
+    assert!(text.ends_with(&format!(": cost[{at}] is {found} and not {want}")), "{text}");
 }
 
 #[test]

@@ -25,7 +25,7 @@ usage: benchmark [--rounds N] [--only TEXT] [--csv FILE] [--svg FILE] [--docs DI
   --csv FILE   where the figures are written (default benchmark.csv)
   --svg FILE   where the plot of time against pairs is written (default benchmark.svg)
   --docs DIR   write performance.csv and performance.svg there instead, and the tables into the page
-               PERFORMANCE.md, between its two marks
+               PERFORMANCE.md, between its two marks; not with --only
   --help       this text
 
 The count is that of the first implementation: reached pairs of a sweep, settled ones of a guided
@@ -87,10 +87,14 @@ fn parse(mut args: impl Iterator<Item = String>) -> Result<Options, String> {
             _ => return Err(format!("unknown argument {arg}")),
         }
     }
+    if options.docs.is_some() && !options.only.is_empty() {
+        return Err("--docs writes the figures of all loads, so it does not go with --only".into());
+    }
     Ok(options)
 }
 
 fn run(options: &Options) -> Result<(), String> {
+    let page = options.docs.as_deref().map(Page::read).transpose()?;
     let busy = load_average();
     let planners = planner::all();
     let names: Vec<&str> = planners.iter().map(|planner| planner.name()).collect();
@@ -112,7 +116,7 @@ fn run(options: &Options) -> Result<(), String> {
     };
     write(&table, csv(&all))?;
     write(&plot, svg(&all, &names))?;
-    let Some(docs) = &options.docs else { return Ok(()) };
+    let Some(page) = page else { return Ok(()) };
     let run = Run {
         planners: &names,
         rounds: options.rounds,
@@ -121,12 +125,34 @@ fn run(options: &Options) -> Result<(), String> {
         growth: &growing,
         peaks: &peaks,
     };
-    let path = docs.join("PERFORMANCE.md");
-    let page = fs::read_to_string(&path)
-        .map_err(|error| format!("cannot read {}: {error}", path.display()))?;
-    let page = with_figures(&page, &run.figures())
-        .ok_or(format!("{} has no marks for the figures", path.display()))?;
-    write(&path, page)
+    page.write(&run.figures())
+}
+
+/// The page that the figures are written into.
+struct Page {
+    path: PathBuf,
+    text: String,
+}
+
+impl Page {
+    /// Reads the page of a folder; it must have the marks.
+    fn read(docs: &Path) -> Result<Page, String> {
+        let path = docs.join("PERFORMANCE.md");
+        let text = fs::read_to_string(&path)
+            .map_err(|error| format!("cannot read {}: {error}", path.display()))?;
+        let page = Page { path, text };
+        page.with("")?;
+        Ok(page)
+    }
+
+    fn with(&self, figures: &str) -> Result<String, String> {
+        let missing = || format!("{} has no marks for the figures", self.path.display());
+        with_figures(&self.text, figures).ok_or_else(missing)
+    }
+
+    fn write(&self, figures: &str) -> Result<(), String> {
+        write(&self.path, self.with(figures)?)
+    }
 }
 
 fn write(path: &Path, text: String) -> Result<(), String> {

@@ -192,7 +192,7 @@ impl Tally {
         *self.by_kind.entry(case.kind).or_default() += 1;
         *self.by_number.entry(outcome.number).or_default() += 1;
         self.sound.extend(outcome.features);
-        if self.cases.is_multiple_of(PROGRESS_EVERY) {
+        if self.cases % PROGRESS_EVERY == 0 {
             println!("{} cases, {:.1} s", self.cases, self.begun.elapsed().as_secs_f64());
         }
     }

@@ -2,7 +2,7 @@
 
 use std::collections::BTreeSet;
 
-use super::{demand, same, Checked, STAY};
+use super::{demand, same_from, Checked, STAY};
 use crate::planner::Answer;
 use crate::reference::Facts;
 
@@ -26,7 +26,7 @@ pub fn check(facts: &Facts, before: &[u32], after: &[u32], answer: Answer) -> Ch
     demand(after.len() == before.len() && count <= after.len(), STAY, || {
         format!("{count} entries in a log of {}, before {}", after.len(), before.len())
     })?;
-    same(STAY, "log past its count", &before[count..], &after[count..])?;
+    same_from(count, STAY, "log", before, after)?;
     let log: Vec<usize> = after[..count].iter().map(|pair| *pair as usize).collect();
     check_entries(facts, &log)?;
     check_followers(facts, &log)?;

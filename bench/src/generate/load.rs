@@ -1,4 +1,4 @@
-//! The load of order 14: the same chart for everyone from one word and a stage count.
+//! The generated load: the same chart for everyone from one word and a stage count.
 
 use crate::files::{Chart, Step, MAX_STAGES, MAX_STEPS};
 
