@@ -11,9 +11,9 @@ const DEFAULT: &str = "../target/staticlib/libplanner_c.a";
 fn main() {
     println!("cargo:rerun-if-changed=build.rs");
     println!("cargo:rerun-if-env-changed={NAME}");
-    let given = env::var_os(NAME).map(PathBuf::from);
+    let given = env::var_os(NAME).filter(|path| !path.is_empty());
     let here = PathBuf::from(env::var_os("CARGO_MANIFEST_DIR").unwrap_or_default());
-    let path = given.clone().unwrap_or_else(|| here.join(DEFAULT));
+    let path = here.join(given.as_deref().unwrap_or(DEFAULT.as_ref()));
     let Ok(full) = path.canonicalize() else {
         println!("cargo:rerun-if-changed={}", path.display());
         missing(&path, given.is_some());
@@ -38,7 +38,7 @@ fn link(library: &Path) {
 fn missing(path: &Path, given: bool) -> ! {
     eprintln!("planner: the static library is missing: {}", path.display());
     if given {
-        eprintln!("{NAME} names it. ");
+        eprintln!("{NAME} names it; a relative path counts from the folder of this crate.");
     }
     eprintln!("To make it, run in the repository's root (it needs the Rattle toolchain):");
     eprintln!("    rt staticlib planner_c");

@@ -51,6 +51,11 @@ impl Work {
 
     /// So many entries in each work slice and in both plan slices. 131,072 and 255 are enough for
     /// every chart and diagram.
+    ///
+    /// # Panics
+    ///
+    /// Where a slice would have more than `isize::MAX` bytes; where there is no memory for it, the
+    /// program ends, as with any [`Vec`].
     pub fn with_entries(work: usize, plan: usize) -> Work {
         Work {
             sweep: [(); 3].map(|()| vec![0; work]),
