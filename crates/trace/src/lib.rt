@@ -81,11 +81,11 @@ pub fn write_trail<'a>(
     requires { ⌜ (count ≤ length (now plan)) × LongAs (now via) (now from) width (start .0) (stage .0) (node .0) count ⌝ }
     ensures { λ _. ⌜ Written (now (via .entry)) (now (from .entry)) width (start .0) (stage .0) (node .0) count (now (plan .entry)) (now (plan .exit)) ⌝ }
 {
-    let first = start.0;
+    let begin = start.0;
     let mut s = stage.0;
     let mut n = node.0;
     let mut i = count;
-    while first < s {
+    while begin < s {
         let at = pair_at(row, Stage(s), Node(n));
         let b = unpacked(from, via[at]);
         i -= 1;
