@@ -50,7 +50,7 @@ pub load-shorter : (s t : List ℕ) (a b : ℕ) (works : List ℕ) (plan : ℕ) 
 unfolding load
 load-shorter s t a b works plan = rw (shorter _ a b works)
 
-refused-not-ready : (number file place : ℕ) (c : Chart) (d : Diagram) → refused number file place ≡ ready c d → ⊥
+pub refused-not-ready : (number file place : ℕ) (c : Chart) (d : Diagram) → refused number file place ≡ ready c d → ⊥
 refused-not-ready number file place c d e = let z : _≡_ {A = ℕ} 0 1 = cc in omega arith
 
 ready-left : (c′ : Chart) (d′ : Diagram) (c : Chart) (d : Diagram) → ready c′ d′ ≡ ready c d → c′ ≡ c

@@ -1,9 +1,10 @@
 -- The checks on the files alone and those of a search: a search that is lent the space needed passes, and no accepted files need more than the most space.
 -- Assumes nothing.
 use Prim.Native.Nat.{ℕ, _+_, _-_, _*_, _≤_}
-use mathlib.Core.Path.{_≡_, sym, _∙_, ap}
-use mathlib.Core.Bool.{true, false, not, _&&_}
+use mathlib.Core.Path.{_≡_, refl, sym, _∙_, ap}
+use mathlib.Core.Bool.{Bool, true, false, not, _&&_}
 use mathlib.Core.List.{List, [], _∷_}
+use mathlib.Core.Logic.{_⊎_, inl, inr}
 use native.Mathlib.Nat.{mul-le-mul-right}
 use native.Mathlib.Omega.{arith}
 use lib.Dec.{leb, eqb}
@@ -17,7 +18,7 @@ use Rattle.definitions.specs.Answers.{load, ready, refused, workNeed, planNeed,
 use Rattle.theory.specs.Basics.{pick-true, pick-false, either, same-or-not}
 use Rattle.chart.specs.Accepted.{chart-accepted}
 use Rattle.diagram.specs.Accepted.{diagram-accepted}
-use Rattle.checks.specs.Outcome.{chart-refuses, rules-refuse, all-ready}
+use Rattle.checks.specs.Outcome.{chart-refuses, rules-refuse, space-refuses, all-ready}
 use Rattle.planner.specs.Space.{filesOnly}
 
 module _ (s t : List ℕ) where
@@ -58,3 +59,17 @@ module _ (s t : List ℕ) where
       (λ d. all-ready s t (131072 ∷ []) 255 c d (most c d) ∙ sym (files-ready c d))
       (λ d. rules-refuse s t (131072 ∷ []) 255 c d ∙ sym (files-rules c d)))
       (λ c. chart-refuses s t (131072 ∷ []) 255 c ∙ sym (files-chart c))
+
+  -- a search's checks are those on the files alone, or 7 where its space is too small for files that pass
+  pub load-files : (works : List ℕ) (plan : ℕ) → (load s t works plan ≡ filesOnly s t) ⊎ ((filesOnly s t ≡ ready C D) × (load s t works plan ≡ refused 7 0 0))
+  load-files works plan =
+      either (same-or-not (readChart s .number) 0)
+      (λ c. either (same-or-not (readDiagram t (length (C .steps)) .number) 0)
+      (λ d. go c d (spaceFits C D works plan) refl)
+      (λ d. inl (rules-refuse s t works plan c d ∙ sym (files-rules c d))))
+      (λ c. inl (chart-refuses s t works plan c ∙ sym (files-chart c)))
+    where
+      go : (c : readChart s .number ≡ 0) (d : readDiagram t (length (C .steps)) .number ≡ 0) (b : Bool) → spaceFits C D works plan ≡ b
+          → (load s t works plan ≡ filesOnly s t) ⊎ ((filesOnly s t ≡ ready C D) × (load s t works plan ≡ refused 7 0 0))
+      go c d true e = inl (all-ready s t works plan c d e ∙ sym (files-ready c d))
+      go c d false e = inr (files-ready c d, space-refuses s t works plan c d e)

@@ -1,3 +1,3 @@
-pub mod Both
 pub mod Space
 pub mod Enough
+pub mod Both

@@ -17,7 +17,7 @@ use Rattle.definitions.specs.Answers.{Load, ready, refused, load, refusal, acce
 use Rattle.definitions.specs.Promises.{Outcome, Swept, Guided, Settled, Found, Ended}
 use Rattle.definitions.specs.declared.Answer.{Answer}
 use Rattle.theory.specs.Basics.{pick-true, pick-false, pick-cases, either}
-use Rattle.checks.specs.Outcome.{load-shorter}
+use Rattle.checks.specs.Outcome.{load-shorter, refused-not-ready}
 use Rattle.report.specs.Text.{report, planText, refusedText}
 use Rattle.report.specs.Appending.{Appended}
 use Rattle.program.specs.Written.{sweepLoad, guidedLoad, Written}
@@ -39,9 +39,6 @@ accepted-report cost steps count plan sweep = pick-true _ _ _ (eq-eqb 0 0 refl)
 refused-number : (n f p n′ f′ p′ : ℕ) → refused n f p ≡ refused n′ f′ p′ → n ≡ n′
 refused-number n f p n′ f′ p′ e = cc
 
-ready-not-refused : (c : Chart) (d : Diagram) (n f p : ℕ) → ready c d ≡ refused n f p → ⊥
-ready-not-refused c d n f p e = let z : _≡_ {A = ℕ} 0 1 = cc in omega arith
-
 -- a refusal's number is not 0
 refusal-number : (s t works : List ℕ) (plan number file place : ℕ) → load s t works plan ≡ refused number file place → number ≡ 0 → ⊥
 unfolding load
@@ -49,7 +46,7 @@ refusal-number s t works plan number file place e z =
     either (pick-cases _ _ _ _ e) (λ x. eqb-false _ 0 (not-true _ (x .0)) (refused-number _ _ _ _ _ _ (x .1) ∙ z))
     (λ x. either (pick-cases _ _ _ _ (x .1)) (λ y. eqb-false _ 0 (not-true _ (y .0)) (refused-number _ _ _ _ _ _ (y .1) ∙ z))
     (λ y. either (pick-cases _ _ _ _ (y .1)) (λ w. let q : 7 ≡ 0 = refused-number _ _ _ _ _ _ (w .1) ∙ z in omega arith)
-    (λ w. absurd (ready-not-refused _ _ _ _ _ (w .1)))))
+    (λ w. absurd (refused-not-ready _ _ _ _ _ (sym (w .1))))))
 
 -- the sweep's space and the guided search's pass the same checks
 same-load : (chart rules : List ℕ) → sweepLoad chart rules ≡ guidedLoad chart rules
