@@ -11,71 +11,54 @@ use Rattle.chart.proofs.read_chart.Reads as read-chart-reads
 use Rattle.checks.proofs.refused.Reads as refused-reads
 use Rattle.diagram.proofs.read_diagram.Reads as read-diagram-reads
 
--- src/lib.rt:65:9
 read-chart-requires : tie.Need-read-chart-requires
 read-chart-requires c κs = search needs
 
--- src/lib.rt:67:23
 cast-refused : tie.Need-cast-refused
 cast-refused c = search needs
 
--- src/lib.rt:67:9
 refused-requires : tie.Need-refused-requires
 refused-requires c κs = search needs
 
--- src/lib.rt:67:9
 returns : tie.Need-returns
 returns c = chart-refused (c .before .before .before .before .before .before .before .before .before .before .args .chart .now) (c .before .before .before .before .before .before .before .before .before .before .args .rules .now) (c .before .before .before .before .before .before .before .before .before .before .args .work) (c .before .before .before .before .before .before .before .before .before .before .args .plan) _ (c .before .before .before .before .read-chart .ensures .0) _ _ _ _ _ _ _ (c .before .before .if1 .taken) (c .refused .ensures)
 
--- src/lib.rt:69:9
 read-diagram-requires : tie.Need-read-diagram-requires
 read-diagram-requires c κs = search needs
 
--- src/lib.rt:71:23
 cast-refused-2 : tie.Need-cast-refused-2
 cast-refused-2 c = search needs
 
--- src/lib.rt:71:9
 refused-requires-2 : tie.Need-refused-requires-2
 refused-requires-2 c κs = search needs
 
--- src/lib.rt:71:9
 returns-2 : tie.Need-returns-2
 returns-2 c = rules-refused (c .before .before .before .before .before .before .before .before .before .before .before .before .before .before .before .before .args .chart .now) (c .before .before .before .before .before .before .before .before .before .before .before .before .before .before .before .before .args .rules .now) (c .before .before .before .before .before .before .before .before .before .before .before .before .before .before .before .before .args .work) (c .before .before .before .before .before .before .before .before .before .before .before .before .before .before .before .before .args .plan) _ (c .before .before .before .before .before .before .before .before .before .before .read-chart .ensures .0) (c .before .before .before .before .before .before .before .before .if1 .left) _ (c .before .before .before .before .read-diagram .ensures .answer (c .before .before .before .before .before .before .before .before .before .before .before .before .before .before .before .before .pre .nodes)) _ _ _ _ _ _ _ (c .before .before .if2 .taken) (c .refused2 .ensures)
 
--- src/lib.rt:73:18
 cast-stages : tie.Need-cast-stages
 cast-stages c = search needs
 
--- src/lib.rt:74:25
 add-if3 : tie.Need-add-if3
 add-if3 c = omega (arith, few-nodes (c .before .before .before .before .before .before .before .before .before .before .before .before .before .before .before .before .args .chart .now) (c .before .before .before .before .before .before .before .before .before .before .before .before .before .before .before .before .args .rules .now) (c .before .before .before .before .before .before .before .before .before .before .before .before .before .before .before .before .args .work) (c .before .before .before .before .before .before .before .before .before .before .before .before .before .before .before .before .args .plan) _ (c .before .before .before .before .before .before .before .before .before .before .read-chart .ensures .0) (c .before .before .before .before .before .before .before .before .if1 .left) _ (c .before .before .before .before .read-diagram .ensures .answer (c .before .before .before .before .before .before .before .before .before .before .before .before .before .before .before .before .pre .nodes)) (c .before .before .if2 .left))
 
--- src/lib.rt:74:15
 mul-if3 : tie.Need-mul-if3
 mul-if3 c = omega (arith, few-pairs (c .before .before .before .before .before .before .before .before .before .before .before .before .before .before .before .before .args .chart .now) (c .before .before .before .before .before .before .before .before .before .before .before .before .before .before .before .before .args .rules .now) (c .before .before .before .before .before .before .before .before .before .before .before .before .before .before .before .before .args .work) (c .before .before .before .before .before .before .before .before .before .before .before .before .before .before .before .before .args .plan) _ (c .before .before .before .before .before .before .before .before .before .before .read-chart .ensures .0) (c .before .before .before .before .before .before .before .before .if1 .left) _ (c .before .before .before .before .read-diagram .ensures .answer (c .before .before .before .before .before .before .before .before .before .before .before .before .before .before .before .before .pre .nodes)) (c .before .before .if2 .left))
 
--- src/lib.rt:75:9
 refused-requires-3 : tie.Need-refused-requires-3
 refused-requires-3 c κs = search needs
 
--- src/lib.rt:75:9
 returns-3 : tie.Need-returns-3
 returns-3 c = work-refused (c .before .before .before .before .before .before .before .before .before .before .before .before .before .before .before .before .before .before .args .chart .now) (c .before .before .before .before .before .before .before .before .before .before .before .before .before .before .before .before .before .before .args .rules .now) (c .before .before .before .before .before .before .before .before .before .before .before .before .before .before .before .before .before .before .args .work) (c .before .before .before .before .before .before .before .before .before .before .before .before .before .before .before .before .before .before .args .plan) _ (c .before .before .before .before .before .before .before .before .before .before .before .before .read-chart .ensures .0) (c .before .before .before .before .before .before .before .before .before .before .if1 .left) _ (c .before .before .before .before .before .before .read-diagram .ensures .answer (c .before .before .before .before .before .before .before .before .before .before .before .before .before .before .before .before .before .before .pre .nodes)) (c .before .before .before .before .if2 .left) _ _ _ _ _ _ _ (c .before .if3 .taken) (c .refused3 .ensures)
 
--- src/lib.rt:77:15
 sub-if4 : tie.Need-sub-if4
 sub-if4 c = omega (arith, some-stages (c .before .before .before .before .before .before .before .before .before .before .before .before .before .before .before .before .before .args .chart .now) (c .before .before .before .before .before .before .before .before .before .before .before .before .before .before .before .before .before .args .rules .now) (c .before .before .before .before .before .before .before .before .before .before .before .before .before .before .before .before .before .args .work) (c .before .before .before .before .before .before .before .before .before .before .before .before .before .before .before .before .before .args .plan) _ (c .before .before .before .before .before .before .before .before .before .before .before .read-chart .ensures .0) (c .before .before .before .before .before .before .before .before .before .if1 .left))
 
--- src/lib.rt:78:9
 refused-requires-4 : tie.Need-refused-requires-4
 refused-requires-4 c κs = search needs
 
--- src/lib.rt:78:9
 returns-4 : tie.Need-returns-4
 returns-4 c = plan-refused (c .before .before .before .before .before .before .before .before .before .before .before .before .before .before .before .before .before .before .before .args .chart .now) (c .before .before .before .before .before .before .before .before .before .before .before .before .before .before .before .before .before .before .before .args .rules .now) (c .before .before .before .before .before .before .before .before .before .before .before .before .before .before .before .before .before .before .before .args .work) (c .before .before .before .before .before .before .before .before .before .before .before .before .before .before .before .before .before .before .before .args .plan) _ (c .before .before .before .before .before .before .before .before .before .before .before .before .before .read-chart .ensures .0) (c .before .before .before .before .before .before .before .before .before .before .before .if1 .left) _ (c .before .before .before .before .before .before .before .read-diagram .ensures .answer (c .before .before .before .before .before .before .before .before .before .before .before .before .before .before .before .before .before .before .before .pre .nodes)) (c .before .before .before .before .before .if2 .left) _ _ _ _ _ _ _ (c .before .before .if3 .left) (c .before .if4 .taken) (c .refused4 .ensures)
 
--- src/lib.rt:50:1
 returns-5 : tie.Need-returns-5
 returns-5 c = loaded (c .before .before .before .before .before .before .before .before .before .before .before .before .before .before .before .before .before .before .args .chart .now) (c .before .before .before .before .before .before .before .before .before .before .before .before .before .before .before .before .before .before .args .rules .now) (c .before .before .before .before .before .before .before .before .before .before .before .before .before .before .before .before .before .before .args .work) (c .before .before .before .before .before .before .before .before .before .before .before .before .before .before .before .before .before .before .args .plan) _ (c .before .before .before .before .before .before .before .before .before .before .before .before .read-chart .ensures .0) (c .before .before .before .before .before .before .before .before .before .before .if1 .left) _ (c .before .before .before .before .before .before .read-diagram .ensures .answer (c .before .before .before .before .before .before .before .before .before .before .before .before .before .before .before .before .before .before .pre .nodes)) (c .before .before .before .before .if2 .left) _ _ _ _ _ _ _ _ _ _ _ _ (c .before .before .before .before .before .before .before .before .before .before .before .before .read-chart .ensures .1 (c .before .before .before .before .before .before .before .before .before .before .before .before .before .before .before .before .before .before .pre .steps)) (c .before .before .before .before .before .before .read-diagram .ensures .filled (c .before .before .before .before .before .before .before .before .before .before .before .before .before .before .before .before .before .before .pre .nodes)) _ refl refl refl refl refl refl _ refl refl (c .before .if3 .left) (c .if4 .left)
 

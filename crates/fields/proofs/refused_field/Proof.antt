@@ -8,91 +8,69 @@ use Rattle.fields.proofs.refused_field.Reads as reads
 use Rattle.fields.proofs.refused_field.Lts as lts
 use Rattle.fields.proofs.field_end.Reads as field-end-reads
 
--- src/lib.rt:69:17
 field-end-requires : tie.Need-field-end-requires
 field-end-requires c κs = search needs
 
--- src/lib.rt:70:20
 sub-result : tie.Need-sub-result
 sub-result c = search needs
 
--- src/lib.rt:70:20
 part-result-start : tie.Need-part-result-start
 part-result-start c = search needs
 
--- src/lib.rt:70:20
 part-result-end : tie.Need-part-result-end
 part-result-end c = search needs
 
--- src/lib.rt:70:13
 returns : tie.Need-returns
 returns c = (search refused-laws, lies-chart _ _ _ _ _ _ (c .before .before .before .if1 .taken) (c .before .before .if2 .taken))
 
--- src/lib.rt:72:16
 sub-result-2 : tie.Need-sub-result-2
 sub-result-2 c = search needs
 
--- src/lib.rt:72:16
 part-result-start-2 : tie.Need-part-result-start-2
 part-result-start-2 c = search needs
 
--- src/lib.rt:72:16
 part-result-end-2 : tie.Need-part-result-end-2
 part-result-end-2 c = search needs
 
--- src/lib.rt:72:9
 returns-2 : tie.Need-returns-2
 returns-2 c = (search refused-laws, lies-past-chart _ _ _ _ _ _ (c .before .before .if1 .taken) (c .before .if2 .left))
 
--- src/lib.rt:76:17
 field-end-requires-2 : tie.Need-field-end-requires-2
 field-end-requires-2 c κs = search needs
 
--- src/lib.rt:77:20
 sub-result-3 : tie.Need-sub-result-3
 sub-result-3 c = search needs
 
--- src/lib.rt:77:20
 part-result-start-3 : tie.Need-part-result-start-3
 part-result-start-3 c = search needs
 
--- src/lib.rt:77:20
 part-result-end-3 : tie.Need-part-result-end-3
 part-result-end-3 c = search needs
 
--- src/lib.rt:77:13
 returns-3 : tie.Need-returns-3
 returns-3 c = (search refused-laws, lies-rules _ _ _ _ _ _ (c .before .before .before .before .if1 .left) (c .before .before .before .if3 .taken) (c .before .before .if4 .taken))
 
--- src/lib.rt:79:16
 sub-result-4 : tie.Need-sub-result-4
 sub-result-4 c = search needs
 
--- src/lib.rt:79:16
 part-result-start-4 : tie.Need-part-result-start-4
 part-result-start-4 c = search needs
 
--- src/lib.rt:79:16
 part-result-end-4 : tie.Need-part-result-end-4
 part-result-end-4 c = search needs
 
--- src/lib.rt:79:9
 returns-4 : tie.Need-returns-4
 returns-4 c = (search refused-laws, lies-past-rules _ _ _ _ _ _ (c .before .before .before .if1 .left) (c .before .before .if3 .taken) (c .before .if4 .left))
 
--- src/lib.rt:81:5
 sub-result-5 : tie.Need-sub-result-5
 sub-result-5 c = search needs
 
--- src/lib.rt:81:5
 part-result-start-5 : tie.Need-part-result-start-5
 part-result-start-5 c = search needs
 
--- src/lib.rt:81:5
 part-result-end-5 : tie.Need-part-result-end-5
 part-result-end-5 c = search needs
 
--- src/lib.rt:64:1
 returns-5 : tie.Need-returns-5
 returns-5 c = (search refused-laws, lies-none _ _ _ _ _ _ (c .before .before .if1 .left) (c .before .if3 .left))
 

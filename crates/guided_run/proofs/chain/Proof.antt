@@ -17,51 +17,39 @@ Inv-loop chart₀ at₀ s₀ chart at s = (length chart ≡ length chart₀) × 
 abbrev μ-loop : tie.MeasureT-loop
 μ-loop chart₀ at₀ s₀ chart at s = 255 - s
 
--- src/main.rt:198:27
 slice-aggregate-put-head : tie.Need-slice-aggregate-put-head Inv-loop μ-loop
 slice-aggregate-put-head c = search needs
 
--- src/main.rt:198:9
 put-head-requires : tie.Need-put-head-requires Inv-loop μ-loop
 put-head-requires c κs = search needs
 
--- src/main.rt:200:5
 loop-holds : tie.Need-loop-holds Inv-loop μ-loop
 loop-holds c = search needs
 
--- src/main.rt:201:23
 slice-aggregate-put-step : tie.Need-slice-aggregate-put-step Inv-loop μ-loop
 slice-aggregate-put-step c = search needs
 
--- src/main.rt:201:42
 add-put-step : tie.Need-add-put-step Inv-loop μ-loop
 add-put-step c = search needs
 
--- src/main.rt:201:9
 put-step-requires : tie.Need-put-step-requires Inv-loop μ-loop
 put-step-requires c κs = search needs
 
--- src/main.rt:202:9
 add-s : tie.Need-add-s Inv-loop μ-loop
 add-s c = search needs
 
--- src/main.rt:200:5
 loop-less : tie.Need-loop-less Inv-loop μ-loop
 loop-less c = search needs
 
--- src/main.rt:200:5
 loop-again : tie.Need-loop-again Inv-loop μ-loop
 loop-again c = search needs
 
--- src/main.rt:204:17
 slice-aggregate-small-first : tie.Need-slice-aggregate-small-first Inv-loop μ-loop
 slice-aggregate-small-first c = search needs
 
--- src/main.rt:204:5
 small-first-requires : tie.Need-small-first-requires Inv-loop μ-loop
 small-first-requires c κs = search needs
 
--- src/main.rt:196:1
 returns : tie.Need-returns Inv-loop μ-loop
 returns c = search needs
 

@@ -17,47 +17,36 @@ Inv-loop cost chart₀ at₀ s₀ chart at s = (length chart ≡ length chart₀
 abbrev μ-loop : tie.MeasureT-loop
 μ-loop cost chart₀ at₀ s₀ chart at s = 39 - s
 
--- src/main.rt:200:27
 slice-aggregate-put-head : tie.Need-slice-aggregate-put-head Inv-loop μ-loop
 slice-aggregate-put-head c = search needs
 
--- src/main.rt:200:9
 put-head-requires : tie.Need-put-head-requires Inv-loop μ-loop
 put-head-requires c κs = search needs
 
--- src/main.rt:202:5
 loop-holds : tie.Need-loop-holds Inv-loop μ-loop
 loop-holds c = search needs
 
--- src/main.rt:203:24
 slice-aggregate-put-rungs : tie.Need-slice-aggregate-put-rungs Inv-loop μ-loop
 slice-aggregate-put-rungs c = search needs
 
--- src/main.rt:203:9
 put-rungs-requires : tie.Need-put-rungs-requires Inv-loop μ-loop
 put-rungs-requires c κs = search needs
 
--- src/main.rt:204:9
 add-s : tie.Need-add-s Inv-loop μ-loop
 add-s c = search needs
 
--- src/main.rt:202:5
 loop-less : tie.Need-loop-less Inv-loop μ-loop
 loop-less c = search needs
 
--- src/main.rt:202:5
 loop-again : tie.Need-loop-again Inv-loop μ-loop
 loop-again c = search needs
 
--- src/main.rt:206:17
 slice-aggregate-small-first : tie.Need-slice-aggregate-small-first Inv-loop μ-loop
 slice-aggregate-small-first c = search needs
 
--- src/main.rt:206:5
 small-first-requires : tie.Need-small-first-requires Inv-loop μ-loop
 small-first-requires c κs = search needs
 
--- src/main.rt:198:1
 returns : tie.Need-returns Inv-loop μ-loop
 returns c = search needs
 

@@ -17,67 +17,51 @@ Inv-loop file₀ a b c d at₀ n₀ file at n = (length file ≡ length file₀)
 abbrev μ-loop : tie.MeasureT-loop
 μ-loop file₀ a b c d at₀ n₀ file at n = 512 - n
 
--- src/main.rt:222:9
 put-requires : tie.Need-put-requires Inv-loop μ-loop
 put-requires c κs = search needs
 
--- src/main.rt:223:9
 put-two-requires : tie.Need-put-two-requires Inv-loop μ-loop
 put-two-requires c κs = search needs
 
--- src/main.rt:224:9
 put-two-requires-2 : tie.Need-put-two-requires-2 Inv-loop μ-loop
 put-two-requires-2 c κs = search needs
 
--- src/main.rt:225:9
 put-node-requires : tie.Need-put-node-requires Inv-loop μ-loop
 put-node-requires c κs = search needs
 
--- src/main.rt:226:9
 put-node-requires-2 : tie.Need-put-node-requires-2 Inv-loop μ-loop
 put-node-requires-2 c κs = search needs
 
--- src/main.rt:228:5
 loop-holds : tie.Need-loop-holds Inv-loop μ-loop
 loop-holds c = search needs
 
--- src/main.rt:229:40
 mul-put-node : tie.Need-mul-put-node Inv-loop μ-loop
 mul-put-node c = search needs
 
--- src/main.rt:229:33
 sub-put-node : tie.Need-sub-put-node Inv-loop μ-loop
 sub-put-node c = search needs
 
--- src/main.rt:229:47
 sub-put-node-2 : tie.Need-sub-put-node-2 Inv-loop μ-loop
 sub-put-node-2 c = search needs
 
--- src/main.rt:229:54
 sub-put-node-3 : tie.Need-sub-put-node-3 Inv-loop μ-loop
 sub-put-node-3 c = search needs
 
--- src/main.rt:229:9
 put-node-requires-3 : tie.Need-put-node-requires-3 Inv-loop μ-loop
 put-node-requires-3 c κs = search needs
 
--- src/main.rt:230:9
 add-n : tie.Need-add-n Inv-loop μ-loop
 add-n c = search needs
 
--- src/main.rt:228:5
 loop-less : tie.Need-loop-less Inv-loop μ-loop
 loop-less c = search needs
 
--- src/main.rt:228:5
 loop-again : tie.Need-loop-again Inv-loop μ-loop
 loop-again c = search needs
 
--- src/main.rt:221:1
 same-length : tie.Need-same-length Inv-loop μ-loop
 same-length c = search needs
 
--- src/main.rt:221:1
 returns : tie.Need-returns Inv-loop μ-loop
 returns c = search needs
 

@@ -14,43 +14,33 @@ Inv-loop log count i₀ i = i ≤ 12
 abbrev μ-loop : tie.MeasureT-loop
 μ-loop log count i₀ i = 12 - i
 
--- src/main.rt:90:22
 slice-aggregate-write-all : tie.Need-slice-aggregate-write-all Inv-loop μ-loop
 slice-aggregate-write-all c = search needs
 
--- src/main.rt:90:5
 write-all-requires : tie.Need-write-all-requires Inv-loop μ-loop
 write-all-requires c κs = search needs
 
--- src/main.rt:92:5
 loop-holds : tie.Need-loop-holds Inv-loop μ-loop
 loop-holds c = search needs
 
--- src/main.rt:95:27
 mul-show-pair : tie.Need-mul-show-pair Inv-loop μ-loop
 mul-show-pair c = search needs
 
--- src/main.rt:95:27
 shared-slice-read-show-pair : tie.Need-shared-slice-read-show-pair Inv-loop μ-loop
 shared-slice-read-show-pair c = search needs
 
--- src/main.rt:95:17
 show-pair-requires : tie.Need-show-pair-requires Inv-loop μ-loop
 show-pair-requires c κs = search needs
 
--- src/main.rt:98:9
 add-i : tie.Need-add-i Inv-loop μ-loop
 add-i c = search needs
 
--- src/main.rt:92:5
 loop-less : tie.Need-loop-less Inv-loop μ-loop
 loop-less c = search needs
 
--- src/main.rt:92:5
 loop-again : tie.Need-loop-again Inv-loop μ-loop
 loop-again c = search needs
 
--- src/main.rt:89:1
 returns : tie.Need-returns Inv-loop μ-loop
 returns c = search needs
 

@@ -14,43 +14,33 @@ Inv-loop plan count i₀ i = i ≤ 12
 abbrev μ-loop : tie.MeasureT-loop
 μ-loop plan count i₀ i = 12 - i
 
--- src/main.rt:103:22
 slice-aggregate-write-all : tie.Need-slice-aggregate-write-all Inv-loop μ-loop
 slice-aggregate-write-all c = search needs
 
--- src/main.rt:103:5
 write-all-requires : tie.Need-write-all-requires Inv-loop μ-loop
 write-all-requires c κs = search needs
 
--- src/main.rt:105:5
 loop-holds : tie.Need-loop-holds Inv-loop μ-loop
 loop-holds c = search needs
 
--- src/main.rt:108:27
 mul-show-step : tie.Need-mul-show-step Inv-loop μ-loop
 mul-show-step c = search needs
 
--- src/main.rt:108:27
 shared-slice-read-show-step : tie.Need-shared-slice-read-show-step Inv-loop μ-loop
 shared-slice-read-show-step c = search needs
 
--- src/main.rt:108:17
 show-step-requires : tie.Need-show-step-requires Inv-loop μ-loop
 show-step-requires c κs = search needs
 
--- src/main.rt:111:9
 add-i : tie.Need-add-i Inv-loop μ-loop
 add-i c = search needs
 
--- src/main.rt:105:5
 loop-less : tie.Need-loop-less Inv-loop μ-loop
 loop-less c = search needs
 
--- src/main.rt:105:5
 loop-again : tie.Need-loop-again Inv-loop μ-loop
 loop-again c = search needs
 
--- src/main.rt:102:1
 returns : tie.Need-returns Inv-loop μ-loop
 returns c = search needs
 

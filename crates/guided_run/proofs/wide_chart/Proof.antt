@@ -16,59 +16,45 @@ Inv-loop file₀ at₀ e₀ file at e = (length file ≡ length file₀) × (e �
 abbrev μ-loop : tie.MeasureT-loop
 μ-loop file₀ at₀ e₀ file at e = 1020 - e
 
--- src/main.rt:209:9
 put-head-requires : tie.Need-put-head-requires Inv-loop μ-loop
 put-head-requires c κs = search needs
 
--- src/main.rt:211:5
 loop-holds : tie.Need-loop-holds Inv-loop μ-loop
 loop-holds c = search needs
 
--- src/main.rt:214:33
 cast-put-step : tie.Need-cast-put-step Inv-loop μ-loop
 cast-put-step c = search needs
 
--- src/main.rt:214:43
 cast-put-step-2 : tie.Need-cast-put-step-2 Inv-loop μ-loop
 cast-put-step-2 c = search needs
 
--- src/main.rt:214:43
 add-put-step : tie.Need-add-put-step Inv-loop μ-loop
 add-put-step c = search needs
 
--- src/main.rt:214:58
 mul-put-step : tie.Need-mul-put-step Inv-loop μ-loop
 mul-put-step c = search needs
 
--- src/main.rt:214:66
 mul-put-step-2 : tie.Need-mul-put-step-2 Inv-loop μ-loop
 mul-put-step-2 c = search needs
 
--- src/main.rt:214:58
 add-put-step-2 : tie.Need-add-put-step-2 Inv-loop μ-loop
 add-put-step-2 c = search needs
 
--- src/main.rt:214:9
 put-step-requires : tie.Need-put-step-requires Inv-loop μ-loop
 put-step-requires c κs = search needs
 
--- src/main.rt:215:9
 add-e : tie.Need-add-e Inv-loop μ-loop
 add-e c = search needs
 
--- src/main.rt:211:5
 loop-less : tie.Need-loop-less Inv-loop μ-loop
 loop-less c = search needs
 
--- src/main.rt:211:5
 loop-again : tie.Need-loop-again Inv-loop μ-loop
 loop-again c = search needs
 
--- src/main.rt:208:1
 same-length : tie.Need-same-length Inv-loop μ-loop
 same-length c = search needs
 
--- src/main.rt:208:1
 returns : tie.Need-returns Inv-loop μ-loop
 returns c = search needs
 

@@ -13,35 +13,27 @@ Inv-loop n₀ n = Unit {0}
 abbrev μ-loop : tie.MeasureT-loop
 μ-loop n₀ n = 255 - n
 
--- src/main.rt:22:5
 loop-holds : tie.Need-loop-holds Inv-loop μ-loop
 loop-holds c = search needs
 
--- src/main.rt:23:18
 add-run-case : tie.Need-add-run-case Inv-loop μ-loop
 add-run-case c = search needs
 
--- src/main.rt:23:33
 add-run-case-2 : tie.Need-add-run-case-2 Inv-loop μ-loop
 add-run-case-2 c = search needs
 
--- src/main.rt:23:9
 run-case-requires : tie.Need-run-case-requires Inv-loop μ-loop
 run-case-requires c κs = search needs
 
--- src/main.rt:22:9
 add-n : tie.Need-add-n Inv-loop μ-loop
 add-n c = search needs
 
--- src/main.rt:22:5
 loop-less : tie.Need-loop-less Inv-loop μ-loop
 loop-less c = search needs
 
--- src/main.rt:22:5
 loop-again : tie.Need-loop-again Inv-loop μ-loop
 loop-again c = search needs
 
--- src/main.rt:21:1
 returns : tie.Need-returns Inv-loop μ-loop
 returns c = search needs
 

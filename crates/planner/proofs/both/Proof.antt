@@ -8,59 +8,45 @@ use Rattle.planner.proofs.both.Lts as lts
 use Rattle.guided.proofs.guided.Reads as guided-reads
 use Rattle.sweep.proofs.sweep.Reads as sweep-reads
 
--- src/lib.rt:36:9
 sweep-requires : tie.Need-sweep-requires
 sweep-requires c κs = search needs
 
--- src/lib.rt:37:9
 guided-requires : tie.Need-guided-requires
 guided-requires c κs = search needs
 
--- src/lib.rt:17:1
 same-length : tie.Need-same-length
 same-length c = search needs
 
--- src/lib.rt:17:1
 same-length-2 : tie.Need-same-length-2
 same-length-2 c = search needs
 
--- src/lib.rt:17:1
 same-length-3 : tie.Need-same-length-3
 same-length-3 c = search needs
 
--- src/lib.rt:17:1
 same-length-4 : tie.Need-same-length-4
 same-length-4 c = search needs
 
--- src/lib.rt:17:1
 same-length-5 : tie.Need-same-length-5
 same-length-5 c = search needs
 
--- src/lib.rt:17:1
 same-length-6 : tie.Need-same-length-6
 same-length-6 c = search needs
 
--- src/lib.rt:17:1
 same-length-7 : tie.Need-same-length-7
 same-length-7 c = search needs
 
--- src/lib.rt:17:1
 same-length-8 : tie.Need-same-length-8
 same-length-8 c = search needs
 
--- src/lib.rt:17:1
 same-length-9 : tie.Need-same-length-9
 same-length-9 c = search needs
 
--- src/lib.rt:17:1
 same-length-10 : tie.Need-same-length-10
 same-length-10 c = search needs
 
--- src/lib.rt:17:1
 same-length-11 : tie.Need-same-length-11
 same-length-11 c = search needs
 
--- src/lib.rt:17:1
 returns : tie.Need-returns
 returns c = (record { answers = c .before .before .before .before .before .before .before .before .before .before .before .before .before .before .before .before .before .before .before .before .before .before .before .before .before .before .before .before .before .before .sweep .ensures .0; via-kept = c .before .before .before .before .before .before .before .before .before .before .before .before .before .before .before .before .before .before .before .before .before .before .before .before .before .before .before .before .before .before .sweep .ensures .1 .0; nodes-kept = c .before .before .before .before .before .before .before .before .before .before .before .before .before .before .before .before .before .before .before .before .before .before .before .before .before .before .before .before .before .before .sweep .ensures .1 .1 }, (record { answers = c .before .before .before .before .before .before .before .before .before .before .before .before .before .before .guided .ensures .0; keys-kept = c .before .before .before .before .before .before .before .before .before .before .before .before .before .before .guided .ensures .1 .0; via-kept = c .before .before .before .before .before .before .before .before .before .before .before .before .before .before .guided .ensures .1 .1 .0; heap-kept = c .before .before .before .before .before .before .before .before .before .before .before .before .before .before .guided .ensures .1 .1 .1 .0; pos-kept = c .before .before .before .before .before .before .before .before .before .before .before .before .before .before .guided .ensures .1 .1 .1 .1 .0; stack-kept = c .before .before .before .before .before .before .before .before .before .before .before .before .before .before .guided .ensures .1 .1 .1 .1 .1 }, both-agree _ _ _ _ _ _ _ _ _ _ _ _ _ _ _ _ (c .before .before .before .before .before .before .before .before .before .before .before .before .before .before .before .before .before .before .before .before .before .before .before .before .before .before .before .before .before .before .sweep .ensures .0) (c .before .before .before .before .before .before .before .before .before .before .before .before .before .before .guided .ensures .0)))
 

@@ -8,43 +8,33 @@ use Rattle.planner_c.proofs.planner_guided.Lts as lts
 use Rattle.guided.proofs.guided.Reads as guided-reads
 use Rattle.planner_c.proofs.store.Reads as store-reads
 
--- src/lib.rt:87:9
 guided-requires : tie.Need-guided-requires
 guided-requires c κs = search needs
 
--- src/lib.rt:88:5
 store-requires : tie.Need-store-requires
 store-requires c κs = search needs
 
--- src/lib.rt:72:1
 same-length : tie.Need-same-length
 same-length c = search needs
 
--- src/lib.rt:72:1
 same-length-2 : tie.Need-same-length-2
 same-length-2 c = search needs
 
--- src/lib.rt:72:1
 same-length-3 : tie.Need-same-length-3
 same-length-3 c = search needs
 
--- src/lib.rt:72:1
 same-length-4 : tie.Need-same-length-4
 same-length-4 c = search needs
 
--- src/lib.rt:72:1
 same-length-5 : tie.Need-same-length-5
 same-length-5 c = search needs
 
--- src/lib.rt:72:1
 same-length-6 : tie.Need-same-length-6
 same-length-6 c = search needs
 
--- src/lib.rt:72:1
 same-length-7 : tie.Need-same-length-7
 same-length-7 c = search needs
 
--- src/lib.rt:72:1
 returns : tie.Need-returns
 returns c = record { answer = c .before .before .before .before .before .before .before .before .before .before .before .before .before .before .before .before .guided .result; kept = record { answers = c .before .before .before .before .before .before .before .before .before .before .before .before .before .before .before .before .guided .ensures .0; keys-kept = c .before .before .before .before .before .before .before .before .before .before .before .before .before .before .before .before .guided .ensures .1 .0; via-kept = c .before .before .before .before .before .before .before .before .before .before .before .before .before .before .before .before .guided .ensures .1 .1 .0; heap-kept = c .before .before .before .before .before .before .before .before .before .before .before .before .before .before .before .before .guided .ensures .1 .1 .1 .0; pos-kept = c .before .before .before .before .before .before .before .before .before .before .before .before .before .before .before .before .guided .ensures .1 .1 .1 .1 .0; stack-kept = c .before .before .before .before .before .before .before .before .before .before .before .before .before .before .before .before .guided .ensures .1 .1 .1 .1 .1 }; held = c .store .ensures; returned = refl }
 

@@ -10,19 +10,15 @@ use Rattle.planner_c.proofs.planner_refused_field.Lts as lts
 use Rattle.fields.proofs.refused_field.Reads as refused-field-reads
 use Rattle.report.proofs.copy.Reads as copy-reads
 
--- src/lib.rt:148:9
 refused-field-requires : tie.Need-refused-field-requires
 refused-field-requires c κs = search needs
 
--- src/lib.rt:149:5
 copy-requires : tie.Need-copy-requires
 copy-requires c κs = search needs
 
--- src/lib.rt:137:1
 same-length : tie.Need-same-length
 same-length c = search needs
 
--- src/lib.rt:137:1
 returns : tie.Need-returns
 returns c = (ap length (c .before .before .before .before .refused-field .ensures .0), copied _ _ _ _ _ (c .before .before .before .before .refused-field .ensures .0) (c .before .before .copy .ensures))
 

@@ -10,15 +10,12 @@ use Rattle.planner_c.proofs.planner_space_needed.Lts as lts
 use Rattle.planner.proofs.space_needed.Reads as space-needed-reads
 use Rattle.planner_c.proofs.store_space.Reads as store-space-reads
 
--- src/lib.rt:48:9
 space-needed-requires : tie.Need-space-needed-requires
 space-needed-requires c κs = search needs
 
--- src/lib.rt:49:5
 store-space-requires : tie.Need-store-space-requires
 store-space-requires c κs = search needs
 
--- src/lib.rt:43:1
 returns : tie.Need-returns
 returns c = (ap (λ (s : Space). s .number) (c .before .before .space-needed .ensures), (c .store-space .ensures ∙ ap spaceNumbers (c .before .before .space-needed .ensures)))
 

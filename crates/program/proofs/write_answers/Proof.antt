@@ -8,15 +8,12 @@ use Rattle.program.proofs.write_answers.Reads as reads
 use Rattle.program.proofs.write_answers.Lts as lts
 use Rattle.report.proofs.write_report.Reads as write-report-reads
 
--- src/lib.rt:15:5
 write-report-requires : tie.Need-write-report-requires
 write-report-requires c κs = search needs
 
--- src/lib.rt:11:1
 same-length : tie.Need-same-length
 same-length c = search needs
 
--- src/lib.rt:11:1
 returns : tie.Need-returns
 returns c = (
   c .before .before .write-report .ensures,

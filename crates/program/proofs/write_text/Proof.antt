@@ -8,67 +8,51 @@ use Rattle.program.proofs.write_text.Lts as lts
 use Rattle.planner.proofs.both.Reads as both-reads
 use Rattle.program.proofs.write_answers.Reads as write-answers-reads
 
--- src/lib.rt:37:9
 slice-aggregate-both : tie.Need-slice-aggregate-both
 slice-aggregate-both c = search needs
 
--- src/lib.rt:38:9
 slice-aggregate-both-2 : tie.Need-slice-aggregate-both-2
 slice-aggregate-both-2 c = search needs
 
--- src/lib.rt:39:9
 slice-aggregate-both-3 : tie.Need-slice-aggregate-both-3
 slice-aggregate-both-3 c = search needs
 
--- src/lib.rt:40:9
 slice-aggregate-both-4 : tie.Need-slice-aggregate-both-4
 slice-aggregate-both-4 c = search needs
 
--- src/lib.rt:41:9
 slice-aggregate-both-5 : tie.Need-slice-aggregate-both-5
 slice-aggregate-both-5 c = search needs
 
--- src/lib.rt:42:9
 slice-aggregate-both-6 : tie.Need-slice-aggregate-both-6
 slice-aggregate-both-6 c = search needs
 
--- src/lib.rt:43:9
 slice-aggregate-both-7 : tie.Need-slice-aggregate-both-7
 slice-aggregate-both-7 c = search needs
 
--- src/lib.rt:44:9
 slice-aggregate-both-8 : tie.Need-slice-aggregate-both-8
 slice-aggregate-both-8 c = search needs
 
--- src/lib.rt:45:9
 slice-aggregate-both-9 : tie.Need-slice-aggregate-both-9
 slice-aggregate-both-9 c = search needs
 
--- src/lib.rt:46:9
 slice-aggregate-both-10 : tie.Need-slice-aggregate-both-10
 slice-aggregate-both-10 c = search needs
 
--- src/lib.rt:47:9
 slice-aggregate-both-11 : tie.Need-slice-aggregate-both-11
 slice-aggregate-both-11 c = search needs
 
--- src/lib.rt:34:9
 both-requires : tie.Need-both-requires
 both-requires c κs = search needs
 
--- src/lib.rt:49:25
 slice-aggregate-write-answers : tie.Need-slice-aggregate-write-answers
 slice-aggregate-write-answers c = search needs
 
--- src/lib.rt:49:5
 write-answers-requires : tie.Need-write-answers-requires
 write-answers-requires c κs = search needs
 
--- src/lib.rt:20:1
 same-length : tie.Need-same-length
 same-length c = search needs
 
--- src/lib.rt:20:1
 returns : tie.Need-returns
 returns c = let b = c .before .before .before .before .before .before .before .before .before .before .before .before .before .before .before .before .both in
     let w = c .before .before .write-answers in

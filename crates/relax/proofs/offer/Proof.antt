@@ -10,119 +10,90 @@ use Rattle.relax.proofs.offer.Reads as reads
 use Rattle.relax.proofs.offer.Lts as lts
 use Rattle.convert.proofs.wide.Reads as wide-reads
 
--- src/lib.rt:37:13
 add-q : tie.Need-add-q
 add-q c = search needs
 
--- src/lib.rt:38:15
 mul-old : tie.Need-mul-old
 mul-old c = search needs
 
--- src/lib.rt:38:15
 slice-read-old : tie.Need-slice-read-old
 slice-read-old c = search needs
 
--- src/lib.rt:40:9
 returns : tie.Need-returns
 returns c = offer-kept _ _ _ _ _ _ _ _ _ (c .if1 .taken)
 
--- src/lib.rt:43:17
 mul-k : tie.Need-mul-k
 mul-k c = search needs
 
--- src/lib.rt:43:17
 element-copy-out-k : tie.Need-element-copy-out-k
 element-copy-out-k c = search needs
 
--- src/lib.rt:44:33
 cast-nodes : tie.Need-cast-nodes
 cast-nodes c = search needs
 
--- src/lib.rt:44:22
 wide-requires : tie.Need-wide-requires
 wide-requires c κs = search needs
 
--- src/lib.rt:44:15
 add-nodes : tie.Need-add-nodes
 add-nodes c = search needs
 
--- src/lib.rt:44:9
 mul-nodes : tie.Need-mul-nodes
 mul-nodes c = search needs
 
--- src/lib.rt:44:9
 slice-write-nodes : tie.Need-slice-write-nodes
 slice-write-nodes c = omega (arith, c .before .before .before .before .before .before .before .before .pre .list-fits (c .before .before .if2 .taken), c .wide .ensures)
 
--- src/lib.rt:45:21
 add-counts : tie.Need-add-counts
 add-counts c = omega (arith, c .before .before .before .before .before .before .before .before .pre .count-small (c .before .before .if2 .taken))
 
--- src/lib.rt:45:9
 mul-counts : tie.Need-mul-counts
 mul-counts c = search needs
 
--- src/lib.rt:45:9
 element-write-counts : tie.Need-element-write-counts
 element-write-counts c = search needs
 
--- src/lib.rt:46:9
 mul-costs : tie.Need-mul-costs
 mul-costs c = search needs
 
--- src/lib.rt:46:9
 slice-write-costs : tie.Need-slice-write-costs
 slice-write-costs c = search needs
 
--- src/lib.rt:47:9
 mul-via : tie.Need-mul-via
 mul-via c = search needs
 
--- src/lib.rt:47:9
 slice-write-via : tie.Need-slice-write-via
 slice-write-via c = search needs
 
--- src/lib.rt:48:9
 same-length : tie.Need-same-length
 same-length c = search needs
 
--- src/lib.rt:48:9
 same-length-2 : tie.Need-same-length-2
 same-length-2 c = search needs
 
--- src/lib.rt:48:9
 same-length-3 : tie.Need-same-length-3
 same-length-3 c = search needs
 
--- src/lib.rt:48:9
 returns-2 : tie.Need-returns-2
 returns-2 c = offer-new _ _ _ _ _ _ _ _ _ (c .before .before .before .if1 .left) (c .before .before .if2 .taken) _ _ refl (ap (λ k. c .before .before .before .before .before .before .before .before .args .base + k) (c .wide .ensures .0))
 
--- src/lib.rt:50:5
 mul-costs-2 : tie.Need-mul-costs-2
 mul-costs-2 c = search needs
 
--- src/lib.rt:50:5
 slice-write-costs-2 : tie.Need-slice-write-costs-2
 slice-write-costs-2 c = search needs
 
--- src/lib.rt:51:5
 mul-via-2 : tie.Need-mul-via-2
 mul-via-2 c = search needs
 
--- src/lib.rt:51:5
 slice-write-via-2 : tie.Need-slice-write-via-2
 slice-write-via-2 c = search needs
 
--- src/lib.rt:23:1
 same-length-4 : tie.Need-same-length-4
 same-length-4 c = search needs
 
--- src/lib.rt:23:1
 same-length-5 : tie.Need-same-length-5
 same-length-5 c = search needs
 
--- src/lib.rt:23:1
 returns-3 : tie.Need-returns-3
 returns-3 c = offer-lower _ _ _ _ _ _ _ _ _ (c .before .if1 .left) (c .if2 .left)
 

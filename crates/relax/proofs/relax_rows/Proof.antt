@@ -23,39 +23,30 @@ abbrev μ-loop : tie.MeasureT-loop
 μ-loop costs₀ via₀ nodes₀ counts₀ z from to cost first row step lo hi stages s₀ costs via nodes counts s =
     stages - s
 
--- src/lib.rt:182:5
 loop-holds : tie.Need-loop-holds Inv-loop μ-loop
 loop-holds c = (sweep-begins _ _ _ _ _ _ _ _ _ _ _ _ (c .before .before .before .pre), refl, refl, refl)
 
--- src/lib.rt:183:9
 relax-row-requires : tie.Need-relax-row-requires Inv-loop μ-loop
 relax-row-requires c κs = (c .before .before .before .before .before .loop .inv .0 .stands, c .before .before .before .before .loop-test .taken)
 
--- src/lib.rt:184:9
 add-s : tie.Need-add-s Inv-loop μ-loop
 add-s c = omega (arith, small-stage _ _ _ _ _ _ _ _ _ (c .before .before .before .before .before .before .before .before .before .before .before .before .loop .inv .0 .stands .ready) _ (c .before .before .before .before .before .before .before .before .before .before .before .loop-test .taken))
 
--- src/lib.rt:182:5
 loop-less : tie.Need-loop-less Inv-loop μ-loop
 loop-less c = search needs
 
--- src/lib.rt:182:5
 loop-again : tie.Need-loop-again Inv-loop μ-loop
 loop-again c = (sweep-more _ _ _ _ _ _ _ _ _ _ _ _ _ _ _ (c .before .before .before .before .before .before .before .before .before .before .before .before .loop .inv .0) refl (c .before .before .before .before .before .before .before .before .before .before .before .loop-test .taken) (c .before .before .before .before .before .before .relax-row .ensures), omega (arith, c .before .before .before .before .before .before .before .before .before .before .before .before .loop .inv .1, c .before .before .before .before .before .before .relax-row .kept .0), omega (arith, c .before .before .before .before .before .before .before .before .before .before .before .before .loop .inv .2, c .before .before .before .before .before .before .relax-row .kept .1 .0), omega (arith, c .before .before .before .before .before .before .before .before .before .before .before .before .loop .inv .3, c .before .before .before .before .before .before .relax-row .kept .1 .1 .0))
 
--- src/lib.rt:162:1
 same-length : tie.Need-same-length Inv-loop μ-loop
 same-length c = omega (arith, c .before .loop .inv .1)
 
--- src/lib.rt:162:1
 same-length-2 : tie.Need-same-length-2 Inv-loop μ-loop
 same-length-2 c = omega (arith, c .before .loop .inv .2)
 
--- src/lib.rt:162:1
 same-length-3 : tie.Need-same-length-3 Inv-loop μ-loop
 same-length-3 c = omega (arith, c .before .loop .inv .3)
 
--- src/lib.rt:162:1
 returns : tie.Need-returns Inv-loop μ-loop
 returns c = sweep-done _ _ _ _ _ _ _ _ _ _ _ _ _ _ (c .before .loop .inv .0) (c .loop-test .left)
 

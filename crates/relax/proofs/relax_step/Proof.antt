@@ -11,83 +11,63 @@ use Rattle.relax.proofs.relax_step.Lts as lts
 use Rattle.convert.proofs.wide.Reads as wide-reads
 use Rattle.relax.proofs.offer.Reads as offer-reads
 
--- src/lib.rt:69:9
 returns : tie.Need-returns
 returns c = stepped-none _ _ _ _ _ _ _ _ (c .if1 .taken)
 
--- src/lib.rt:71:13
 mul-s : tie.Need-mul-s
 mul-s c = search needs
 
--- src/lib.rt:71:13
 element-copy-out-s : tie.Need-element-copy-out-s
 element-copy-out-s c = search needs
 
--- src/lib.rt:71:13
 cast-s : tie.Need-cast-s
 cast-s c = search needs
 
--- src/lib.rt:72:21
 mul-wide : tie.Need-mul-wide
 mul-wide c = search needs
 
--- src/lib.rt:72:21
 element-copy-out-wide : tie.Need-element-copy-out-wide
 element-copy-out-wide c = search needs
 
--- src/lib.rt:72:9
 wide-requires : tie.Need-wide-requires
 wide-requires c κs = search needs
 
--- src/lib.rt:73:16
 cast-mark : tie.Need-cast-mark
 cast-mark c = search needs
 
--- src/lib.rt:73:16
 mul-mark : tie.Need-mul-mark
 mul-mark c = search needs
 
--- src/lib.rt:73:33
 cast-mark-2 : tie.Need-cast-mark-2
 cast-mark-2 c = search needs
 
--- src/lib.rt:73:16
 add-mark : tie.Need-add-mark
 add-mark c = search needs
 
--- src/lib.rt:81:9
 cast-offer : tie.Need-cast-offer
 cast-offer c = search needs
 
--- src/lib.rt:82:13
 mul-offer : tie.Need-mul-offer
 mul-offer c = search needs
 
--- src/lib.rt:82:13
 element-copy-out-offer : tie.Need-element-copy-out-offer
 element-copy-out-offer c = search needs
 
--- src/lib.rt:82:9
 add-offer : tie.Need-add-offer
 add-offer c = search needs
 
--- src/lib.rt:74:5
 offer-requires : tie.Need-offer-requires
 offer-requires c κs = offers _ _ _ _ _ _ _ _ _ _ _ (c .before .before .before .before .before .before .before .before .before .before .before .before .before .before .before .pre) (c .before .before .before .before .before .before .before .before .before .before .if1 .left) _ (c .before .before .before .before .before .before .before .wide .ensures .0)
 
--- src/lib.rt:52:1
 same-length : tie.Need-same-length
 same-length c = search needs
 
--- src/lib.rt:52:1
 same-length-2 : tie.Need-same-length-2
 same-length-2 c = search needs
 
--- src/lib.rt:52:1
 same-length-3 : tie.Need-same-length-3
 same-length-3 c = search needs
 
--- src/lib.rt:52:1
 returns-2 : tie.Need-returns-2
 returns-2 c = stepped-offer _ _ _ _ _ _ _ _ _ _ (c .before .before .before .before .before .before .before .before .before .before .before .before .before .before .before .before .before .if1 .left) (c .before .before .before .before .before .before .before .before .before .before .before .before .before .before .wide .ensures .0) (c .before .before .before .before .before .before .offer .ensures)
 

@@ -8,19 +8,15 @@ use Rattle.report.proofs.write_item.Lts as lts
 use Rattle.report.proofs.copy.Reads as copy-reads
 use Rattle.report.proofs.write_number.Reads as write-number-reads
 
--- src/lib.rt:52:9
 copy-requires : tie.Need-copy-requires
 copy-requires c κs = search needs
 
--- src/lib.rt:53:5
 write-number-requires : tie.Need-write-number-requires
 write-number-requires c κs = search needs
 
--- src/lib.rt:48:1
 same-length : tie.Need-same-length
 same-length c = search needs
 
--- src/lib.rt:48:1
 returns : tie.Need-returns
 returns c = search item-written
 

@@ -8,23 +8,18 @@ use Rattle.report.proofs.write_last_item.Lts as lts
 use Rattle.report.proofs.copy.Reads as copy-reads
 use Rattle.report.proofs.write_item.Reads as write-item-reads
 
--- src/lib.rt:61:9
 write-item-requires : tie.Need-write-item-requires
 write-item-requires c κs = search needs
 
--- src/lib.rt:62:20
 slice-aggregate-copy : tie.Need-slice-aggregate-copy
 slice-aggregate-copy c = search needs
 
--- src/lib.rt:62:5
 copy-requires : tie.Need-copy-requires
 copy-requires c κs = search needs
 
--- src/lib.rt:57:1
 same-length : tie.Need-same-length
 same-length c = search needs
 
--- src/lib.rt:57:1
 returns : tie.Need-returns
 returns c = search last-item-written
 

@@ -9,39 +9,30 @@ use Rattle.report.proofs.write_item.Reads as write-item-reads
 use Rattle.report.proofs.write_last_item.Reads as write-last-item-reads
 use Rattle.report.proofs.write_steps.Reads as write-steps-reads
 
--- src/lib.rt:92:41
 slice-aggregate-write-last-item : tie.Need-slice-aggregate-write-last-item
 slice-aggregate-write-last-item c = search needs
 
--- src/lib.rt:92:9
 write-last-item-requires : tie.Need-write-last-item-requires
 write-last-item-requires c κs = search needs
 
--- src/lib.rt:93:9
 write-steps-requires : tie.Need-write-steps-requires
 write-steps-requires c κs = search needs
 
--- src/lib.rt:94:41
 slice-aggregate-write-item : tie.Need-slice-aggregate-write-item
 slice-aggregate-write-item c = search needs
 
--- src/lib.rt:94:9
 write-item-requires : tie.Need-write-item-requires
 write-item-requires c κs = search needs
 
--- src/lib.rt:95:34
 slice-aggregate-write-last-item-2 : tie.Need-slice-aggregate-write-last-item-2
 slice-aggregate-write-last-item-2 c = search needs
 
--- src/lib.rt:95:5
 write-last-item-requires-2 : tie.Need-write-last-item-requires-2
 write-last-item-requires-2 c κs = search needs
 
--- src/lib.rt:89:1
 same-length : tie.Need-same-length
 same-length c = search needs
 
--- src/lib.rt:89:1
 returns : tie.Need-returns
 returns c = search plan-written
 

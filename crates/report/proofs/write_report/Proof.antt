@@ -8,27 +8,21 @@ use Rattle.report.proofs.write_report.Lts as lts
 use Rattle.report.proofs.write_plan.Reads as write-plan-reads
 use Rattle.report.proofs.write_refused.Reads as write-refused-reads
 
--- src/lib.rt:112:9
 write-plan-requires : tie.Need-write-plan-requires
 write-plan-requires c κs = search needs
 
--- src/lib.rt:112:9
 same-length : tie.Need-same-length
 same-length c = search needs
 
--- src/lib.rt:112:9
 returns : tie.Need-returns
 returns c = search (report-plan, report-refused)
 
--- src/lib.rt:114:5
 write-refused-requires : tie.Need-write-refused-requires
 write-refused-requires c κs = search needs
 
--- src/lib.rt:108:1
 same-length-2 : tie.Need-same-length-2
 same-length-2 c = search needs
 
--- src/lib.rt:108:1
 returns-2 : tie.Need-returns-2
 returns-2 c = search (report-plan, report-refused)
 

@@ -15,46 +15,36 @@ Inv-loop out₀ at plan count steps end₀ i₀ out end i = (i ≤ steps) × Ste
 abbrev μ-loop : tie.MeasureT-loop
 μ-loop out₀ at plan count steps end₀ i₀ out end i = steps - i
 
--- src/lib.rt:78:9
 lesser-requires : tie.Need-lesser-requires Inv-loop μ-loop
 lesser-requires c κs = search needs
 
--- src/lib.rt:81:5
 loop-holds : tie.Need-loop-holds Inv-loop μ-loop
 loop-holds c = (search needs, search steps-none)
 
--- src/lib.rt:82:36
 mul-write-step : tie.Need-mul-write-step Inv-loop μ-loop
 mul-write-step c = search needs
 
--- src/lib.rt:82:36
 shared-slice-read-write-step : tie.Need-shared-slice-read-write-step Inv-loop μ-loop
 shared-slice-read-write-step c = search needs
 
--- src/lib.rt:82:9
 write-step-requires : tie.Need-write-step-requires Inv-loop μ-loop
 write-step-requires c κs = search needs
 
--- src/lib.rt:83:9
 add-i : tie.Need-add-i Inv-loop μ-loop
 add-i c = search needs
 
--- src/lib.rt:81:5
 loop-less : tie.Need-loop-less Inv-loop μ-loop
 loop-less c = search needs
 
--- src/lib.rt:81:5
 loop-again : tie.Need-loop-again Inv-loop μ-loop
 loop-again c =
     let w = c .before .before in
     let head = w .before .before .before .before in
     (search needs, steps-more (head .before .before .before .before .pre) (head .loop .inv .1) (search needs) (w .write-step .ensures))
 
--- src/lib.rt:74:1
 same-length : tie.Need-same-length Inv-loop μ-loop
 same-length c = search needs
 
--- src/lib.rt:74:1
 returns : tie.Need-returns Inv-loop μ-loop
 returns c = search steps-written
 

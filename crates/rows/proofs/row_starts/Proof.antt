@@ -14,39 +14,30 @@ Inv-loop stages width row₀ step at₀ s₀ row at s = (s ≤ stages) × Filled
 abbrev μ-loop : tie.MeasureT-loop
 μ-loop stages width row₀ step at₀ s₀ row at s = stages - s
 
--- src/lib.rt:12:16
 cast-step : tie.Need-cast-step Inv-loop μ-loop
 cast-step c = search needs
 
--- src/lib.rt:15:5
 loop-holds : tie.Need-loop-holds Inv-loop μ-loop
 loop-holds c = (search needs, filled-none _ _)
 
--- src/lib.rt:16:9
 mul-row : tie.Need-mul-row Inv-loop μ-loop
 mul-row c = search needs
 
--- src/lib.rt:16:9
 array-write-row : tie.Need-array-write-row Inv-loop μ-loop
 array-write-row c = search needs
 
--- src/lib.rt:17:9
 add-at : tie.Need-add-at Inv-loop μ-loop
 add-at c = search needs
 
--- src/lib.rt:18:9
 add-s : tie.Need-add-s Inv-loop μ-loop
 add-s c = search needs
 
--- src/lib.rt:15:5
 loop-less : tie.Need-loop-less Inv-loop μ-loop
 loop-less c = search needs
 
--- src/lib.rt:15:5
 loop-again : tie.Need-loop-again Inv-loop μ-loop
 loop-again c = (search needs, filled-more _ _ _ _ _ (search needs) (search needs) (c .before .loop .inv .1))
 
--- src/lib.rt:7:1
 returns : tie.Need-returns Inv-loop μ-loop
 returns c = filled-all _ _ _ _ _ (search needs) (search needs) (c .before .loop .inv .1)
 

@@ -19,39 +19,30 @@ Inv-loop via from row width stages first s₀ n₀ count₀ s n count = (after :
 abbrev μ-loop : tie.MeasureT-loop
 μ-loop via from row width stages first s₀ n₀ count₀ s n count = s
 
--- src/lib.rt:60:5
 loop-holds : tie.Need-loop-holds Inv-loop μ-loop
 loop-holds c = ([], follow-start _ _ _ _ _ _ _ _ (c .before .pre), refl, omega arith)
 
--- src/lib.rt:61:13
 pair-at-requires : tie.Need-pair-at-requires Inv-loop μ-loop
 pair-at-requires c κs = follow-stage _ _ _ _ _ _ _ _ (c .before .before .before .pre) _ _ _ (c .before .loop .inv .1)
 
--- src/lib.rt:62:32
 mul-unpacked : tie.Need-mul-unpacked Inv-loop μ-loop
 mul-unpacked c = omega (arith, follow-fits _ _ _ _ _ _ _ _ (c .before .before .before .before .pre) _ _ _ (c .before .before .loop .inv .1) _ (c .pair-at .ensures))
 
--- src/lib.rt:62:32
 shared-slice-read-unpacked : tie.Need-shared-slice-read-unpacked Inv-loop μ-loop
 shared-slice-read-unpacked c = follow-fits _ _ _ _ _ _ _ _ (c .before .before .before .before .before .pre) _ _ _ (c .before .before .before .loop .inv .1) _ (c .before .pair-at .ensures)
 
--- src/lib.rt:62:13
 unpacked-requires : tie.Need-unpacked-requires Inv-loop μ-loop
 unpacked-requires c κs = follow-packed _ _ _ _ _ _ _ _ (c .before .before .before .before .before .pre) _ _ _ (c .before .before .before .loop .inv .1) (c .before .before .loop-test .taken) _ _ (c .before .pair-at .ensures) refl
 
--- src/lib.rt:65:9
 add-count : tie.Need-add-count Inv-loop μ-loop
 add-count c = search needs
 
--- src/lib.rt:60:5
 loop-less : tie.Need-loop-less Inv-loop μ-loop
 loop-less c = follow-less _ _ _ _ _ _ _ _ (c .before .before .before .before .before .before .pre) _ _ _ (c .before .before .before .before .loop .inv .1) (c .before .before .before .loop-test .taken) _ _ (c .before .before .pair-at .ensures) refl _ _ _ (c .unpacked .ensures .0) (c .unpacked .ensures .1) (c .unpacked .ensures .2)
 
--- src/lib.rt:60:5
 loop-again : tie.Need-loop-again Inv-loop μ-loop
 loop-again c = (c .unpacked .result .step .0 ∷ c .before .before .before .before .loop .inv .0, follow-more _ _ _ _ _ _ _ _ (c .before .before .before .before .before .before .pre) _ _ _ (c .before .before .before .before .loop .inv .1) (c .before .before .before .loop-test .taken) _ _ (c .before .before .pair-at .ensures) refl _ _ _ (c .unpacked .ensures .0) (c .unpacked .ensures .1) (c .unpacked .ensures .2), omega (arith, c .before .before .before .before .loop .inv .2), omega (arith, c .before .before .before .before .loop .inv .3, follow-less _ _ _ _ _ _ _ _ (c .before .before .before .before .before .before .pre) _ _ _ (c .before .before .before .before .loop .inv .1) (c .before .before .before .loop-test .taken) _ _ (c .before .before .pair-at .ensures) refl _ _ _ (c .unpacked .ensures .0) (c .unpacked .ensures .1) (c .unpacked .ensures .2)))
 
--- src/lib.rt:43:1
 returns : tie.Need-returns Inv-loop μ-loop
 returns c = λ w y. sym (c .before .loop .inv .2) ∙ ap length (sym (follow-done _ _ _ _ _ _ _ _ (c .before .before .before .pre) _ _ _ (c .before .loop .inv .1) (c .loop-test .left) w y))
 

@@ -6,19 +6,15 @@ use Rattle.astar.proofs.places.is_goal.Tie as tie
 use Rattle.astar.proofs.places.is_goal.Reads as reads
 use Rattle.astar.proofs.places.is_goal.Lts as lts
 
--- src/places.rt:55:20
 cast-result : tie.Need-cast-result
 cast-result c = search needs
 
--- src/places.rt:55:16
 element-copy-out-result : tie.Need-element-copy-out-result
 element-copy-out-result c = search needs
 
--- src/places.rt:55:9
 returns : tie.Need-returns
 returns c = goal-there _ _ _ (c .before .before .if1 .taken)
 
--- src/places.rt:50:1
 returns-2 : tie.Need-returns-2
 returns-2 c = goal-elsewhere _ _ _ (c .if1 .left)
 

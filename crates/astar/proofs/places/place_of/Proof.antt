@@ -10,39 +10,30 @@ use Rattle.astar.proofs.places.place_of.Lts as lts
 use Rattle.astar.proofs.places.place_in.Reads as place-in-reads
 use Rattle.convert.proofs.wide.Reads as wide-reads
 
--- src/places.rt:43:9
 place-in-requires : tie.Need-place-in-requires
 place-in-requires c κs = placed-begin (c .before .before .pre) (c .if1 .taken)
 
--- src/places.rt:43:9
 returns : tie.Need-returns
 returns c = (c .place-in .ensures .0 ∙ sym (at-begin _ _ _ _ _ (c .before .if1 .taken)), c .place-in .ensures .1)
 
--- src/places.rt:45:18
 mul-wide : tie.Need-mul-wide
 mul-wide c = omega (arith, c .before .before .pre .fits)
 
--- src/places.rt:45:18
 shared-slice-read-wide : tie.Need-shared-slice-read-wide
 shared-slice-read-wide c = c .before .before .before .pre .fits
 
--- src/places.rt:45:9
 wide-requires : tie.Need-wide-requires
 wide-requires c κs = search needs
 
--- src/places.rt:46:25
 mul-t9 : tie.Need-mul-t9
 mul-t9 c = omega (arith, c .wide .ensures .0, c .before .before .before .before .pre .by-step (c .before .before .if1 .left))
 
--- src/places.rt:46:25
 element-copy-out-t15 : tie.Need-element-copy-out-t15
 element-copy-out-t15 c = omega (arith, c .wide .ensures .0, c .before .before .before .before .pre .by-step (c .before .before .if1 .left))
 
--- src/places.rt:46:5
 place-in-requires-2 : tie.Need-place-in-requires-2
 place-in-requires-2 c κs = placed-step (c .before .before .before .before .before .pre) _ (c .before .before .before .if1 .left) (c .before .wide .ensures .0)
 
--- src/places.rt:31:1
 returns-2 : tie.Need-returns-2
 returns-2 c = (c .place-in2 .ensures .0 ∙ placed-stage (c .before .before .before .before .before .before .pre) _ (c .before .before .before .before .if1 .left) (c .before .before .wide .ensures .0), c .place-in2 .ensures .1)
 

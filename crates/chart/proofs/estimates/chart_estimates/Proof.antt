@@ -20,103 +20,78 @@ Inv-loop chart from to cost estimates₀ end i₀ i-end estimates i =
 abbrev μ-loop : tie.MeasureT-loop
 μ-loop chart from to cost estimates₀ end i₀ i-end estimates i = i-end - i
 
--- src/estimates.rt:40:15
 cast-end : tie.Need-cast-end Inv-loop μ-loop
 cast-end c = search needs
 
--- src/estimates.rt:41:5
 mul-estimates : tie.Need-mul-estimates Inv-loop μ-loop
 mul-estimates c = search (estimates-laws, needs)
 
--- src/estimates.rt:41:5
 array-write-estimates : tie.Need-array-write-estimates Inv-loop μ-loop
 array-write-estimates c = search (estimates-laws, needs)
 
--- src/estimates.rt:42:5
 loop-holds : tie.Need-loop-holds Inv-loop μ-loop
 loop-holds c = search (estimates-laws, needs)
 
--- src/estimates.rt:43:17
 sub-e : tie.Need-sub-e Inv-loop μ-loop
 sub-e c = search needs
 
--- src/estimates.rt:43:17
 sub-e-2 : tie.Need-sub-e-2 Inv-loop μ-loop
 sub-e-2 c = search needs
 
--- src/estimates.rt:44:17
 mul-s : tie.Need-mul-s Inv-loop μ-loop
 mul-s c = search (estimates-laws, needs)
 
--- src/estimates.rt:44:17
 element-copy-out-s : tie.Need-element-copy-out-s Inv-loop μ-loop
 element-copy-out-s c = search (estimates-laws, needs)
 
--- src/estimates.rt:44:17
 cast-s : tie.Need-cast-s Inv-loop μ-loop
 cast-s c = search (estimates-laws, needs)
 
--- src/estimates.rt:45:17
 mul-t : tie.Need-mul-t Inv-loop μ-loop
 mul-t c = search (estimates-laws, needs)
 
--- src/estimates.rt:45:17
 element-copy-out-t : tie.Need-element-copy-out-t Inv-loop μ-loop
 element-copy-out-t c = search (estimates-laws, needs)
 
--- src/estimates.rt:45:17
 cast-t : tie.Need-cast-t Inv-loop μ-loop
 cast-t c = search (estimates-laws, needs)
 
--- src/estimates.rt:46:32
 mul-through : tie.Need-mul-through Inv-loop μ-loop
 mul-through c = search (estimates-laws, needs)
 
--- src/estimates.rt:46:32
 array-read-through : tie.Need-array-read-through Inv-loop μ-loop
 array-read-through c = search (estimates-laws, needs)
 
--- src/estimates.rt:46:46
 mul-through-2 : tie.Need-mul-through-2 Inv-loop μ-loop
 mul-through-2 c = search (estimates-laws, needs)
 
--- src/estimates.rt:46:46
 element-copy-out-through : tie.Need-element-copy-out-through Inv-loop μ-loop
 element-copy-out-through c = search (estimates-laws, needs)
 
--- src/estimates.rt:46:55
 mul-through-3 : tie.Need-mul-through-3 Inv-loop μ-loop
 mul-through-3 c = search (estimates-laws, needs)
 
--- src/estimates.rt:46:55
 array-read-through-2 : tie.Need-array-read-through-2 Inv-loop μ-loop
 array-read-through-2 c = search (estimates-laws, needs)
 
--- src/estimates.rt:46:24
 through-requires : tie.Need-through-requires Inv-loop μ-loop
 through-requires c κs = search estimates-laws
 
--- src/estimates.rt:46:9
 mul-estimates-2 : tie.Need-mul-estimates-2 Inv-loop μ-loop
 mul-estimates-2 c = search (estimates-laws, needs)
 
--- src/estimates.rt:46:9
 array-write-estimates-2 : tie.Need-array-write-estimates-2 Inv-loop μ-loop
 array-write-estimates-2 c = search (estimates-laws, needs)
 
--- src/estimates.rt:42:9
 add-i : tie.Need-add-i Inv-loop μ-loop
 add-i c = search needs
 
--- src/estimates.rt:42:5
 loop-less : tie.Need-loop-less Inv-loop μ-loop
 loop-less c = search needs
 
--- src/estimates.rt:42:5
 loop-again : tie.Need-loop-again Inv-loop μ-loop
 loop-again c = (search needs, search needs, search needs, search estimates-turn)
 
--- src/estimates.rt:30:1
 returns : tie.Need-returns Inv-loop μ-loop
 returns c = search (estimates-laws, needs)
 

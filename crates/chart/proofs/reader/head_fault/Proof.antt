@@ -6,35 +6,27 @@ use Rattle.chart.proofs.reader.head_fault.Reads as reads
 use Rattle.chart.proofs.reader.head_fault.Lts as lts
 use Rattle.fields.proofs.read_u16.Reads as read-u16-reads
 
--- src/reader.rt:15:9
 read-u16-requires : tie.Need-read-u16-requires
 read-u16-requires c κs = search needs
 
--- src/reader.rt:17:9
 returns : tie.Need-returns
 returns c = search head-laws
 
--- src/reader.rt:20:9
 returns-2 : tie.Need-returns-2
 returns-2 c = search head-laws
 
--- src/reader.rt:22:9
 read-u16-requires-2 : tie.Need-read-u16-requires-2
 read-u16-requires-2 c κs = search needs
 
--- src/reader.rt:24:9
 returns-3 : tie.Need-returns-3
 returns-3 c = search head-laws
 
--- src/reader.rt:26:9
 read-u16-requires-3 : tie.Need-read-u16-requires-3
 read-u16-requires-3 c κs = search needs
 
--- src/reader.rt:28:9
 returns-4 : tie.Need-returns-4
 returns-4 c = search head-laws
 
--- src/reader.rt:11:1
 returns-5 : tie.Need-returns-5
 returns-5 c = search head-laws
 

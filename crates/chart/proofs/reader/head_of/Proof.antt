@@ -6,19 +6,15 @@ use Rattle.chart.proofs.reader.head_of.Reads as reads
 use Rattle.chart.proofs.reader.head_of.Lts as lts
 use Rattle.fields.proofs.read_u16.Reads as read-u16-reads
 
--- src/reader.rt:46:17
 read-u16-requires : tie.Need-read-u16-requires
 read-u16-requires c κs = search needs
 
--- src/reader.rt:47:16
 read-u16-requires-2 : tie.Need-read-u16-requires-2
 read-u16-requires-2 c κs = search needs
 
--- src/reader.rt:48:14
 read-u16-requires-3 : tie.Need-read-u16-requires-3
 read-u16-requires-3 c κs = search needs
 
--- src/reader.rt:41:1
 returns : tie.Need-returns
 returns c = search head-read
 

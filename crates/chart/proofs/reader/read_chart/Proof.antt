@@ -11,71 +11,54 @@ use Rattle.chart.proofs.reader.head_of.Reads as head-of-reads
 use Rattle.chart.proofs.reader.read_steps.Reads as read-steps-reads
 use Rattle.fields.proofs.field_at.Reads as field-at-reads
 
--- src/reader.rt:177:11
 field-at-requires : tie.Need-field-at-requires
 field-at-requires c κs = search needs
 
--- src/reader.rt:178:26
 enum-told : tie.Need-enum-told
 enum-told c = search needs
 
--- src/reader.rt:178:26
 bad-head-requires : tie.Need-bad-head-requires
 bad-head-requires c κs = search needs
 
--- src/reader.rt:179:23
 enum-known-number : tie.Need-enum-known-number
 enum-known-number c = search needs
 
--- src/reader.rt:179:34
 bad-head-requires-2 : tie.Need-bad-head-requires-2
 bad-head-requires-2 c κs = search needs
 
--- src/reader.rt:180:24
 enum-known-start : tie.Need-enum-known-start
 enum-known-start c = search needs
 
--- src/reader.rt:181:24
 sub-body : tie.Need-sub-body
 sub-body c = search body-laws
 
--- src/reader.rt:181:24
 part-body-start : tie.Need-part-body-start
 part-body-start c = search body-laws
 
--- src/reader.rt:181:24
 part-body-end : tie.Need-part-body-end
 part-body-end c = search body-laws
 
--- src/reader.rt:182:17
 head-fault-requires : tie.Need-head-fault-requires
 head-fault-requires c κs = search body-laws
 
--- src/reader.rt:184:17
 bad-head-requires-3 : tie.Need-bad-head-requires-3
 bad-head-requires-3 c κs = search needs
 
--- src/reader.rt:184:17
 returns : tie.Need-returns
 returns c = search chart-laws
 
--- src/reader.rt:186:17
 head-of-requires : tie.Need-head-of-requires
 head-of-requires c κs = search body-laws
 
--- src/reader.rt:187:17
 read-steps-requires : tie.Need-read-steps-requires
 read-steps-requires c κs = search needs
 
--- src/reader.rt:168:1
 returns-2 : tie.Need-returns-2
 returns-2 c = search chart-laws
 
--- src/reader.rt:168:1
 returns-3 : tie.Need-returns-3
 returns-3 c = search chart-laws
 
--- src/reader.rt:168:1
 returns-4 : tie.Need-returns-4
 returns-4 c = search chart-laws
 

@@ -18,103 +18,78 @@ Inv-loop file first stages from₀ to₀ cost₀ at₀ last₀ count₀ from to 
 abbrev μ-loop : tie.MeasureT-loop
 μ-loop file first stages from₀ to₀ cost₀ at₀ last₀ count₀ from to cost at last count = length file - at
 
--- src/reader.rt:128:5
 loop-holds : tie.Need-loop-holds Inv-loop μ-loop
 loop-holds c = search steps-laws
 
--- src/reader.rt:129:15
 field-at-requires : tie.Need-field-at-requires Inv-loop μ-loop
 field-at-requires c κs = search needs
 
--- src/reader.rt:130:30
 enum-told : tie.Need-enum-told Inv-loop μ-loop
 enum-told c = search needs
 
--- src/reader.rt:130:30
 stopped-requires : tie.Need-stopped-requires Inv-loop μ-loop
 stopped-requires c κs = search needs
 
--- src/reader.rt:130:30
 returns : tie.Need-returns Inv-loop μ-loop
 returns c = search steps-laws
 
--- src/reader.rt:131:27
 enum-known-number : tie.Need-enum-known-number Inv-loop μ-loop
 enum-known-number c = search needs
 
--- src/reader.rt:131:38
 stopped-requires-2 : tie.Need-stopped-requires-2 Inv-loop μ-loop
 stopped-requires-2 c κs = search needs
 
--- src/reader.rt:131:38
 returns-2 : tie.Need-returns-2 Inv-loop μ-loop
 returns-2 c = search steps-laws
 
--- src/reader.rt:132:28
 enum-known-start : tie.Need-enum-known-start Inv-loop μ-loop
 enum-known-start c = search needs
 
--- src/reader.rt:133:28
 sub-body : tie.Need-sub-body Inv-loop μ-loop
 sub-body c = search body-laws
 
--- src/reader.rt:133:28
 part-body-start : tie.Need-part-body-start Inv-loop μ-loop
 part-body-start c = search body-laws
 
--- src/reader.rt:133:28
 part-body-end : tie.Need-part-body-end Inv-loop μ-loop
 part-body-end c = search body-laws
 
--- src/reader.rt:134:21
 step-fault-requires : tie.Need-step-fault-requires Inv-loop μ-loop
 step-fault-requires c κs = search body-laws
 
--- src/reader.rt:136:21
 stopped-requires-3 : tie.Need-stopped-requires-3 Inv-loop μ-loop
 stopped-requires-3 c κs = search needs
 
--- src/reader.rt:136:21
 returns-3 : tie.Need-returns-3 Inv-loop μ-loop
 returns-3 c = search steps-laws
 
--- src/reader.rt:138:21
 step-of-requires : tie.Need-step-of-requires Inv-loop μ-loop
 step-of-requires c κs = search body-laws
 
--- src/reader.rt:139:17
 mul-from : tie.Need-mul-from Inv-loop μ-loop
 mul-from c = search (room-laws, c .before .before .step-fault .ensures, c .before .if1 .left)
 
--- src/reader.rt:139:17
 element-write-from : tie.Need-element-write-from Inv-loop μ-loop
 element-write-from c = search (room-laws, c .before .before .step-fault .ensures, c .before .if1 .left)
 
--- src/reader.rt:140:17
 mul-to : tie.Need-mul-to Inv-loop μ-loop
 mul-to c = search (room-laws, c .before .before .step-fault .ensures, c .before .if1 .left)
 
--- src/reader.rt:140:17
 element-write-to : tie.Need-element-write-to Inv-loop μ-loop
 element-write-to c = search (room-laws, c .before .before .step-fault .ensures, c .before .if1 .left)
 
--- src/reader.rt:141:17
 mul-cost : tie.Need-mul-cost Inv-loop μ-loop
 mul-cost c = search (room-laws, c .before .before .step-fault .ensures, c .before .if1 .left)
 
--- src/reader.rt:141:17
 element-write-cost : tie.Need-element-write-cost Inv-loop μ-loop
 element-write-cost c = search (room-laws, c .before .before .step-fault .ensures, c .before .if1 .left)
 
--- src/reader.rt:143:17
 add-count : tie.Need-add-count Inv-loop μ-loop
 add-count c = search (room-laws, c .before .before .step-fault .ensures, c .before .if1 .left)
 
--- src/reader.rt:128:5
 loop-less : tie.Need-loop-less Inv-loop μ-loop
 loop-less c = search body-laws
 
--- src/reader.rt:128:5
 loop-again : tie.Need-loop-again Inv-loop μ-loop
 loop-again c = let l = c .before .before .before .before .before .before .before in
     search (steps-step, c .step-of .ensures, c .before .if1 .left, c .before .before .step-fault .ensures, l .field-at .ensures, l .before .loop .inv)

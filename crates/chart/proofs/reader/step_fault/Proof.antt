@@ -7,39 +7,30 @@ use Rattle.chart.proofs.reader.step_fault.Lts as lts
 use Rattle.fields.proofs.read_u16.Reads as read-u16-reads
 use Rattle.fields.proofs.read_u32.Reads as read-u32-reads
 
--- src/reader.rt:39:9
 returns : tie.Need-returns
 returns c = search step-laws
 
--- src/reader.rt:41:9
 read-u16-requires : tie.Need-read-u16-requires
 read-u16-requires c κs = search needs
 
--- src/reader.rt:42:9
 read-u16-requires-2 : tie.Need-read-u16-requires-2
 read-u16-requires-2 c κs = search needs
 
--- src/reader.rt:44:9
 returns-2 : tie.Need-returns-2
 returns-2 c = search step-laws
 
--- src/reader.rt:47:9
 returns-3 : tie.Need-returns-3
 returns-3 c = search step-laws
 
--- src/reader.rt:50:9
 returns-4 : tie.Need-returns-4
 returns-4 c = search step-laws
 
--- src/reader.rt:52:9
 read-u32-requires : tie.Need-read-u32-requires
 read-u32-requires c κs = search needs
 
--- src/reader.rt:54:9
 returns-5 : tie.Need-returns-5
 returns-5 c = search step-laws
 
--- src/reader.rt:34:1
 returns-6 : tie.Need-returns-6
 returns-6 c = search step-laws
 

@@ -7,19 +7,15 @@ use Rattle.chart.proofs.reader.step_of.Lts as lts
 use Rattle.fields.proofs.read_u16.Reads as read-u16-reads
 use Rattle.fields.proofs.read_u32.Reads as read-u32-reads
 
--- src/reader.rt:71:15
 read-u16-requires : tie.Need-read-u16-requires
 read-u16-requires c κs = search needs
 
--- src/reader.rt:72:13
 read-u16-requires-2 : tie.Need-read-u16-requires-2
 read-u16-requires-2 c κs = search needs
 
--- src/reader.rt:73:15
 read-u32-requires : tie.Need-read-u32-requires
 read-u32-requires c κs = search needs
 
--- src/reader.rt:66:1
 returns : tie.Need-returns
 returns c = search step-read
 

@@ -12,35 +12,27 @@ Inv-loop from count start s e₀ e = (start ≤ e) × (e ≤ count) × Below fro
 abbrev μ-loop : tie.MeasureT-loop
 μ-loop from count start s e₀ e = count - e
 
--- src/stages.rt:13:5
 loop-holds : tie.Need-loop-holds Inv-loop μ-loop
 loop-holds c = search (walk-laws, needs)
 
--- src/stages.rt:14:17
 mul-if1 : tie.Need-mul-if1 Inv-loop μ-loop
 mul-if1 c = search needs
 
--- src/stages.rt:14:17
 element-copy-out-if1 : tie.Need-element-copy-out-if1 Inv-loop μ-loop
 element-copy-out-if1 c = search needs
 
--- src/stages.rt:15:13
 returns : tie.Need-returns Inv-loop μ-loop
 returns c = search (walk-laws, needs)
 
--- src/stages.rt:17:9
 add-e : tie.Need-add-e Inv-loop μ-loop
 add-e c = search needs
 
--- src/stages.rt:13:5
 loop-less : tie.Need-loop-less Inv-loop μ-loop
 loop-less c = search needs
 
--- src/stages.rt:13:5
 loop-again : tie.Need-loop-again Inv-loop μ-loop
 loop-again c = search (walk-laws, needs)
 
--- src/stages.rt:8:1
 returns-2 : tie.Need-returns-2 Inv-loop μ-loop
 returns-2 c = search (walk-laws, needs)
 

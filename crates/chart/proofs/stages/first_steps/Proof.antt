@@ -15,43 +15,33 @@ Inv-loop from count stages first₀ e₀ s₀ first e s = (s ≤ stages + 1) × 
 abbrev μ-loop : tie.MeasureT-loop
 μ-loop from count stages first₀ e₀ s₀ first e s = stages + 1 - s
 
--- src/stages.rt:30:5
 loop-holds : tie.Need-loop-holds Inv-loop μ-loop
 loop-holds c = search (firsts-laws, needs)
 
--- src/stages.rt:31:9
 first-from-requires : tie.Need-first-from-requires Inv-loop μ-loop
 first-from-requires c κs = search needs
 
--- src/stages.rt:32:29
 cast-first : tie.Need-cast-first Inv-loop μ-loop
 cast-first c = search needs
 
--- src/stages.rt:32:15
 cast-first-2 : tie.Need-cast-first-2 Inv-loop μ-loop
 cast-first-2 c = search needs
 
--- src/stages.rt:32:9
 mul-first : tie.Need-mul-first Inv-loop μ-loop
 mul-first c = search needs
 
--- src/stages.rt:32:9
 array-write-first : tie.Need-array-write-first Inv-loop μ-loop
 array-write-first c = search needs
 
--- src/stages.rt:33:9
 add-s : tie.Need-add-s Inv-loop μ-loop
 add-s c = search needs
 
--- src/stages.rt:30:5
 loop-less : tie.Need-loop-less Inv-loop μ-loop
 loop-less c = search needs
 
--- src/stages.rt:30:5
 loop-again : tie.Need-loop-again Inv-loop μ-loop
 loop-again c = search (firsts-laws, needs)
 
--- src/stages.rt:23:1
 returns : tie.Need-returns Inv-loop μ-loop
 returns c = search (firsts-laws, needs)
 

@@ -8,35 +8,27 @@ use Rattle.expand.proofs.estimate.pair_estimate.Reads as reads
 use Rattle.expand.proofs.estimate.pair_estimate.Lts as lts
 use Rattle.expand.proofs.estimate.larger.Reads as larger-reads
 
--- src/estimate.rt:30:21
 cast-larger : tie.Need-cast-larger
 cast-larger c = search needs
 
--- src/estimate.rt:30:12
 mul-larger : tie.Need-mul-larger
 mul-larger c = search needs
 
--- src/estimate.rt:30:12
 element-copy-out-larger : tie.Need-element-copy-out-larger
 element-copy-out-larger c = search needs
 
--- src/estimate.rt:30:44
 cast-larger-2 : tie.Need-cast-larger-2
 cast-larger-2 c = search needs
 
--- src/estimate.rt:30:36
 mul-larger-2 : tie.Need-mul-larger-2
 mul-larger-2 c = search needs
 
--- src/estimate.rt:30:36
 element-copy-out-larger-2 : tie.Need-element-copy-out-larger-2
 element-copy-out-larger-2 c = search needs
 
--- src/estimate.rt:30:5
 larger-requires : tie.Need-larger-requires
 larger-requires c κs = search needs
 
--- src/estimate.rt:21:1
 returns : tie.Need-returns
 returns c = larger-pair _ _ _ _ _ (c .before .before .before .before .before .pre .0) _ _ refl refl (c .larger .ensures .1) (c .larger .ensures .2) (c .larger .ensures .0)
 

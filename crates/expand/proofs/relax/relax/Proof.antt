@@ -9,79 +9,60 @@ use Rattle.expand.proofs.relax.relax.Lts as lts
 use Rattle.queue.proofs.decrease.Reads as decrease-reads
 use Rattle.queue.proofs.insert.Reads as insert-reads
 
--- src/relax.rt:29:15
 mul-old : tie.Need-mul-old
 mul-old c = search needs
 
--- src/relax.rt:29:15
 slice-read-old : tie.Need-slice-read-old
 slice-read-old c = search needs
 
--- src/relax.rt:31:9
 returns : tie.Need-returns
 returns c = relax-none (c .before .before .before .before .before .before .before .pre .0) (c .if1 .taken)
 
--- src/relax.rt:33:5
 mul-via : tie.Need-mul-via
 mul-via c = search needs
 
--- src/relax.rt:33:5
 slice-write-via : tie.Need-slice-write-via
 slice-write-via c = search needs
 
--- src/relax.rt:35:9
 insert-requires : tie.Need-insert-requires
 insert-requires c κs = (c .before .before .before .before .before .before .before .before .before .before .before .before .pre .0, (c .before .before .before .before .before .before .before .before .before .before .before .before .pre .1 .0, c .before .before .before .before .before .before .before .before .before .before .before .before .pre .1 .2, c .before .before .before .before .before .before .before .before .before .before .before .before .pre .1 .4 .outside (c .before .before .before .before .if2 .taken)))
 
--- src/relax.rt:35:9
 same-length : tie.Need-same-length
 same-length c = search needs
 
--- src/relax.rt:35:9
 same-length-2 : tie.Need-same-length-2
 same-length-2 c = search needs
 
--- src/relax.rt:35:9
 same-length-3 : tie.Need-same-length-3
 same-length-3 c = search needs
 
--- src/relax.rt:35:9
 same-length-4 : tie.Need-same-length-4
 same-length-4 c = search needs
 
--- src/relax.rt:35:9
 same-length-5 : tie.Need-same-length-5
 same-length-5 c = search needs
 
--- src/relax.rt:35:9
 returns-2 : tie.Need-returns-2
 returns-2 c = relax-inserts (c .before .before .before .before .before .before .before .before .before .before .before .before .before .before .before .before .before .before .before .before .before .pre .0) (c .before .before .before .before .before .before .before .before .before .before .before .before .before .before .before .before .before .before .before .before .before .pre .1 .0) (c .before .before .before .before .before .before .before .before .before .before .before .before .before .before .before .before .before .before .before .before .before .pre .1 .1) (c .before .before .before .before .before .before .before .before .before .before .before .before .before .before .before .before .before .before .before .before .before .pre .1 .3) (c .before .before .before .before .before .before .before .before .before .before .before .before .before .before .if1 .left) (c .before .before .before .before .before .before .before .before .insert .ensures)
 
--- src/relax.rt:37:5
 decrease-requires : tie.Need-decrease-requires
 decrease-requires c κs = (c .before .before .before .before .before .before .before .before .before .before .before .before .pre .0, (relax-inside (c .before .before .before .before .before .before .before .before .before .before .before .before .pre .0) (c .before .before .before .before .before .before .before .before .before .before .before .before .pre .1 .4) (c .before .before .before .before .before .if1 .left) (omega (arith, c .before .before .before .before .before .before .slice-known6 .given (c .before .before .before .before .before .before .before .before .before .before .before .before .args .y))) (c .before .before .before .before .if2 .left), c .before .before .before .before .before .before .before .before .before .before .before .before .pre .1 .2, c .before .before .before .before .before .if1 .left))
 
--- src/relax.rt:12:1
 same-length-6 : tie.Need-same-length-6
 same-length-6 c = search needs
 
--- src/relax.rt:12:1
 same-length-7 : tie.Need-same-length-7
 same-length-7 c = search needs
 
--- src/relax.rt:12:1
 same-length-8 : tie.Need-same-length-8
 same-length-8 c = search needs
 
--- src/relax.rt:12:1
 same-length-9 : tie.Need-same-length-9
 same-length-9 c = search needs
 
--- src/relax.rt:12:1
 same-length-10 : tie.Need-same-length-10
 same-length-10 c = search needs
 
--- src/relax.rt:12:1
 returns-3 : tie.Need-returns-3
 returns-3 c = relax-decreases (c .before .before .before .before .before .before .before .before .before .before .before .before .before .before .before .before .before .before .before .pre .0) (c .before .before .before .before .before .before .before .before .before .before .before .before .before .before .before .before .before .before .before .pre .1 .0) (c .before .before .before .before .before .before .before .before .before .before .before .before .before .before .before .before .before .before .before .pre .1 .1) (c .before .before .before .before .before .before .before .before .before .before .before .before .before .before .before .before .before .before .before .pre .1 .3) (c .before .before .before .before .before .before .before .before .before .before .before .before .if1 .left) (relax-inside (c .before .before .before .before .before .before .before .before .before .before .before .before .before .before .before .before .before .before .before .pre .0) (c .before .before .before .before .before .before .before .before .before .before .before .before .before .before .before .before .before .before .before .pre .1 .4) (c .before .before .before .before .before .before .before .before .before .before .before .before .if1 .left) (omega (arith, c .before .before .before .before .before .before .before .before .before .before .before .before .before .slice-known6 .given (c .before .before .before .before .before .before .before .before .before .before .before .before .before .before .before .before .before .before .before .args .y))) (c .before .before .before .before .before .before .before .before .before .before .before .if2 .left)) (c .before .before .before .before .before .before .decrease .ensures)
 

@@ -12,91 +12,69 @@ use Rattle.expand.proofs.relax.relax.Reads as relax-reads
 use Rattle.nodes.proofs.branch.Reads as branch-reads
 use Rattle.trace.proofs.pair_at.Reads as pair-at-reads
 
--- src/steps.rt:60:13
 cast-i : tie.Need-cast-i
 cast-i c = search needs
 
--- src/steps.rt:61:9
 branch-requires : tie.Need-branch-requires
 branch-requires c κs = (marked (c .before .before .before .before .before .before .pre .0), omega (arith, c .before .before .before .before .before .before .pre .1 .2 .below, node-small (c .before .before .before .before .before .before .pre .0)), omega (arith, step-small (c .before .before .before .before .before .before .pre .0) _ (c .before .before .before .before .before .before .pre .1 .0) (c .before .before .before .before .before .before .pre .1 .1)))
 
--- src/steps.rt:62:17
 mul-stage : tie.Need-mul-stage
 mul-stage c = search needs
 
--- src/steps.rt:62:17
 element-copy-out-stage : tie.Need-element-copy-out-stage
 element-copy-out-stage c = step-small (c .before .before .before .before .before .before .before .pre .0) _ (c .before .before .before .before .before .before .before .pre .1 .0) (c .before .before .before .before .before .before .before .pre .1 .1)
 
--- src/steps.rt:63:9
 pair-estimate-requires : tie.Need-pair-estimate-requires
 pair-estimate-requires c κs = (stage-small (c .before .before .before .before .before .before .before .before .pre .0) _ (c .before .before .before .before .before .before .before .before .pre .1 .0) (c .before .before .before .before .before .before .before .before .pre .1 .1), target-small (c .before .before .before .before .before .before .before .before .pre .0) _ (c .before .before .before .before .before .before .before .before .pre .1 .0) (c .before .before .before .before .before .before .before .before .pre .1 .1) _ _ (c .before .before .before .before .before .before .before .before .pre .1 .2) (c .before .branch .ensures))
 
--- src/steps.rt:65:9
 returns : tie.Need-returns
 returns c = offers-none (c .before .before .before .before .before .before .before .before .before .before .pre .0) _ (c .before .before .before .before .before .before .before .before .before .before .pre .1 .0) (c .before .before .before .before .before .before .before .before .before .before .pre .1 .1) _ _ (c .before .before .before .before .before .before .before .before .before .before .pre .1 .2) (c .before .before .before .branch .ensures) _ (c .before .pair-estimate .ensures) (c .if1 .taken)
 
--- src/steps.rt:67:9
 pair-at-requires : tie.Need-pair-at-requires
 pair-at-requires c κs = stage-small (c .before .before .before .before .before .before .before .before .before .before .pre .0) _ (c .before .before .before .before .before .before .before .before .before .before .pre .1 .0) (c .before .before .before .before .before .before .before .before .before .before .pre .1 .1)
 
--- src/steps.rt:68:20
 mul-v : tie.Need-mul-v
 mul-v c = search needs
 
--- src/steps.rt:68:20
 element-copy-out-v : tie.Need-element-copy-out-v
 element-copy-out-v c = step-small (c .before .before .before .before .before .before .before .before .before .before .before .pre .0) _ (c .before .before .before .before .before .before .before .before .before .before .before .pre .1 .0) (c .before .before .before .before .before .before .before .before .before .before .before .pre .1 .1)
 
--- src/steps.rt:68:13
 add-v : tie.Need-add-v
 add-v c = omega (arith, offer-fits (c .before .before .before .before .before .before .before .before .before .before .before .before .pre .0) _ (c .before .before .before .before .before .before .before .before .before .before .before .before .pre .1 .0) (c .before .before .before .before .before .before .before .before .before .before .before .before .pre .1 .1) _ _ (c .before .before .before .before .before .before .before .before .before .before .before .before .pre .1 .2) (c .before .before .before .before .before .branch .ensures) _ (c .before .before .before .pair-estimate .ensures) (c .before .before .if1 .left))
 
--- src/steps.rt:68:13
 add-v-2 : tie.Need-add-v-2
 add-v-2 c = omega (arith, offer-fits (c .before .before .before .before .before .before .before .before .before .before .before .before .pre .0) _ (c .before .before .before .before .before .before .before .before .before .before .before .before .pre .1 .0) (c .before .before .before .before .before .before .before .before .before .before .before .before .pre .1 .1) _ _ (c .before .before .before .before .before .before .before .before .before .before .before .before .pre .1 .2) (c .before .before .before .before .before .branch .ensures) _ (c .before .before .before .pair-estimate .ensures) (c .before .before .if1 .left))
 
--- src/steps.rt:69:16
 cast-mark : tie.Need-cast-mark
 cast-mark c = search needs
 
--- src/steps.rt:69:16
 mul-mark : tie.Need-mul-mark
 mul-mark c = omega (arith, step-small (c .before .before .before .before .before .before .before .before .before .before .before .before .before .pre .0) _ (c .before .before .before .before .before .before .before .before .before .before .before .before .before .pre .1 .0) (c .before .before .before .before .before .before .before .before .before .before .before .before .before .pre .1 .1))
 
--- src/steps.rt:69:35
 cast-mark-2 : tie.Need-cast-mark-2
 cast-mark-2 c = search needs
 
--- src/steps.rt:69:16
 add-mark : tie.Need-add-mark
 add-mark c = omega (arith, step-small (c .before .before .before .before .before .before .before .before .before .before .before .before .before .before .pre .0) _ (c .before .before .before .before .before .before .before .before .before .before .before .before .before .before .pre .1 .0) (c .before .before .before .before .before .before .before .before .before .before .before .before .before .before .pre .1 .1), node-small (c .before .before .before .before .before .before .before .before .before .before .before .before .before .before .pre .0))
 
--- src/steps.rt:70:5
 relax-requires : tie.Need-relax-requires
 relax-requires c κs = offer-asks (c .before .before .before .before .before .before .before .before .before .before .before .before .before .before .before .before .before .before .before .pre .0) _ (c .before .before .before .before .before .before .before .before .before .before .before .before .before .before .before .before .before .before .before .pre .1 .0) (c .before .before .before .before .before .before .before .before .before .before .before .before .before .before .before .before .before .before .before .pre .1 .1) _ _ (c .before .before .before .before .before .before .before .before .before .before .before .before .before .before .before .before .before .before .before .pre .1 .2) (c .before .before .before .before .before .before .before .before .before .before .before .before .branch .ensures) _ (c .before .before .before .before .before .before .before .before .before .before .pair-estimate .ensures) (c .before .before .before .before .before .before .before .before .before .if1 .left) _ _ (c .before .before .before .before .before .before .before .before .pair-at .ensures) refl
 
--- src/steps.rt:32:1
 same-length : tie.Need-same-length
 same-length c = search needs
 
--- src/steps.rt:32:1
 same-length-2 : tie.Need-same-length-2
 same-length-2 c = search needs
 
--- src/steps.rt:32:1
 same-length-3 : tie.Need-same-length-3
 same-length-3 c = search needs
 
--- src/steps.rt:32:1
 same-length-4 : tie.Need-same-length-4
 same-length-4 c = search needs
 
--- src/steps.rt:32:1
 same-length-5 : tie.Need-same-length-5
 same-length-5 c = search needs
 
--- src/steps.rt:32:1
 returns-2 : tie.Need-returns-2
 returns-2 c = offers-some (c .before .before .before .before .before .before .before .before .before .before .before .before .before .before .before .before .before .before .before .before .before .before .before .before .before .before .before .before .before .before .pre .0) _ (c .before .before .before .before .before .before .before .before .before .before .before .before .before .before .before .before .before .before .before .before .before .before .before .before .before .before .before .before .before .before .pre .1 .0) (c .before .before .before .before .before .before .before .before .before .before .before .before .before .before .before .before .before .before .before .before .before .before .before .before .before .before .before .before .before .before .pre .1 .1) _ _ (c .before .before .before .before .before .before .before .before .before .before .before .before .before .before .before .before .before .before .before .before .before .before .before .before .before .before .before .before .before .before .pre .1 .2) (c .before .before .before .before .before .before .before .before .before .before .before .before .before .before .before .before .before .before .before .before .before .before .before .branch .ensures) _ (c .before .before .before .before .before .before .before .before .before .before .before .before .before .before .before .before .before .before .before .before .before .pair-estimate .ensures) (c .before .before .before .before .before .before .before .before .before .before .before .before .before .before .before .before .before .before .before .before .if1 .left) _ _ (c .before .before .before .before .before .before .before .before .before .before .before .before .before .before .before .before .before .before .before .pair-at .ensures) refl refl (c .before .before .before .before .before .before .before .before .before .before .relax .ensures .0) (c .before .before .before .before .before .before .before .before .before .before .relax .ensures .1)
 

@@ -19,75 +19,57 @@ Inv-loop keys₀ via₀ heap₀ pos₀ stack₀ p from to cost row step lo hi by
 abbrev μ-loop : tie.MeasureT-loop
 μ-loop keys₀ via₀ heap₀ pos₀ stack₀ p from to cost row step lo hi by-stage by-node z s n base first until left₀ m₀ e₀ keys via heap pos stack left m e = until - e
 
--- src/steps.rt:106:5
 loop-holds : tie.Need-loop-holds Inv-loop μ-loop
 loop-holds c = (refl, refl, refl, refl, refl, omega arith, c .before .before .before .before .before .pre .1 .0, walk-start (c .before .before .before .before .before .pre .0))
 
--- src/steps.rt:107:13
 descend-to-requires : tie.Need-descend-to-requires Inv-loop μ-loop
 descend-to-requires c κs = walk-falls (c .before .loop .inv .7)
 
--- src/steps.rt:109:13
 same-length : tie.Need-same-length Inv-loop μ-loop
 same-length c = c .before .before .before .loop .inv .0
 
--- src/steps.rt:109:13
 same-length-2 : tie.Need-same-length-2 Inv-loop μ-loop
 same-length-2 c = c .before .before .before .loop .inv .1
 
--- src/steps.rt:109:13
 same-length-3 : tie.Need-same-length-3 Inv-loop μ-loop
 same-length-3 c = c .before .before .before .loop .inv .2
 
--- src/steps.rt:109:13
 same-length-4 : tie.Need-same-length-4 Inv-loop μ-loop
 same-length-4 c = c .before .before .before .loop .inv .3
 
--- src/steps.rt:109:13
 same-length-5 : tie.Need-same-length-5 Inv-loop μ-loop
 same-length-5 c = c .before .before .before .loop .inv .4
 
--- src/steps.rt:109:13
 returns : tie.Need-returns Inv-loop μ-loop
 returns c = walk-dead (c .before .before .before .loop .inv .7) (c .before .descend-to .ensures) _ (c .if1 .taken)
 
--- src/steps.rt:111:9
 offer-requires : tie.Need-offer-requires Inv-loop μ-loop
 offer-requires c κs = ((c .before .before .before .before .before .before .before .before .loop .inv .7) .opening, (c .before .before .before .before .before .before .before .before .before .before .before .before .before .before .pre .1 .1 (c .before .before .before .before .before .before .before .before .loop .e) (c .before .before .before .before .before .before .before .before .loop .inv .5) (c .before .before .before .before .before .before .before .loop-test .taken) .0, c .before .before .before .before .before .before .before .before .before .before .before .before .before .before .pre .1 .1 (c .before .before .before .before .before .before .before .before .loop .e) (c .before .before .before .before .before .before .before .before .loop .inv .5) (c .before .before .before .before .before .before .before .loop-test .taken) .1, walk-lowers (c .before .before .before .before .before .before .before .before .loop .inv .7) (c .before .before .before .before .before .before .descend-to .ensures)))
 
--- src/steps.rt:112:9
 add-e : tie.Need-add-e Inv-loop μ-loop
 add-e c = omega (arith, step-small ((c .before .before .before .before .before .before .before .before .before .before .before .before .before .before .before .before .before .before .before .loop .inv .7) .opening) (c .before .before .before .before .before .before .before .before .before .before .before .before .before .before .before .before .before .before .before .loop .e) (c .before .before .before .before .before .before .before .before .before .before .before .before .before .before .before .before .before .before .before .before .before .before .before .before .before .pre .1 .1 (c .before .before .before .before .before .before .before .before .before .before .before .before .before .before .before .before .before .before .before .loop .e) (c .before .before .before .before .before .before .before .before .before .before .before .before .before .before .before .before .before .before .before .loop .inv .5) (c .before .before .before .before .before .before .before .before .before .before .before .before .before .before .before .before .before .before .loop-test .taken) .0) (c .before .before .before .before .before .before .before .before .before .before .before .before .before .before .before .before .before .before .before .before .before .before .before .before .before .pre .1 .1 (c .before .before .before .before .before .before .before .before .before .before .before .before .before .before .before .before .before .before .before .loop .e) (c .before .before .before .before .before .before .before .before .before .before .before .before .before .before .before .before .before .before .before .loop .inv .5) (c .before .before .before .before .before .before .before .before .before .before .before .before .before .before .before .before .before .before .loop-test .taken) .1))
 
--- src/steps.rt:106:5
 loop-less : tie.Need-loop-less Inv-loop μ-loop
 loop-less c = search needs
 
--- src/steps.rt:106:5
 loop-again : tie.Need-loop-again Inv-loop μ-loop
 loop-again c = (omega (arith, c .before .before .before .before .before .before .before .before .before .before .before .before .before .before .before .before .before .before .before .loop .inv .0, c .before .before .before .before .before .before .before .before .before .before .offer .kept .0), omega (arith, c .before .before .before .before .before .before .before .before .before .before .before .before .before .before .before .before .before .before .before .loop .inv .1, c .before .before .before .before .before .before .before .before .before .before .offer .kept .1 .0), omega (arith, c .before .before .before .before .before .before .before .before .before .before .before .before .before .before .before .before .before .before .before .loop .inv .2, c .before .before .before .before .before .before .before .before .before .before .offer .kept .1 .1 .0), omega (arith, c .before .before .before .before .before .before .before .before .before .before .before .before .before .before .before .before .before .before .before .loop .inv .3, c .before .before .before .before .before .before .before .before .before .before .offer .kept .1 .1 .1 .0), omega (arith, c .before .before .before .before .before .before .before .before .before .before .before .before .before .before .before .before .before .before .before .loop .inv .4, c .before .before .before .before .before .before .before .before .before .before .offer .kept .1 .1 .1 .1 .0), omega (arith, c .before .before .before .before .before .before .before .before .before .before .before .before .before .before .before .before .before .before .before .loop .inv .5), omega (arith, c .before .before .before .before .before .before .before .before .before .before .before .before .before .before .before .before .before .before .loop-test .taken), walk-more (c .before .before .before .before .before .before .before .before .before .before .before .before .before .before .before .before .before .before .before .loop .inv .7) (c .before .before .before .before .before .before .before .before .before .before .before .before .before .before .before .before .before .descend-to .ensures) (c .before .before .before .before .before .before .before .before .before .before .offer .kept .1 .0) (c .before .before .before .before .before .before .before .before .before .before .offer .ensures))
 
--- src/steps.rt:75:1
 same-length-6 : tie.Need-same-length-6 Inv-loop μ-loop
 same-length-6 c = c .before .loop .inv .0
 
--- src/steps.rt:75:1
 same-length-7 : tie.Need-same-length-7 Inv-loop μ-loop
 same-length-7 c = c .before .loop .inv .1
 
--- src/steps.rt:75:1
 same-length-8 : tie.Need-same-length-8 Inv-loop μ-loop
 same-length-8 c = c .before .loop .inv .2
 
--- src/steps.rt:75:1
 same-length-9 : tie.Need-same-length-9 Inv-loop μ-loop
 same-length-9 c = c .before .loop .inv .3
 
--- src/steps.rt:75:1
 same-length-10 : tie.Need-same-length-10 Inv-loop μ-loop
 same-length-10 c = c .before .loop .inv .4
 
--- src/steps.rt:75:1
 returns-2 : tie.Need-returns-2 Inv-loop μ-loop
 returns-2 c = walk-done (c .before .loop .inv .7) _ (omega (arith, c .before .loop .inv .6, c .loop-test .left))
 

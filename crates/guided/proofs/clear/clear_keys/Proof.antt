@@ -16,35 +16,27 @@ Inv-loop keys₀ first until k₀ keys k = (length keys ≡ length keys₀) × (
 abbrev μ-loop : tie.MeasureT-loop
 μ-loop keys₀ first until k₀ keys k = until - k
 
--- src/clear.rt:70:5
 loop-holds : tie.Need-loop-holds Inv-loop μ-loop
 loop-holds c = (refl, omega arith, c .pre .0, clear-none _ _ _)
 
--- src/clear.rt:71:9
 mul-keys : tie.Need-mul-keys Inv-loop μ-loop
 mul-keys c = search needs
 
--- src/clear.rt:71:9
 slice-write-keys : tie.Need-slice-write-keys Inv-loop μ-loop
 slice-write-keys c = search needs
 
--- src/clear.rt:72:9
 add-k : tie.Need-add-k Inv-loop μ-loop
 add-k c = search needs
 
--- src/clear.rt:70:5
 loop-less : tie.Need-loop-less Inv-loop μ-loop
 loop-less c = search needs
 
--- src/clear.rt:70:5
 loop-again : tie.Need-loop-again Inv-loop μ-loop
 loop-again c = (simp length-set (c .before .loop .inv .0), omega (arith, c .before .loop .inv .1), omega (arith, c .loop-test .taken), clear-more (c .before .loop .inv .3) (c .loop-test .taken) (omega (arith, c .before .loop .inv .0, c .loop-test .taken, c .before .before .pre .1)))
 
--- src/clear.rt:65:1
 same-length : tie.Need-same-length Inv-loop μ-loop
 same-length c = c .before .loop .inv .0
 
--- src/clear.rt:65:1
 returns : tie.Need-returns Inv-loop μ-loop
 returns c = clear-all (c .before .loop .inv .3) (c .loop-test .left)
 

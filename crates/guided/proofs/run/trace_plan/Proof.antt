@@ -8,27 +8,21 @@ use Rattle.guided.proofs.run.trace_plan.Lts as lts
 use Rattle.trace.proofs.trail_length.Reads as trail-length-reads
 use Rattle.trace.proofs.write_trail.Reads as write-trail-reads
 
--- src/run.rt:48:17
 add-width : tie.Need-add-width
 add-width c = search needs
 
--- src/run.rt:49:18
 cast-stages : tie.Need-cast-stages
 cast-stages c = search needs
 
--- src/run.rt:50:9
 trail-length-requires : tie.Need-trail-length-requires
 trail-length-requires c κs = search needs
 
--- src/run.rt:51:5
 write-trail-requires : tie.Need-write-trail-requires
 write-trail-requires c κs = (c .before .before .before .before .before .before .pre .0, (trail-fits (c .before .before .before .before .before .before .pre .0) (c .before .before .before .before .before .before .pre .1) (c .before .trail-length .ensures), c .before .trail-length .ensures))
 
--- src/run.rt:34:1
 same-length : tie.Need-same-length
 same-length c = search needs
 
--- src/run.rt:34:1
 returns : tie.Need-returns
 returns c = traces-plan (c .before .before .before .before .before .before .before .before .before .args .z) _ _ (c .before .before .before .before .before .before .before .before .before .args .plan .now) (c .before .before .before .before .trail-length .ensures) (c .before .before .write-trail .ensures)
 

@@ -13,31 +13,24 @@ use Rattle.planner.proofs.space.space_needed.Reads as reads
 use Rattle.planner.proofs.space.space_needed.Lts as lts
 use Rattle.checks.proofs.load.Reads as load-reads
 
--- src/space.rt:30:9
 load-requires : tie.Need-load-requires
 load-requires c κs = search needs
 
--- src/space.rt:43:9
 returns : tie.Need-returns
 returns c = needed-refused _ _ _ _ _ _ _ (load (c .before .before .before .before .before .before .before .before .before .before .before .args .chart .now) (c .before .before .before .before .before .before .before .before .before .before .before .args .rules .now) (131072 ∷ []) 255) (c .before .before .load .ensures) (c .if1 .taken) ∙ ap (λ (o : Load). spaceNeeded o) (load-most (c .before .before .before .before .before .before .before .before .before .before .before .args .chart .now) (c .before .before .before .before .before .before .before .before .before .before .before .args .rules .now))
 
--- src/space.rt:52:18
 cast-stages : tie.Need-cast-stages
 cast-stages c = search needs
 
--- src/space.rt:57:25
 add-t19 : tie.Need-add-t19
 add-t19 c = omega (arith, small _ _ _ _ _ _ _ (load (c .before .before .before .before .before .before .before .before .before .before .before .before .before .before .args .chart .now) (c .before .before .before .before .before .before .before .before .before .before .before .before .before .before .args .rules .now) (131072 ∷ []) 255) (c .before .before .before .before .before .load .ensures) (c .before .before .before .if1 .left) .narrow)
 
--- src/space.rt:57:15
 mul-t20 : tie.Need-mul-t20
 mul-t20 c = omega (arith, small _ _ _ _ _ _ _ (load (c .before .before .before .before .before .before .before .before .before .before .before .before .before .before .args .chart .now) (c .before .before .before .before .before .before .before .before .before .before .before .before .before .before .args .rules .now) (131072 ∷ []) 255) (c .before .before .before .before .before .load .ensures) (c .before .before .before .if1 .left) .few-pairs)
 
--- src/space.rt:58:15
 sub-t21 : tie.Need-sub-t21
 sub-t21 c = omega (arith, small _ _ _ _ _ _ _ (load (c .before .before .before .before .before .before .before .before .before .before .before .before .before .before .args .chart .now) (c .before .before .before .before .before .before .before .before .before .before .before .before .before .before .args .rules .now) (131072 ∷ []) 255) (c .before .before .before .before .before .load .ensures) (c .before .before .before .if1 .left) .one-stage)
 
--- src/space.rt:21:1
 returns-2 : tie.Need-returns-2
 returns-2 c = needed-ready _ _ _ _ _ _ _ (load (c .before .before .before .before .before .before .before .before .before .before .before .before .before .before .args .chart .now) (c .before .before .before .before .before .before .before .before .before .before .before .before .before .before .args .rules .now) (131072 ∷ []) 255) (c .before .before .before .before .before .load .ensures) (c .before .before .before .if1 .left) ∙ ap (λ (o : Load). spaceNeeded o) (load-most (c .before .before .before .before .before .before .before .before .before .before .before .before .before .before .args .chart .now) (c .before .before .before .before .before .before .before .before .before .before .before .before .before .before .args .rules .now))
 

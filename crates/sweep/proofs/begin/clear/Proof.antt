@@ -17,35 +17,27 @@ Inv-loop costs₀ pairs i₀ costs i = (i ≤ pairs) × (costs ≡ replicate i 4
 abbrev μ-loop : tie.MeasureT-loop
 μ-loop costs₀ pairs i₀ costs i = pairs - i
 
--- src/begin.rt:17:5
 loop-holds : tie.Need-loop-holds Inv-loop μ-loop
 loop-holds c = (search needs, fill-none (c .args .costs .now) 4294967295, refl)
 
--- src/begin.rt:18:9
 mul-costs : tie.Need-mul-costs Inv-loop μ-loop
 mul-costs c = search needs
 
--- src/begin.rt:18:9
 slice-write-costs : tie.Need-slice-write-costs Inv-loop μ-loop
 slice-write-costs c = search needs
 
--- src/begin.rt:19:9
 add-i : tie.Need-add-i Inv-loop μ-loop
 add-i c = search needs
 
--- src/begin.rt:17:5
 loop-less : tie.Need-loop-less Inv-loop μ-loop
 loop-less c = search needs
 
--- src/begin.rt:17:5
 loop-again : tie.Need-loop-again Inv-loop μ-loop
 loop-again c = (search needs, ap (λ l. set l (c .before .loop .i) 4294967295) (c .before .loop .inv .1) ∙ fill-more (c .before .loop .i) 4294967295 (c .before .before .args .costs .now) (omega (arith, c .before .before .pre)), search needs)
 
--- src/begin.rt:12:1
 same-length : tie.Need-same-length Inv-loop μ-loop
 same-length c = search needs
 
--- src/begin.rt:12:1
 returns : tie.Need-returns Inv-loop μ-loop
 returns c = let e : c .before .loop .i ≡ c .before .before .args .pairs = omega (arith, c .before .loop .inv .0) in c .before .loop .inv .1 ∙ ap (λ (k : ℕ). replicate k 4294967295 ++ drop k (c .before .before .args .costs .now)) e
 

@@ -12,15 +12,12 @@ use Rattle.sweep.proofs.goals.better.Tie as tie
 use Rattle.sweep.proofs.goals.better.Reads as reads
 use Rattle.sweep.proofs.goals.better.Lts as lts
 
--- src/goals.rt:29:9
 returns : tie.Need-returns
 returns c = search needs
 
--- src/goals.rt:32:9
 returns-2 : tie.Need-returns-2
 returns-2 c = better-taken _ _ _ _ _ (c .before .if1 .left) (c .if2 .taken) refl refl
 
--- src/goals.rt:24:1
 returns-3 : tie.Need-returns-3
 returns-3 c = better-no _ _ _ _ (c .if2 .left)
 

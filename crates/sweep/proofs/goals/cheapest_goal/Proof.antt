@@ -20,63 +20,48 @@ Inv-loop costs nodes yes' base count best₀ k₀ best k = (k ≤ count) × Chos
 abbrev μ-loop : tie.MeasureT-loop
 μ-loop costs nodes yes' base count best₀ k₀ best k = count - k
 
--- src/goals.rt:47:5
 loop-holds : tie.Need-loop-holds Inv-loop μ-loop
 loop-holds c = (search needs, chosen-none _ _ _ _ _ refl)
 
--- src/goals.rt:48:28
 add-wide : tie.Need-add-wide Inv-loop μ-loop
 add-wide c = omega (arith, c .before .before .before .before .pre .place (c .before .loop .k) (c .loop-test .taken))
 
--- src/goals.rt:48:22
 mul-wide : tie.Need-mul-wide Inv-loop μ-loop
 mul-wide c = omega (arith, c .before .before .before .before .pre .place (c .before .loop .k) (c .loop-test .taken))
 
--- src/goals.rt:48:22
 shared-slice-read-wide : tie.Need-shared-slice-read-wide Inv-loop μ-loop
 shared-slice-read-wide c = c .before .before .before .before .before .pre .place (c .before .before .loop .k) (c .before .loop-test .taken)
 
--- src/goals.rt:48:13
 wide-requires : tie.Need-wide-requires Inv-loop μ-loop
 wide-requires c κs = search needs
 
--- src/goals.rt:49:23
 add-v : tie.Need-add-v Inv-loop μ-loop
 add-v c = omega (arith, c .wide .ensures, c .before .before .before .before .before .before .pre .pair (c .before .before .before .loop .k) (c .before .before .loop-test .taken))
 
--- src/goals.rt:49:17
 mul-v : tie.Need-mul-v Inv-loop μ-loop
 mul-v c = omega (arith, c .wide .ensures, c .before .before .before .before .before .before .pre .pair (c .before .before .before .loop .k) (c .before .before .loop-test .taken))
 
--- src/goals.rt:49:17
 shared-slice-read-v : tie.Need-shared-slice-read-v Inv-loop μ-loop
 shared-slice-read-v c = omega (arith, c .before .wide .ensures, c .before .before .before .before .before .before .before .pre .pair (c .before .before .before .before .loop .k) (c .before .before .before .loop-test .taken))
 
--- src/goals.rt:50:34
 cast-t17 : tie.Need-cast-t17 Inv-loop μ-loop
 cast-t17 c = omega (arith, c .before .wide .ensures, c .before .before .before .before .before .before .before .pre .small (c .before .before .before .before .loop .k) (c .before .before .before .loop-test .taken))
 
--- src/goals.rt:50:48
 element-copy-out-better : tie.Need-element-copy-out-better Inv-loop μ-loop
 element-copy-out-better c = omega (arith, c .before .wide .ensures, c .before .before .before .before .before .before .before .pre .small (c .before .before .before .before .loop .k) (c .before .before .before .loop-test .taken))
 
--- src/goals.rt:50:9
 better-requires : tie.Need-better-requires Inv-loop μ-loop
 better-requires c κs = search needs
 
--- src/goals.rt:51:9
 add-k : tie.Need-add-k Inv-loop μ-loop
 add-k c = search needs
 
--- src/goals.rt:47:5
 loop-less : tie.Need-loop-less Inv-loop μ-loop
 loop-less c = search needs
 
--- src/goals.rt:47:5
 loop-again : tie.Need-loop-again Inv-loop μ-loop
 loop-again c = (search needs, chosen-more _ _ _ _ _ _ _ (c .before .before .before .before .before .before .loop .inv .1) _ _ _ (c .before .before .before .wide .ensures .0) refl refl (c .better .ensures))
 
--- src/goals.rt:32:1
 returns : tie.Need-returns Inv-loop μ-loop
 returns c = chosen-all _ _ _ _ _ _ _ (c .before .loop .inv .1) (omega (arith, c .before .loop .inv .0))
 

@@ -20,39 +20,30 @@ Inv-loop counts stages sum₀ s₀ sum s = (s ≤ stages) × (sum ≡ total (at 
 abbrev μ-loop : tie.MeasureT-loop
 μ-loop counts stages sum₀ s₀ sum s = stages - s
 
--- src/goals.rt:69:5
 loop-holds : tie.Need-loop-holds Inv-loop μ-loop
 loop-holds c = (search needs, total-none _, search needs)
 
--- src/goals.rt:70:21
 mul-wide : tie.Need-mul-wide Inv-loop μ-loop
 mul-wide c = search needs
 
--- src/goals.rt:70:21
 element-copy-out-wide : tie.Need-element-copy-out-wide Inv-loop μ-loop
 element-copy-out-wide c = search needs
 
--- src/goals.rt:70:16
 wide-requires : tie.Need-wide-requires Inv-loop μ-loop
 wide-requires c κs = search needs
 
--- src/goals.rt:70:9
 add-sum : tie.Need-add-sum Inv-loop μ-loop
 add-sum c = omega (arith, c .wide .ensures .1, c .before .before .before .loop .inv .2, c .before .before .before .before .pre)
 
--- src/goals.rt:71:9
 add-s : tie.Need-add-s Inv-loop μ-loop
 add-s c = search needs
 
--- src/goals.rt:69:5
 loop-less : tie.Need-loop-less Inv-loop μ-loop
 loop-less c = search needs
 
--- src/goals.rt:69:5
 loop-again : tie.Need-loop-again Inv-loop μ-loop
 loop-again c = (search needs, total-more _ _ _ _ (c .before .before .before .loop .inv .1) (c .wide .ensures .0), omega (arith, c .wide .ensures .1, c .before .before .before .loop .inv .2))
 
--- src/goals.rt:63:1
 returns : tie.Need-returns Inv-loop μ-loop
 returns c = let e : c .before .loop .s ≡ c .before .before .args .stages = omega (arith, c .before .loop .inv .0) in c .before .loop .inv .1 ∙ ap (total (at (c .before .before .args .counts .now))) e
 

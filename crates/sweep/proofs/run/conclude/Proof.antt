@@ -16,71 +16,54 @@ use Rattle.convert.proofs.wide.Reads as wide-reads
 use Rattle.trace.proofs.trail_length.Reads as trail-length-reads
 use Rattle.trace.proofs.write_trail.Reads as write-trail-reads
 
--- src/run.rt:91:18
 cast-stages : tie.Need-cast-stages
 cast-stages c = search needs
 
--- src/run.rt:92:15
 cast-end : tie.Need-cast-end
 cast-end c = search needs
 
--- src/run.rt:93:9
 total-count-requires : tie.Need-total-count-requires
 total-count-requires c κs = search needs
 
--- src/run.rt:94:15
 finishing-requires : tie.Need-finishing-requires
 finishing-requires c κs = end-falls _ _ _ _ _ _ _ _ _ _ _ _ _ (c .before .before .before .before .before .before .before .pre .0)
 
--- src/run.rt:95:21
 mul-wide : tie.Need-mul-wide
 mul-wide c = search needs
 
--- src/run.rt:95:21
 element-copy-out-wide : tie.Need-element-copy-out-wide
 element-copy-out-wide c = search needs
 
--- src/run.rt:95:9
 wide-requires : tie.Need-wide-requires
 wide-requires c κs = search needs
 
--- src/run.rt:96:23
 mul-wide-2 : tie.Need-mul-wide-2
 mul-wide-2 c = search needs
 
--- src/run.rt:96:23
 element-copy-out-wide-2 : tie.Need-element-copy-out-wide-2
 element-copy-out-wide-2 c = search needs
 
--- src/run.rt:96:9
 wide-requires-2 : tie.Need-wide-requires-2
 wide-requires-2 c κs = search needs
 
--- src/run.rt:97:9
 cheapest-goal-requires : tie.Need-cheapest-goal-requires
 cheapest-goal-requires c κs = end-listed _ _ _ _ _ _ _ _ _ _ _ _ _ (c .before .before .before .before .before .before .before .before .before .before .before .before .before .pre .0) _ _ (c .before .before .before .wide .ensures .0) (c .before .wide2 .ensures .0)
 
--- src/run.rt:100:9
 returns : tie.Need-returns
 returns c = concludes-none _ _ _ _ _ _ _ _ _ _ _ _ _ (c .before .before .before .before .before .before .before .before .before .before .before .before .before .before .before .pre .0) _ _ (c .before .before .before .before .before .wide .ensures .0) (c .before .before .before .wide2 .ensures .0) _ (c .before .before .before .before .before .before .before .finishing .ensures) _ (c .before .cheapest-goal .ensures) _ (c .before .before .before .before .before .before .before .before .total-count .ensures) _ _ (c .if1 .taken) refl
 
--- src/run.rt:109:17
 add-width : tie.Need-add-width
 add-width c = omega (arith, few-nodes _ _ _ _ _ _ _ (c .before .before .before .before .before .before .before .before .before .before .before .before .before .before .before .before .pre .0 .ready .tables))
 
--- src/run.rt:110:9
 trail-length-requires : tie.Need-trail-length-requires
 trail-length-requires c κs = end-traceable _ _ _ _ _ _ _ _ _ _ _ _ _ (c .before .before .before .before .before .before .before .before .before .before .before .before .before .before .before .before .pre .0) _ _ (c .before .before .before .before .before .before .wide .ensures .0) (c .before .before .before .before .wide2 .ensures .0) _ (c .before .before .before .before .before .before .before .before .finishing .ensures) _ (c .before .before .cheapest-goal .ensures) _ (c .before .before .before .before .before .before .before .before .before .total-count .ensures) (omega (arith, c .before .before .cheapest-goal .ensures .bounded, c .before .if1 .left))
 
--- src/run.rt:111:5
 write-trail-requires : tie.Need-write-trail-requires
 write-trail-requires c κs = (end-traceable _ _ _ _ _ _ _ _ _ _ _ _ _ (c .before .before .before .before .before .before .before .before .before .before .before .before .before .before .before .before .before .before .pre .0) _ _ (c .before .before .before .before .before .before .before .before .wide .ensures .0) (c .before .before .before .before .before .before .wide2 .ensures .0) _ (c .before .before .before .before .before .before .before .before .before .before .finishing .ensures) _ (c .before .before .before .before .cheapest-goal .ensures) _ (c .before .before .before .before .before .before .before .before .before .before .before .total-count .ensures) (omega (arith, c .before .before .before .before .cheapest-goal .ensures .bounded, c .before .before .before .if1 .left)), (end-fits _ _ _ _ _ _ _ _ _ _ _ _ _ (c .before .before .before .before .before .before .before .before .before .before .before .before .before .before .before .before .before .before .pre .0) _ _ (c .before .before .before .before .before .before .before .before .wide .ensures .0) (c .before .before .before .before .before .before .wide2 .ensures .0) _ (c .before .before .before .before .before .before .before .before .before .before .finishing .ensures) _ (c .before .before .before .before .cheapest-goal .ensures) _ (c .before .before .before .before .before .before .before .before .before .before .before .total-count .ensures) (omega (arith, c .before .before .before .before .cheapest-goal .ensures .bounded, c .before .before .before .if1 .left)) (c .before .trail-length .result) (c .before .trail-length .ensures) (c .before .before .before .before .before .before .before .before .before .before .before .before .before .before .before .before .before .before .args .plan .now) (c .before .before .before .before .before .before .before .before .before .before .before .before .before .before .before .before .before .before .pre .1), c .before .trail-length .ensures))
 
--- src/run.rt:71:1
 same-length : tie.Need-same-length
 same-length c = search needs
 
--- src/run.rt:71:1
 returns-2 : tie.Need-returns-2
 returns-2 c = concludes-some _ _ _ _ _ _ _ _ _ _ _ _ _ (c .before .before .before .before .before .before .before .before .before .before .before .before .before .before .before .before .before .before .before .before .before .pre .0) _ _ (c .before .before .before .before .before .before .before .before .before .before .before .wide .ensures .0) (c .before .before .before .before .before .before .before .before .before .wide2 .ensures .0) _ (c .before .before .before .before .before .before .before .before .before .before .before .before .before .finishing .ensures) _ (c .before .before .before .before .before .before .before .cheapest-goal .ensures) _ (c .before .before .before .before .before .before .before .before .before .before .before .before .before .before .total-count .ensures) (omega (arith, c .before .before .before .before .before .before .before .cheapest-goal .ensures .bounded, c .before .before .before .before .before .before .if1 .left)) _ (c .before .before .before .before .trail-length .ensures) _ _ _ (c .before .before .before .before .before .before .before .before .before .before .before .before .before .before .before .before .before .before .before .before .before .pre .1) (c .before .before .write-trail .ensures) (omega (arith, c .before .before .write-trail .kept)) refl
 

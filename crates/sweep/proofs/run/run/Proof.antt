@@ -13,47 +13,36 @@ use Rattle.rows.proofs.row_starts.Reads as row-starts-reads
 use Rattle.sweep.proofs.run.conclude.Reads as conclude-reads
 use Rattle.sweep.proofs.run.sweep_rows.Reads as sweep-rows-reads
 
--- src/run.rt:140:17
 first-steps-requires : tie.Need-first-steps-requires
 first-steps-requires c κs = run-sorted _ _ _ _ _ _ _ (c .before .before .before .before .pre .0)
 
--- src/run.rt:141:26
 cast-row-starts : tie.Need-cast-row-starts
 cast-row-starts c = search needs
 
--- src/run.rt:141:45
 add-row-starts : tie.Need-add-row-starts
 add-row-starts c = omega (arith, run-narrow _ _ _ _ _ _ _ (c .before .before .before .before .before .before .before .pre .0))
 
--- src/run.rt:141:15
 row-starts-requires : tie.Need-row-starts-requires
 row-starts-requires c κs = run-narrow _ _ _ _ _ _ _ (c .before .before .before .before .before .before .before .pre .0)
 
--- src/run.rt:143:5
 sweep-rows-requires : tie.Need-sweep-rows-requires
 sweep-rows-requires c κs = (run-ready _ _ _ _ _ _ _ (c .before .before .before .before .before .before .before .before .before .before .before .before .before .before .pre .0) _ _ (c .before .before .before .before .before .before .before .before .before .first-steps .ensures) (c .before .before .before .before .before .before .row-starts .ensures), (c .before .before .before .before .before .before .before .before .before .before .before .before .before .before .pre .1 .0, blank))
 
--- src/run.rt:144:5
 conclude-requires : tie.Need-conclude-requires
 conclude-requires c κs = (run-final _ _ _ _ _ _ _ (c .before .before .before .before .before .before .before .before .before .before .before .before .before .before .before .before .before .before .before .before .before .before .before .before .before .before .before .before .pre .0) _ _ (c .before .before .before .before .before .before .before .before .before .before .before .before .before .before .before .before .before .before .before .before .before .before .before .first-steps .ensures) (c .before .before .before .before .before .before .before .before .before .before .before .before .before .before .before .before .before .before .before .before .row-starts .ensures) _ _ _ _ (c .before .before .before .before .before .before .before .before .before .before .before .before .before .before .before .before .before .before .before .before .before .before .before .before .before .before .before .before .pre .1 .0) blank _ _ _ _ (c .before .before .before .before .before .before .before .before .before .before .before .before .before .sweep-rows .ensures), c .before .before .before .before .before .before .before .before .before .before .before .before .before .before .before .before .before .before .before .before .before .before .before .before .before .before .before .before .pre .1 .1)
 
--- src/run.rt:123:1
 same-length : tie.Need-same-length
 same-length c = search needs
 
--- src/run.rt:123:1
 same-length-2 : tie.Need-same-length-2
 same-length-2 c = search needs
 
--- src/run.rt:123:1
 same-length-3 : tie.Need-same-length-3
 same-length-3 c = search needs
 
--- src/run.rt:123:1
 same-length-4 : tie.Need-same-length-4
 same-length-4 c = search needs
 
--- src/run.rt:123:1
 returns : tie.Need-returns
 returns c = run-runs _ _ _ _ _ _ _ (c .before .before .before .before .before .before .before .before .before .before .before .before .before .before .before .before .before .before .before .before .before .before .before .before .before .before .before .before .before .before .before .pre .0) _ _ (c .before .before .before .before .before .before .before .before .before .before .before .before .before .before .before .before .before .before .before .before .before .before .before .before .before .before .first-steps .ensures) (c .before .before .before .before .before .before .before .before .before .before .before .before .before .before .before .before .before .before .before .before .before .before .before .row-starts .ensures) _ _ _ _ (c .before .before .before .before .before .before .before .before .before .before .before .before .before .before .before .before .before .before .before .before .before .before .before .before .before .before .before .before .before .before .before .pre .1 .0) blank _ _ _ _ (c .before .before .before .before .before .before .before .before .before .before .before .before .before .before .before .before .sweep-rows .ensures) _ _ _ (c .before .before .conclude .ensures)
 

@@ -14,59 +14,45 @@ use Rattle.sweep.proofs.begin.begin.Reads as begin-reads
 use Rattle.sweep.proofs.begin.clear.Reads as clear-reads
 use Rattle.convert.proofs.wide.Reads as wide-reads
 
--- src/run.rt:61:18
 cast-stages : tie.Need-cast-stages
 cast-stages c = search needs
 
--- src/run.rt:62:17
 add-width : tie.Need-add-width
 add-width c = omega (arith, few-nodes _ _ _ _ _ _ _ (c .before .before .before .before .before .pre .0 .tables))
 
--- src/run.rt:63:17
 cast-start : tie.Need-cast-start
 cast-start c = search needs
 
--- src/run.rt:64:18
 mul-clear : tie.Need-mul-clear
 mul-clear c = search needs
 
--- src/run.rt:64:5
 clear-requires : tie.Need-clear-requires
 clear-requires c κs = search needs
 
--- src/run.rt:65:21
 mul-wide : tie.Need-mul-wide
 mul-wide c = search needs
 
--- src/run.rt:65:21
 element-copy-out-wide : tie.Need-element-copy-out-wide
 element-copy-out-wide c = search needs
 
--- src/run.rt:65:9
 wide-requires : tie.Need-wide-requires
 wide-requires c κs = search needs
 
--- src/run.rt:66:5
 begin-requires : tie.Need-begin-requires
 begin-requires c κs = begin-fits _ _ _ _ _ _ _ _ _ (c .before .before .before .before .before .before .before .before .before .before .before .before .before .before .before .pre .0) _ _ _ _ (c .before .before .before .before .before .before .before .before .before .before .before .before .before .before .before .pre .1 .0) (c .before .before .before .before .before .before .before .before .before .before .before .before .before .before .before .pre .1 .1) _ (c .before .before .before .before .before .before .before .clear .ensures) _ (c .before .before .before .wide .ensures .0)
 
--- src/run.rt:67:5
 relax-rows-requires : tie.Need-relax-rows-requires
 relax-rows-requires c κs = begun-row _ _ _ _ _ _ _ _ _ (c .before .before .before .before .before .before .before .before .before .before .before .before .before .before .before .before .before .before .before .before .before .before .before .before .pre .0) _ _ _ _ (c .before .before .before .before .before .before .before .before .before .before .before .before .before .before .before .before .before .before .before .before .before .before .before .before .pre .1 .0) (c .before .before .before .before .before .before .before .before .before .before .before .before .before .before .before .before .before .before .before .before .before .before .before .before .pre .1 .1) _ (c .before .before .before .before .before .before .before .before .before .before .before .before .before .before .before .before .clear .ensures) _ (c .before .before .before .before .before .before .before .before .before .before .before .before .wide .ensures .0) _ _ _ (c .before .before .before .before .before .before .before .before .begin .ensures)
 
--- src/run.rt:42:1
 same-length : tie.Need-same-length
 same-length c = search needs
 
--- src/run.rt:42:1
 same-length-2 : tie.Need-same-length-2
 same-length-2 c = search needs
 
--- src/run.rt:42:1
 same-length-3 : tie.Need-same-length-3
 same-length-3 c = search needs
 
--- src/run.rt:42:1
 returns : tie.Need-returns
 returns c = swept-is _ _ _ _ _ _ _ _ _ (c .before .before .before .before .before .before .before .before .before .before .before .before .before .before .before .before .before .before .before .before .before .before .before .before .before .before .before .before .before .before .before .pre .0) _ _ _ _ (c .before .before .before .before .before .before .before .before .before .before .before .before .before .before .before .before .before .before .before .before .before .before .before .before .before .before .before .before .before .before .before .pre .1 .0) (c .before .before .before .before .before .before .before .before .before .before .before .before .before .before .before .before .before .before .before .before .before .before .before .before .before .before .before .before .before .before .before .pre .1 .1) _ (c .before .before .before .before .before .before .before .before .before .before .before .before .before .before .before .before .before .before .before .before .before .before .before .clear .ensures) _ (c .before .before .before .before .before .before .before .before .before .before .before .before .before .before .before .before .before .before .before .wide .ensures .0) _ _ _ (c .before .before .before .before .before .before .before .before .before .before .before .before .before .before .before .begin .ensures) _ (c .before .before .before .before .before .before .relax-rows .ensures)
 

@@ -15,31 +15,24 @@ Inv-loop file₀ nodes count i₀ file i = length file ≡ length file₀
 abbrev μ-loop : tie.MeasureT-loop
 μ-loop file₀ nodes count i₀ file i = count - i
 
--- src/files.rt:111:5
 loop-holds : tie.Need-loop-holds Inv-loop μ-loop
 loop-holds c = search needs
 
--- src/files.rt:112:9
 put-listed-node-requires : tie.Need-put-listed-node-requires Inv-loop μ-loop
 put-listed-node-requires c κs = search needs
 
--- src/files.rt:113:9
 add-i : tie.Need-add-i Inv-loop μ-loop
 add-i c = search needs
 
--- src/files.rt:111:5
 loop-less : tie.Need-loop-less Inv-loop μ-loop
 loop-less c = search needs
 
--- src/files.rt:111:5
 loop-again : tie.Need-loop-again Inv-loop μ-loop
 loop-again c = search needs
 
--- src/files.rt:109:1
 same-length : tie.Need-same-length Inv-loop μ-loop
 same-length c = search needs
 
--- src/files.rt:109:1
 returns : tie.Need-returns Inv-loop μ-loop
 returns c = search needs
 

@@ -15,31 +15,24 @@ Inv-loop file₀ steps count e₀ file e = length file ≡ length file₀
 abbrev μ-loop : tie.MeasureT-loop
 μ-loop file₀ steps count e₀ file e = count - e
 
--- src/files.rt:102:5
 loop-holds : tie.Need-loop-holds Inv-loop μ-loop
 loop-holds c = search needs
 
--- src/files.rt:103:9
 put-listed-step-requires : tie.Need-put-listed-step-requires Inv-loop μ-loop
 put-listed-step-requires c κs = search needs
 
--- src/files.rt:104:9
 add-e : tie.Need-add-e Inv-loop μ-loop
 add-e c = search needs
 
--- src/files.rt:102:5
 loop-less : tie.Need-loop-less Inv-loop μ-loop
 loop-less c = search needs
 
--- src/files.rt:102:5
 loop-again : tie.Need-loop-again Inv-loop μ-loop
 loop-again c = search needs
 
--- src/files.rt:100:1
 same-length : tie.Need-same-length Inv-loop μ-loop
 same-length c = search needs
 
--- src/files.rt:100:1
 returns : tie.Need-returns Inv-loop μ-loop
 returns c = search needs
 

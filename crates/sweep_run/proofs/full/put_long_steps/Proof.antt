@@ -15,31 +15,24 @@ Inv-loop file₀ e₀ file e = length file ≡ length file₀
 abbrev μ-loop : tie.MeasureT-loop
 μ-loop file₀ e₀ file e = 1024 - e
 
--- src/full.rt:33:5
 loop-holds : tie.Need-loop-holds Inv-loop μ-loop
 loop-holds c = search needs
 
--- src/full.rt:34:9
 put-long-step-requires : tie.Need-put-long-step-requires Inv-loop μ-loop
 put-long-step-requires c κs = search needs
 
--- src/full.rt:35:9
 add-e : tie.Need-add-e Inv-loop μ-loop
 add-e c = search needs
 
--- src/full.rt:33:5
 loop-less : tie.Need-loop-less Inv-loop μ-loop
 loop-less c = search needs
 
--- src/full.rt:33:5
 loop-again : tie.Need-loop-again Inv-loop μ-loop
 loop-again c = search needs
 
--- src/full.rt:31:1
 same-length : tie.Need-same-length Inv-loop μ-loop
 same-length c = search needs
 
--- src/full.rt:31:1
 returns : tie.Need-returns Inv-loop μ-loop
 returns c = search needs
 

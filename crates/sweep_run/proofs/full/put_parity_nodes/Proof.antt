@@ -15,31 +15,24 @@ Inv-loop file₀ count i₀ file i = length file ≡ length file₀
 abbrev μ-loop : tie.MeasureT-loop
 μ-loop file₀ count i₀ file i = count - i
 
--- src/full.rt:54:5
 loop-holds : tie.Need-loop-holds Inv-loop μ-loop
 loop-holds c = search needs
 
--- src/full.rt:55:9
 put-parity-node-requires : tie.Need-put-parity-node-requires Inv-loop μ-loop
 put-parity-node-requires c κs = search needs
 
--- src/full.rt:56:9
 add-i : tie.Need-add-i Inv-loop μ-loop
 add-i c = search needs
 
--- src/full.rt:54:5
 loop-less : tie.Need-loop-less Inv-loop μ-loop
 loop-less c = search needs
 
--- src/full.rt:54:5
 loop-again : tie.Need-loop-again Inv-loop μ-loop
 loop-again c = search needs
 
--- src/full.rt:52:1
 same-length : tie.Need-same-length Inv-loop μ-loop
 same-length c = search needs
 
--- src/full.rt:52:1
 returns : tie.Need-returns Inv-loop μ-loop
 returns c = search needs
 

@@ -15,47 +15,36 @@ Inv-loop work first fill count₀ i₀ t6 count i = count ≤ i
 abbrev μ-loop : tie.MeasureT-loop
 μ-loop work first fill count₀ i₀ t6 count i = length work - i
 
--- src/show.rt:96:5
 loop-holds : tie.Need-loop-holds Inv-loop μ-loop
 loop-holds c = search needs
 
--- src/show.rt:97:31
 mul-one-if-other : tie.Need-mul-one-if-other Inv-loop μ-loop
 mul-one-if-other c = search needs
 
--- src/show.rt:97:31
 shared-slice-read-one-if-other : tie.Need-shared-slice-read-one-if-other Inv-loop μ-loop
 shared-slice-read-one-if-other c = search needs
 
--- src/show.rt:97:18
 one-if-other-requires : tie.Need-one-if-other-requires Inv-loop μ-loop
 one-if-other-requires c κs = search needs
 
--- src/show.rt:97:9
 add-count : tie.Need-add-count Inv-loop μ-loop
 add-count c = search needs
 
--- src/show.rt:98:9
 add-i : tie.Need-add-i Inv-loop μ-loop
 add-i c = search needs
 
--- src/show.rt:96:5
 loop-less : tie.Need-loop-less Inv-loop μ-loop
 loop-less c = search needs
 
--- src/show.rt:96:5
 loop-again : tie.Need-loop-again Inv-loop μ-loop
 loop-again c = search needs
 
--- src/show.rt:100:12
 slice-aggregate-number : tie.Need-slice-aggregate-number Inv-loop μ-loop
 slice-aggregate-number c = search needs
 
--- src/show.rt:100:5
 number-requires : tie.Need-number-requires Inv-loop μ-loop
 number-requires c κs = search needs
 
--- src/show.rt:93:1
 returns : tie.Need-returns Inv-loop μ-loop
 returns c = search needs
 

@@ -15,47 +15,36 @@ Inv-loop plan first fill count₀ i₀ t6 count i = count ≤ i
 abbrev μ-loop : tie.MeasureT-loop
 μ-loop plan first fill count₀ i₀ t6 count i = length plan - i
 
--- src/show.rt:107:5
 loop-holds : tie.Need-loop-holds Inv-loop μ-loop
 loop-holds c = search needs
 
--- src/show.rt:108:31
 mul-one-if-short : tie.Need-mul-one-if-short Inv-loop μ-loop
 mul-one-if-short c = search needs
 
--- src/show.rt:108:31
 shared-slice-read-one-if-short : tie.Need-shared-slice-read-one-if-short Inv-loop μ-loop
 shared-slice-read-one-if-short c = search needs
 
--- src/show.rt:108:18
 one-if-short-requires : tie.Need-one-if-short-requires Inv-loop μ-loop
 one-if-short-requires c κs = search needs
 
--- src/show.rt:108:9
 add-count : tie.Need-add-count Inv-loop μ-loop
 add-count c = search needs
 
--- src/show.rt:109:9
 add-i : tie.Need-add-i Inv-loop μ-loop
 add-i c = search needs
 
--- src/show.rt:107:5
 loop-less : tie.Need-loop-less Inv-loop μ-loop
 loop-less c = search needs
 
--- src/show.rt:107:5
 loop-again : tie.Need-loop-again Inv-loop μ-loop
 loop-again c = search needs
 
--- src/show.rt:111:12
 slice-aggregate-number : tie.Need-slice-aggregate-number Inv-loop μ-loop
 slice-aggregate-number c = search needs
 
--- src/show.rt:111:5
 number-requires : tie.Need-number-requires Inv-loop μ-loop
 number-requires c κs = search needs
 
--- src/show.rt:104:1
 returns : tie.Need-returns Inv-loop μ-loop
 returns c = search needs
 
