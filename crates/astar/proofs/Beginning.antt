@@ -2,30 +2,23 @@
 -- Assumes nothing.
 use Prim.Native.Nat.{ℕ, _+_, _*_, _≤_, _<_}
 use mathlib.Core.Path.{_≡_, refl, sym, _∙_, ap, subst}
-use mathlib.Core.Bool.{Bool, true, false}
 use mathlib.Core.List.{List}
 use native.Mathlib.Omega.{arith}
-use lib.ListN.{length, getD, set, drop}
+use lib.ListN.{length, set, drop}
 use lib.Seq.{drop-set-lt}
 use native.Mathlib.Nat.{mul-le-mul-right}
 use Rattle.queue.specs.declared.Counts.{Counts}
 use Rattle.queue.specs.Queue.{Contains, Queue, Empty, Inserted}
 use Rattle.queue.proofs.Facts.{queue-empty, contains-none}
-use Rattle.definitions.specs.Charts.{Chart}
-use Rattle.definitions.specs.Diagrams.{Diagram}
-use Rattle.definitions.specs.Ways.{Graph}
-use Rattle.definitions.specs.Pairs.{Automaton, Estimate}
-use Rattle.definitions.specs.Limits.{Valid, Sound}
+use Rattle.definitions.specs.Limits.{Sound}
 use Rattle.theory.specs.Basics.{either, same-or-not}
 use Rattle.theory.specs.Pairs.{pair-inside}
-use Rattle.theory.specs.Product.{startPair}
 use Rattle.checks.specs.declared.Shape.{Shape}
 use Rattle.checks.specs.Tables.{chartIn, diagramIn, Tables}
 use Rattle.checks.specs.Ready.{graphIn, automatonIn, width-is, sound-in, few-stages, few-nodes}
 use Rattle.guided_model.specs.Charts.{Running, NoneSettled, running-start, running-empty}
-use Rattle.expand.specs.Tables.{estimateIn, pairsIn}
-use Rattle.astar.specs.declared.turns.Ended.{Ended}
-use Rattle.astar.specs.Search.{Begun, Past, Searched}
+use Rattle.expand.specs.Tables.{pairsIn}
+use Rattle.astar.specs.Search.{Begun, Past}
 
 pub record Turning (z : Shape) (from to cost step lo hi : List ℕ) (p : ℕ) (keys₀ via₀ heap₀ pos₀ stack₀ log₀ keys via heap pos stack log : List ℕ) (c : Counts) (count : ℕ) : Type 0 where
   pub queue : Queue keys heap pos stack p c

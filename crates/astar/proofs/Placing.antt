@@ -7,7 +7,6 @@ use mathlib.Core.List.{List}
 use lib.Dec.{eqb}
 use lib.ListN.{getD}
 use borrow.Author.Tests.{eq-eqb, ne-eqb}
-use Rattle.definitions.specs.Basics.{pick}
 use Rattle.theory.specs.Basics.{pick-true, pick-false}
 use Rattle.astar.specs.Places.{stageAt, Placed}
 

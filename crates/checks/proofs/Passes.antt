@@ -1,12 +1,11 @@
 -- What is known where both files passed, and one law for each answer of `load`.
 -- Assumes nothing.
 use Prim.Native.Nat.{ℕ, _+_, _-_, _*_, _≤_, _<_}
-use mathlib.Core.Path.{_≡_, refl, sym, _∙_, ap, ap₂, subst}
-use mathlib.Core.Bool.{Bool, true, false, _&&_}
+use mathlib.Core.Path.{_≡_, sym, _∙_, ap, ap₂, subst}
+use mathlib.Core.Bool.{true}
 use mathlib.Core.List.{List, [], _∷_}
 use native.Mathlib.Omega.{arith}
 use native.Mathlib.Nat.{mul-le-mul-right}
-use lib.Dec.{leb}
 use lib.ListN.{length}
 use borrow.Author.Tests.{le-leb, lt-leb}
 use Rattle.definitions.specs.Charts.{Chart, ChartStep, readChart}
@@ -15,9 +14,8 @@ use Rattle.definitions.specs.Diagrams.{Diagram, InnerNode, readDiagram}
 use Rattle.definitions.specs.Diagrams as diagrams
 use Rattle.definitions.specs.Plans.{graph}
 use Rattle.definitions.specs.Limits.{Valid, Sound}
-use Rattle.definitions.specs.Answers.{Load, ready, refused, load, spaceFits, workNeed}
+use Rattle.definitions.specs.Answers.{load, spaceFits, workNeed}
 use Rattle.chart.specs.Tables as chart
-use Rattle.chart.specs.Held.{held-count}
 use Rattle.chart.specs.Accepted.{chart-accepted}
 use Rattle.chart.specs.declared.reader.ChartRead.{ChartRead}
 use Rattle.diagram.specs.Tables as diagram
@@ -25,7 +23,7 @@ use Rattle.diagram.specs.Files as files
 use Rattle.diagram.specs.Held.{held-tables}
 use Rattle.diagram.specs.Accepted.{diagram-accepted}
 use Rattle.diagram.specs.declared.reader.DiagramRead.{DiagramRead}
-use Rattle.checks.specs.Tables.{Room, Tables, LoadsAs, chartIn, diagramIn}
+use Rattle.checks.specs.Tables.{Tables, LoadsAs, chartIn, diagramIn}
 use Rattle.checks.specs.Outcome.{chart-refuses, rules-refuse, space-refuses, all-ready}
 use Rattle.checks.specs.declared.Shape.{Shape}
 use Rattle.checks.specs.declared.Loaded.{Loaded}

@@ -1,17 +1,17 @@
 -- One law for each way the checks end, and how several work slices are judged by the shortest.
 -- Assumes nothing.
-use Prim.Native.Nat.{ℕ, _+_, _-_, _*_, _≤_, _<_, min}
+use Prim.Native.Nat.{ℕ, _-_, _≤_, min}
 use mathlib.Core.Path.{_≡_, refl, sym, _∙_, ap, ap₂}
-use mathlib.Core.Bool.{Bool, true, false, not, _&&_, cond}
+use mathlib.Core.Bool.{Bool, true, false, not, cond}
 use mathlib.Core.List.{List, [], _∷_}
 use native.Mathlib.Omega.{arith}
-use lib.Dec.{leb, eqb}
+use lib.Dec.{leb}
 use lib.ListN.{length}
 use borrow.Author.Tests.{le-leb, lt-leb, eq-eqb, ne-eqb, leb-true, leb-false, not-false}
-use Rattle.definitions.specs.Basics.{pick, every}
+use Rattle.definitions.specs.Basics.{every}
 use Rattle.definitions.specs.Charts.{Chart, readChart}
 use Rattle.definitions.specs.Diagrams.{Diagram, readDiagram}
-use Rattle.definitions.specs.Answers.{Load, ready, refused, load, workNeed, planNeed, spaceFits}
+use Rattle.definitions.specs.Answers.{ready, refused, load, workNeed, planNeed, spaceFits}
 use Rattle.theory.specs.Basics.{pick-true, pick-false, pick-cases, either, both}
 
 module _ (s t : List ℕ) (works : List ℕ) (plan : ℕ) where

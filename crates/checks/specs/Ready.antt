@@ -1,19 +1,18 @@
 -- All tables that a search walks, and what they say of the chart and the diagram, by index.
 -- Assumes nothing.
-use Prim.Native.Nat.{ℕ, suc, _+_, _*_, _≤_, _<_}
-use mathlib.Core.Path.{_≡_, refl, sym, _∙_, ap, subst}
+use Prim.Native.Nat.{ℕ, _+_, _*_, _≤_, _<_}
+use mathlib.Core.Path.{_≡_, sym, _∙_, ap, subst}
 use mathlib.Core.List.{List}
 use native.Mathlib.Omega.{arith}
 use lib.ListN.{length, getD}
-use Rattle.definitions.specs.Charts.{Chart}
-use Rattle.definitions.specs.Diagrams.{Diagram, size}
+use Rattle.definitions.specs.Diagrams.{size}
 use Rattle.definitions.specs.Ways.{Graph}
 use Rattle.definitions.specs.Pairs.{Automaton}
 use Rattle.definitions.specs.Plans.{graph, automaton}
-use Rattle.definitions.specs.Limits.{Valid, Sound}
+use Rattle.definitions.specs.Limits.{Sound}
 use Rattle.theory.specs.Pairs.{Lawful, lawful}
 use Rattle.chart.specs.Held.{held-count, held-from, held-to, held-cost}
-use Rattle.chart.specs.FirstSteps.{FirstTable, Firsts, firstStep, first-leaves, leaves-first, first-inside, first-rises}
+use Rattle.chart.specs.FirstSteps.{FirstTable, Firsts, first-leaves, leaves-first, first-inside, first-rises}
 use Rattle.chart.specs.HeldGraph.{held-firsts}
 use Rattle.diagram.specs.Held.{length-held}
 use Rattle.rows.specs.Rows.{rowStarts, row-at}

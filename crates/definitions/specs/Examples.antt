@@ -6,8 +6,8 @@ use mathlib.Core.List.{List, [], _∷_, _++_}
 use lib.ListN.{take}
 use Rattle.definitions.specs.Basics.{pick, each}
 use Rattle.definitions.specs.Fields.{fieldAt, onField, scan, fieldBytes, refusedField}
-use Rattle.definitions.specs.Charts.{Chart, ChartStep, ChartRead, headFault, stepFault, readChart}
-use Rattle.definitions.specs.Diagrams.{Diagram, InnerNode, DiagramRead, nodeFault, readDiagram}
+use Rattle.definitions.specs.Charts.{Chart, ChartStep, headFault, stepFault, readChart}
+use Rattle.definitions.specs.Diagrams.{InnerNode, nodeFault, readDiagram}
 use Rattle.definitions.specs.Answers.{Load, ready, refused, load}
 use Rattle.definitions.specs.Marked.{st, nd, chart, rules}
 

@@ -2,9 +2,9 @@
 -- Left free are which of several cheapest plans is given, and so its length; the order of equal sums in the log and, through that alone, which pairs with a sum
 -- equal to the plan's cost stand in it and so its count; and the entries that `Scratch` names.
 -- Assumes nothing.
-use Prim.Native.Nat.{ℕ, zero, suc, _+_, _-_, _≤_, _<_}
+use Prim.Native.Nat.{ℕ, suc, _+_, _-_, _≤_, _<_}
 use mathlib.Core.Path.{_≡_}
-use mathlib.Core.Bool.{Bool, true, false}
+use mathlib.Core.Bool.{Bool}
 use mathlib.Core.List.{List, _++_, map, List·Memᴰ}
 use mathlib.Core.Option.{Option, none, some}
 use lib.Dec.{eqb}

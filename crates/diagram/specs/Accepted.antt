@@ -17,8 +17,6 @@ use Rattle.definitions.specs.declared.Field.{Field}
 use Rattle.definitions.specs.declared.Field.the-variants.{Absent, Faulty, Whole}
 use Rattle.fields.specs.Scans.{scan-keeps}
 use Rattle.theory.specs.Basics.{either, lt-or-le, Order, less, same, more, order}
-use Rattle.diagram.specs.Tables.{Held}
-use Rattle.diagram.specs.Files.{Filled}
 use Rattle.diagram.specs.Limits.{Child, node-fits}
 
 abbrev diagram : ℕ → List InnerNode → Diagram
@@ -133,10 +131,3 @@ from-field s steps (Whole a b) e = rooted (two (part s a b) 0) steps (scanNodes 
 pub diagram-accepted : (s : List ℕ) (steps : ℕ) → readDiagram s steps .number ≡ 0 → Sound steps (readDiagram s steps .diagram)
 unfolding readDiagram
 diagram-accepted s steps = from-field s steps (fieldAt s 0 17 2)
-
--- and it stands in the tables that the reader leaves
-pub accepted-held : (s : List ℕ) (steps : ℕ) (step lo hi step′ lo′ hi′ : List ℕ) → readDiagram s steps .number ≡ 0
-    → Filled (readDiagram s steps .diagram .nodes) step lo hi step′ lo′ hi′ → Held (readDiagram s steps .diagram) step′ lo′ hi′
-accepted-held s steps step lo hi step′ lo′ hi′ e f =
-    let a = diagram-accepted s steps e in
-    record { ordered = a .ordered; few = a .few; nodes = f .held; marked = f .marked }

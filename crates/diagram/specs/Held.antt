@@ -57,9 +57,6 @@ module _ (count : ℕ) (step lo hi : List ℕ) (x : InnerNode) (room : Room step
   held-grown = grown (λ (i : ℕ). entry step lo hi (i + 2)) (λ (i : ℕ). stored (i + 2)) count x stored-before stored-here
 
 module _ (d : Diagram) (step lo hi : List ℕ) (held : Held d step lo hi) where
-  pub held-is : d ≡ heldDiagram (d .root) (length (d .nodes)) step lo hi
-  held-is = ap (λ (l : List InnerNode). record { root = d .root; nodes = l }) (sym (held .nodes))
-
   module _ (n : ℕ) (h : 2 ≤ n) (l : n < size d) where
     pub held-inner : inner d n ≡ entry step lo hi n
     held-inner = ap (λ (x : List InnerNode). getD x (n - 2) noNode) (sym (held .nodes)) ∙ getD-held (length (d .nodes)) step lo hi n h l

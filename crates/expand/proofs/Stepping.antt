@@ -1,7 +1,7 @@
 -- One step from a pair that is settled: where it leads, what it offers, and what `offer` leaves.
 -- Assumes nothing.
 use Prim.Native.Nat.{ℕ, _+_, _*_, _≤_, _<_}
-use mathlib.Core.Path.{_≡_, refl, sym, _∙_, ap, ap₂}
+use mathlib.Core.Path.{_≡_, sym, _∙_, ap, ap₂}
 use mathlib.Core.List.{List}
 use mathlib.Core.Option.{some, none}
 use native.Mathlib.Omega.{arith}
@@ -27,7 +27,7 @@ use Rattle.guided_model.specs.Moves.{Offerable, offerable, Relaxed, expanded-no
 use Rattle.guided_model.specs.Settling.{Target, target}
 use Rattle.guided_model.specs.Charts.{guide}
 use Rattle.expand.specs.Estimates.{PairEstimate}
-use Rattle.expand.specs.Tables.{estimateIn, pairsIn}
+use Rattle.expand.specs.Tables.{estimateIn}
 use Rattle.expand.specs.Kept.{Kept, kept-same}
 use Rattle.expand.specs.Opening.{Opening, Opened}
 

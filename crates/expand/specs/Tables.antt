@@ -1,9 +1,8 @@
 -- What the steps from a pair are walked by: the chart, the diagram, the row starts and the estimates, each in tables; and which node a step leads to.
 -- Assumes nothing.
-use Prim.Native.Nat.{ℕ, _+_, _*_, _≤_, _<_}
+use Prim.Native.Nat.{ℕ, _+_, _*_}
 use mathlib.Core.Path.{_≡_}
 use mathlib.Core.List.{List}
-use lib.ListN.{length, getD}
 use Rattle.definitions.specs.Pairs.{Estimate}
 use Rattle.definitions.specs.Plans.{estimate}
 use Rattle.rows.specs.Rows.{rowStarts}

@@ -1,5 +1,4 @@
 // One offer of a key to a pair.
-ghost use mathlib.Core.Path.{_≡_};
 ghost use Prim.Native.Nat.{_≤_, _<_};
 ghost use lib.ListN.{length};
 ghost use Rattle.queue.specs.Queue.{Contains, Queue};

@@ -1,7 +1,7 @@
 -- From the cleared keys to the plan: what the search needs, and that its end is the promised one.
 -- Assumes nothing.
 use Prim.Native.Nat.{ℕ, _+_, _-_, _*_, _≤_, _<_}
-use mathlib.Core.Path.{_≡_, refl, sym, _∙_, ap, ap₂, subst}
+use mathlib.Core.Path.{_≡_, refl, sym, _∙_, ap, subst}
 use mathlib.Core.Bool.{Bool, true, false}
 use mathlib.Core.List.{List, [], _∷_, _++_}
 use mathlib.Core.Option.{Option, none, some}
@@ -14,15 +14,13 @@ use Rattle.definitions.specs.Diagrams.{Diagram, size}
 use Rattle.definitions.specs.Ways.{wayCost}
 use Rattle.definitions.specs.Plans.{graph, Legal, cheapest}
 use Rattle.definitions.specs.Answers.{refusal, accepted}
-use Rattle.definitions.specs.Promises.{Outcome, Planned, Logged}
+use Rattle.definitions.specs.Promises.{Outcome, Logged}
 use Rattle.definitions.specs.declared.Answer.{Answer}
-use Rattle.theory.specs.Product.{startPair}
 use Rattle.trace.specs.Trails.{Trail, begin, more, Traceable, LongAs, Written}
 use Rattle.checks.specs.declared.Shape.{Shape}
 use Rattle.checks.specs.Tables.{chartIn, diagramIn}
 use Rattle.checks.specs.Ready.{graphIn, automatonIn, width-is, few-stages, few-nodes, row-start}
-use Rattle.guided_model.specs.State.{Guide}
-use Rattle.guided_model.specs.Charts.{GoalSettled, NoneSettled, guide}
+use Rattle.guided_model.specs.Charts.{GoalSettled, guide}
 use Rattle.expand.specs.Tables.{estimateIn, pairsIn}
 use Rattle.astar.specs.declared.turns.Ended.{Ended}
 use Rattle.guided.specs.Clears.{Cleared}

@@ -1,27 +1,21 @@
 -- From the outcome of the checks to the promise of `guided`.
 -- Assumes nothing.
-use Prim.Native.Nat.{ℕ, _+_, _-_, _*_, _≤_, _<_, min}
-use mathlib.Core.Path.{_≡_, refl, sym, _∙_, ap, ap₂, subst, subst₂}
-use mathlib.Core.Bool.{Bool, true, false, not, cond, _&&_}
+use Prim.Native.Nat.{ℕ, _+_, _-_, _*_, _≤_, min}
+use mathlib.Core.Path.{_≡_, refl, sym, _∙_, ap, ap₂, subst₂}
 use mathlib.Core.List.{List, [], _∷_}
 use native.Mathlib.Omega.{arith}
-use lib.Dec.{leb}
 use lib.ListN.{length, drop}
-use borrow.Author.Tests.{leb-true}
-use Rattle.definitions.specs.Basics.{pick, every}
-use Rattle.definitions.specs.Charts.{Chart, readChart}
-use Rattle.definitions.specs.Diagrams.{Diagram, size, readDiagram}
-use Rattle.definitions.specs.Answers.{Load, ready, refused, load, workNeed, planNeed, spaceFits, refusal}
+use Rattle.definitions.specs.Charts.{Chart}
+use Rattle.definitions.specs.Diagrams.{Diagram, size}
+use Rattle.definitions.specs.Answers.{Load, ready, refused, load, workNeed, refusal}
 use Rattle.definitions.specs.Promises.{Guided, Scratch}
 use Rattle.definitions.specs.declared.Answer.{Answer}
-use Rattle.theory.specs.Basics.{either, both, pick-cases}
-use Rattle.checks.specs.declared.Shape.{Shape}
 use Rattle.checks.specs.declared.Loaded.{Loaded}
 use Rattle.checks.specs.Tables.{chartIn, diagramIn, Tables, LoadsAs}
 use Rattle.checks.specs.Ready.{width-is}
 use Rattle.checks.specs.Outcome.{load-shorter, ready-space}
 use Rattle.expand.specs.Tables.{pairsIn}
-use Rattle.guided.specs.Runs.{Space, Promised}
+use Rattle.guided.specs.Runs.{Promised}
 
 -- ---- six work slices are judged by the shortest
 

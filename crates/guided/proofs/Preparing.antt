@@ -1,12 +1,11 @@
 -- The tables of the search, from those of the chart and the diagram.
 -- Assumes nothing.
 use Prim.Native.Nat.{ℕ, _+_, _-_, _≤_, _<_}
-use mathlib.Core.Path.{_≡_, refl, sym, _∙_}
+use mathlib.Core.Path.{_≡_, refl}
 use mathlib.Core.Bool.{Bool}
 use mathlib.Core.List.{List}
-use mathlib.Core.Option.{none, some}
+use mathlib.Core.Option.{some}
 use native.Mathlib.Omega.{arith}
-use lib.ListN.{length}
 use Rattle.definitions.specs.Answers.{refusal}
 use Rattle.definitions.specs.Charts.{Chart}
 use Rattle.definitions.specs.Diagrams.{Diagram, size}
@@ -26,9 +25,9 @@ use Rattle.guided_model.specs.State.{unopened}
 use Rattle.guided_model.specs.Bounds.{estimate-none, estimate-some}
 use Rattle.guided_model.specs.Charts.{NoneSettled, guide, none-begun}
 use Rattle.expand.specs.Estimates.{Estimates, PairEstimate}
-use Rattle.expand.specs.Tables.{estimateIn, pairsIn}
+use Rattle.expand.specs.Tables.{estimateIn}
 use Rattle.astar.specs.Search.{Prepared}
-use Rattle.guided.specs.Runs.{Space, Promised}
+use Rattle.guided.specs.Runs.{Promised}
 use Rattle.astar.proofs.Beginning.{sound}
 use Rattle.guided.proofs.Finding.{outcome-none}
 

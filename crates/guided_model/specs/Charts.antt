@@ -12,7 +12,7 @@ use borrow.Author.Tests.{eqb-true}
 use Rattle.definitions.specs.Charts.{Chart}
 use Rattle.definitions.specs.Diagrams.{Diagram, size}
 use Rattle.definitions.specs.Ways.{Graph, endOf, wayCost}
-use Rattle.definitions.specs.Pairs.{Automaton, Estimate, pair, pairs, toEnd, goal, leastCost}
+use Rattle.definitions.specs.Pairs.{Automaton, Estimate, pair, toEnd, goal, leastCost}
 use Rattle.definitions.specs.Plans.{graph, automaton, Legal, cheapest, chartEstimate, estimate}
 use Rattle.definitions.specs.Limits.{Valid, Sound}
 use Rattle.definitions.specs.Answers.{workNeed}

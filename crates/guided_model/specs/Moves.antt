@@ -199,9 +199,6 @@ module _ (g : Graph) (a : Automaton) (h : Estimate) where
       offered = λ e i j rest b. absurd (none-not-some rest (sym (q e i j) ∙ b));
     }
 
-    pub expanded-start : (first : ℕ) (keys via : List ℕ) (Open : ℕ → Type 0) → Expanded first first keys via Open keys via Open
-    expanded-start first keys via Open = expanded-none first first keys via Open (λ e i j. absurd (omega arith))
-
     -- one step: what it leads to has no estimate
     pub step-none : (e : ℕ) (keys via : List ℕ) (Open : ℕ → Type 0) → h (g .to e) (a .next e n) ≡ none → Expanded e (e + 1) keys via Open keys via Open
     step-none e keys via Open q =

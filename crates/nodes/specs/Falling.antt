@@ -1,6 +1,6 @@
 -- The children of a diagram that stands in the tables have lower numbers.
 -- Assumes nothing.
-use Prim.Native.Nat.{ℕ, _≤_, _<_}
+use Prim.Native.Nat.{ℕ, _<_}
 use mathlib.Core.List.{List}
 use native.Mathlib.Omega.{arith}
 use Rattle.definitions.specs.Diagrams.{Diagram, size}
@@ -20,7 +20,3 @@ module _ (d : Diagram) (step lo hi : List ℕ) (held : Held d step lo hi) (n : �
     inside = omega (arith, held .few);
     below = λ k h g. omega (arith, held-hi d step lo hi held k h (omega arith), held .ordered .hi-below k h);
   }
-
--- also from a lower node on
-pub falls-lower : (child : List ℕ) (n m : ℕ) → Falls child n → m ≤ n → Falls child m
-falls-lower child n m f l = record { inside = omega (arith, f .inside); below = λ k h g. f .below k h (omega arith) }

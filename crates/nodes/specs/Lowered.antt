@@ -34,9 +34,6 @@ module _ (d : Diagram) (o : Ordered d) where
       induction d o (λ n. P n (lowered d e n)) (λ n h. rw (lowered-leaf e n h) (leaf n h))
       (λ n h l r. either (lt-or-le (inner d n .step) e) (λ q. rw (lowered-below e n h q) (on n _ h q l)) (λ q. rw (lowered-stop e n h q) (stop n h q)))
 
-  pub lowered-le : (e n : ℕ) → lowered d e n ≤ n
-  lowered-le e = along e (λ n m. m ≤ n) (λ n h. omega arith) (λ n h q. omega arith) (λ n m h q l. omega (arith, o .lo-below n h))
-
   -- an inner node where the walk stops has a step that is not below e
   pub lowered-late : (e n : ℕ) → 2 ≤ lowered d e n → e ≤ inner d (lowered d e n) .step
   lowered-late e = along e (λ n m. 2 ≤ m → e ≤ inner d m .step) (λ n h g. absurd (omega arith)) (λ n h q g. q) (λ n m h q l. l)

@@ -1,11 +1,11 @@
 -- What one call that runs both searches promises: each search's own promise, and that they agree where all checks pass for both.
 -- Assumes nothing.
-use Prim.Native.Nat.{ℕ, _≤_}
-use mathlib.Core.Path.{_≡_, refl, sym, _∙_, ap, subst, subst₂}
+use Prim.Native.Nat.{ℕ}
+use mathlib.Core.Path.{_≡_, refl, sym, _∙_, ap, subst₂}
 use mathlib.Core.List.{List, [], _∷_}
 use lib.ListN.{length}
-use Rattle.definitions.specs.Charts.{Chart, readChart}
-use Rattle.definitions.specs.Diagrams.{Diagram, readDiagram}
+use Rattle.definitions.specs.Charts.{Chart}
+use Rattle.definitions.specs.Diagrams.{Diagram}
 use Rattle.definitions.specs.Answers.{Load, ready, refused, load, refusal, accepted}
 use Rattle.definitions.specs.Promises.{Swept, Guided, Scratch}
 use Rattle.definitions.specs.declared.Answer.{Answer}

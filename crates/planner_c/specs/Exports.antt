@@ -1,12 +1,10 @@
 -- What the exported calls promise: the promises of the calls below them, of an answer that stands in a lent array.
 -- Assumes nothing.
-use Prim.Native.Nat.{ℕ, min}
+use Prim.Native.Nat.{ℕ}
 use mathlib.Core.Path.{_≡_}
 use mathlib.Core.List.{List, [], _∷_}
 use lib.ListN.{length}
-use Rattle.definitions.specs.Answers.{load}
 use Rattle.definitions.specs.declared.Answer.{Answer}
-use Rattle.planner.specs.Both.{SweepKept, GuidedKept, AgreeOn}
 use Rattle.planner.specs.declared.space.Space.{Space}
 
 -- an answer and the space needed as arrays of numbers

@@ -1,12 +1,12 @@
 -- One law for each way out of `offer`.
 -- Assumes nothing.
 use Prim.Native.Nat.{ℕ, _+_, _≤_, _<_}
-use mathlib.Core.Path.{_≡_, refl, sym, _∙_, ap}
+use mathlib.Core.Path.{_≡_, sym, _∙_, ap}
 use mathlib.Core.List.{List}
 use lib.ListN.{getD, set}
 use borrow.Author.Tests.{le-leb, lt-leb, eq-eqb, ne-eqb}
 use Rattle.theory.specs.Basics.{pick-true, pick-false}
-use Rattle.sweep_model.specs.Model.{unreached, Rows, rows, countAt, lowered, offer}
+use Rattle.sweep_model.specs.Model.{unreached, Rows, rows, offer}
 
 module _ (base s t v mark : ℕ) (costs via nodes counts : List ℕ) where
   abbrev r : Rows

@@ -1,17 +1,16 @@
 -- The nodes of a row, and the rows, in turn: what the loops of `relax_row` and `relax_rows` keep.
 -- Assumes nothing.
-use Prim.Native.Nat.{ℕ, zero, suc, _+_, _-_, _*_, _≤_, _<_}
+use Prim.Native.Nat.{ℕ, suc, _+_, _-_, _*_, _≤_, _<_}
 use mathlib.Core.Path.{_≡_, refl, sym, _∙_, ap, ap₂, subst}
 use mathlib.Core.List.{List}
 use native.Mathlib.Omega.{arith}
 use lib.ListN.{length, getD}
 use Rattle.definitions.specs.Ways.{Graph}
-use Rattle.definitions.specs.Pairs.{Automaton, pair, pairs}
-use Rattle.theory.specs.Pairs.{Lawful, pair-inside}
+use Rattle.definitions.specs.Pairs.{Automaton}
+use Rattle.theory.specs.Pairs.{pair-inside}
 use Rattle.sweep_model.specs.Model.{unreached, Rows, costAt, nodeAt, countAt, relaxSteps, relaxNode, relaxNodes, relaxRows}
 use Rattle.sweep_model.specs.Rows.{Table, table-more, count-fits}
 use Rattle.sweep_model.specs.Sweeps.{steps-made, nodes-made}
-use Rattle.checks.specs.Tables.{Tables}
 use Rattle.checks.specs.Ready.{Ready, graphIn, automatonIn, width-is, lawful-in, few-stages, few-nodes, row-start}
 use Rattle.checks.specs.declared.Shape.{Shape}
 use Rattle.relax.specs.Standing.{Standing, Row, at}

@@ -2,30 +2,27 @@
 -- Assumes nothing.
 use Prim.Native.Nat.{ℕ, zero, suc, _+_, _-_, _*_, _≤_, _<_}
 use mathlib.Core.Path.{_≡_, refl, sym, _∙_, ap, ap₂, subst}
-use mathlib.Core.Bool.{Bool, true, false}
 use mathlib.Core.List.{List}
 use native.Mathlib.Omega.{arith}
-use native.Mathlib.Numerals.{add-one}
 use lib.Dec.{eqb}
-use lib.ListN.{length, getD}
+use lib.ListN.{getD}
 use borrow.Author.Tests.{eq-eqb, ne-eqb}
 use Rattle.definitions.specs.Basics.{pick}
 use Rattle.definitions.specs.Diagrams.{Diagram, size, advance}
 use Rattle.definitions.specs.Ways.{Graph}
-use Rattle.definitions.specs.Pairs.{Automaton, pair, pairs}
-use Rattle.theory.specs.Basics.{pick-true, pick-false, either, same-or-not}
+use Rattle.definitions.specs.Pairs.{Automaton}
+use Rattle.theory.specs.Basics.{pick-true, pick-false, either}
 use Rattle.theory.specs.Diagrams.{advance-leaf}
-use Rattle.theory.specs.Pairs.{pair-inside}
 use Rattle.trace.specs.Trails.{packed}
 use Rattle.diagram.specs.Tables.{Marked}
 use Rattle.nodes.specs.Falling.{lo-falls}
 use Rattle.nodes.specs.Walks.{lowered, Falls, Lowers, BranchesTo}
 use Rattle.nodes.specs.Lowered.{advance-lowered}
-use Rattle.sweep_model.specs.Model.{unreached, Rows, rows, costAt, countAt, offer, relaxStep, relaxSteps}
-use Rattle.sweep_model.specs.Rows.{Table, Entry, entry-low}
+use Rattle.sweep_model.specs.Model.{unreached, Rows, costAt, countAt, offer, relaxStep, relaxSteps}
+use Rattle.sweep_model.specs.Rows.{Entry, entry-low}
 use Rattle.sweep_model.specs.Offers.{pair-fits, roomy, place-fits}
 use Rattle.sweep_model.specs.Sweeps.{step-made}
-use Rattle.checks.specs.Ready.{Ready, graphIn, automatonIn, count-is, width-is, lawful-in, few-stages, few-nodes, few-steps, from-at, to-at, cost-at, first-leave, first-order, row-start}
+use Rattle.checks.specs.Ready.{graphIn, automatonIn, count-is, width-is, lawful-in, few-stages, few-nodes, few-steps, to-at, cost-at, first-leave, row-start}
 use Rattle.checks.specs.Tables.{Tables, diagramIn}
 use Rattle.checks.specs.declared.Shape.{Shape}
 use Rattle.relax.specs.Standing.{Open, Offering, stepped, Standing}

@@ -1,12 +1,11 @@
 -- Laws of `conclude`: the finished tables give the promised answer and plan.
 -- Assumes nothing.
-use Prim.Native.Nat.{ℕ, zero, suc, _+_, _-_, _*_, _≤_, _<_}
-use mathlib.Core.Path.{_≡_, refl, sym, _∙_, ap, ap₂, subst, subst₂}
-use mathlib.Core.Bool.{Bool, true, false}
-use mathlib.Core.List.{List, _++_}
+use Prim.Native.Nat.{ℕ, _+_, _-_, _*_, _≤_, _<_}
+use mathlib.Core.Path.{_≡_, sym, _∙_, ap, subst₂}
+use mathlib.Core.Bool.{Bool, false}
+use mathlib.Core.List.{List}
 use native.Mathlib.Omega.{arith}
-use lib.Dec.{eqb}
-use lib.ListN.{length, getD, drop}
+use lib.ListN.{length, getD}
 use Rattle.definitions.specs.Charts.{Chart}
 use Rattle.definitions.specs.Diagrams.{Diagram, size}
 use Rattle.definitions.specs.Ways.{Graph}
@@ -14,16 +13,14 @@ use Rattle.definitions.specs.Pairs.{Automaton, reachedPairs, pairs}
 use Rattle.definitions.specs.Answers.{refusal, accepted}
 use Rattle.definitions.specs.declared.Answer.{Answer}
 use Rattle.theory.specs.Pairs.{Lawful}
-use Rattle.rows.specs.Rows.{rowStarts}
 use Rattle.trace.specs.Trails.{Trail, Traceable, LongAs, Written}
 use Rattle.nodes.specs.Walks.{Falls, Finishing}
 use Rattle.nodes.specs.Falling.{lo-falls}
 use Rattle.diagram.specs.Held.{length-held}
 use Rattle.sweep_model.specs.Model.{unreached, Rows, rows, countAt, swept}
-use Rattle.sweep_model.specs.Rows.{Table}
 use Rattle.sweep_model.specs.Totals.{total}
 use Rattle.sweep_model.specs.Sweeps.{FirstSteps}
-use Rattle.sweep_model.specs.Result.{Fresh, final-table, final-count}
+use Rattle.sweep_model.specs.Result.{final-table, final-count}
 use Rattle.checks.specs.Tables.{Tables, chartIn, diagramIn}
 use Rattle.checks.specs.Ready.{Ready, graphIn, automatonIn, count-is, width-is, sound-in, few-stages, few-nodes, from-at, row-start, lawful-in}
 use Rattle.checks.specs.declared.Shape.{Shape}
@@ -70,9 +67,6 @@ module _ (z : Shape) (from to cost first row step lo hi costs via nodes counts :
 
   counts-is : counts ≡ r .counts
   counts-is = ap (λ (x : Rows). x .counts) (f .swept-rows)
-
-  pub small-end : z .end < 256
-  small-end = omega (arith, tb .valid .end-inside, few-stages z from to cost step lo hi tb)
 
   pub end-falls : Falls lo (z .nodes + 1)
   end-falls = lo-falls d step lo hi (tb .held) (z .nodes + 1) (omega (arith, length-held (z .nodes) step lo hi))

@@ -1,17 +1,17 @@
 -- Laws of the small functions of the sweep: what `begin` leaves, the better goal of two, and the best of a list.
 -- Assumes nothing.
-use Prim.Native.Nat.{ℕ, zero, suc, _+_, _≤_, _<_}
+use Prim.Native.Nat.{ℕ, _+_, _≤_, _<_}
 use mathlib.Core.Path.{_≡_, refl, sym, _∙_, ap, subst}
 use mathlib.Core.Bool.{Bool, true, false}
 use mathlib.Core.List.{List}
 use native.Mathlib.Omega.{arith}
 use native.Mathlib.Numerals.{add-one}
-use lib.ListN.{length, getD, set}
+use lib.ListN.{getD, set}
 use borrow.Author.Tests.{eq-eqb, ne-eqb}
 use Rattle.theory.specs.Basics.{pick-true, pick-false, either, lt-or-le, same-or-not, true-not-false}
 use Rattle.sweep_model.specs.Totals.{total}
 use Rattle.sweep.specs.Begin.{Begun}
-use Rattle.sweep.specs.Goals.{Better, Listed, Chosen}
+use Rattle.sweep.specs.Goals.{Better, Chosen}
 use Rattle.sweep.specs.declared.goals.Best.{Best}
 
 module _ (base start root : ℕ) (costs nodes counts : List ℕ) where

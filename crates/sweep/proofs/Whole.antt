@@ -1,16 +1,15 @@
 -- Laws of `run` and `sweep`: the parts together give the promise.
 -- Assumes nothing.
-use Prim.Native.Nat.{ℕ, _+_, _-_, _*_, _≤_, _<_, min}
-use mathlib.Core.Path.{_≡_, refl, sym, _∙_, ap, ap₂, subst}
+use Prim.Native.Nat.{ℕ, _+_, _-_, _*_, _≤_, min}
+use mathlib.Core.Path.{_≡_, refl, sym, _∙_, ap, ap₂}
 use mathlib.Core.List.{List, [], _∷_, _++_}
 use native.Mathlib.Omega.{arith}
-use lib.ListN.{length, getD, drop, replicate, length-append, length-replicate, length-drop, getD-replicate}
+use lib.ListN.{length, drop, replicate, length-replicate, getD-replicate}
 use lib.Seq.{drop-append-seam}
 use Rattle.definitions.specs.Charts.{Chart}
-use Rattle.definitions.specs.Diagrams.{Diagram, size}
+use Rattle.definitions.specs.Diagrams.{Diagram}
 use Rattle.definitions.specs.Ways.{Graph}
-use Rattle.definitions.specs.Pairs.{Automaton, pairs, reachedPairs}
-use Rattle.definitions.specs.Plans.{graph, automaton, cheapest}
+use Rattle.definitions.specs.Pairs.{Automaton, pairs}
 use Rattle.definitions.specs.Answers.{Load, ready, refused, load, workNeed, planNeed, refusal}
 use Rattle.definitions.specs.Promises.{Swept, Scratch, leastCosts}
 use Rattle.definitions.specs.declared.Answer.{Answer}

@@ -1,32 +1,30 @@
 -- What the finished tables say of the plan: the cheapest goal pair of the end stage's row is that of a cheapest legal plan, and its trail is such a plan.
 -- Assumes nothing.
-use Prim.Native.Nat.{ℕ, zero, suc, _+_, _-_, _*_, _≤_, _<_}
+use Prim.Native.Nat.{ℕ, _+_, _-_, _*_, _≤_, _<_}
 use mathlib.Core.Path.{_≡_, refl, sym, _∙_, ap, ap₂, subst}
 use mathlib.Core.Bool.{Bool, true, false}
-use mathlib.Core.List.{List, [], _∷_, _++_}
+use mathlib.Core.List.{List, _++_}
 use mathlib.Core.Option.{Option, none, some}
 use native.Mathlib.Omega.{arith}
-use lib.Dec.{eqb}
-use lib.ListN.{length, getD, take, drop, length-append}
+use lib.ListN.{length, getD, take, drop}
 use lib.Seq.{take-append-seam, drop-append-seam}
 use Rattle.definitions.specs.Charts.{Chart}
-use Rattle.definitions.specs.Diagrams.{Diagram, size, finish}
+use Rattle.definitions.specs.Diagrams.{Diagram, size}
 use Rattle.definitions.specs.Ways.{Graph, wayCost}
-use Rattle.definitions.specs.Pairs.{Automaton, pair, pairs, leastCost, goal, reached, reachedPairs}
+use Rattle.definitions.specs.Pairs.{Automaton, pair, leastCost}
 use Rattle.definitions.specs.Plans.{graph, automaton, Legal, cheapest}
 use Rattle.definitions.specs.Limits.{Valid, Sound}
 use Rattle.definitions.specs.Answers.{refusal, accepted}
-use Rattle.definitions.specs.Promises.{shown, Outcome, Planned}
+use Rattle.definitions.specs.Promises.{shown, Outcome}
 use Rattle.definitions.specs.declared.Answer.{Answer}
-use Rattle.theory.specs.Basics.{either}
 use Rattle.theory.specs.Ways.{way-length}
-use Rattle.theory.specs.Pairs.{Lawful, lawful, WayTo, way-inside, cost-attained, cost-reached, is-goal, goal-parts, pair-inside}
+use Rattle.theory.specs.Pairs.{Lawful, lawful, way-inside, cost-attained, cost-reached, is-goal, goal-parts, pair-inside}
 use Rattle.theory.specs.Plans.{GoalCost, cheapest-some, cheapest-none, goal-legal}
 use Rattle.trace.specs.Trails.{Trail}
 use Rattle.sweep_model.specs.Model.{unreached, Rows, costAt, nodeAt, countAt, swept}
 use Rattle.sweep_model.specs.Rows.{Table, count-fits}
 use Rattle.sweep_model.specs.Sweeps.{FirstSteps}
-use Rattle.sweep_model.specs.Result.{Fresh, final-table, final-cost, final-count}
+use Rattle.sweep_model.specs.Result.{Fresh, final-table, final-cost}
 use Rattle.sweep_model.specs.Paths.{Traced, traced}
 use Rattle.sweep.specs.Goals.{Listed, Chosen}
 use Rattle.sweep.specs.declared.goals.Best.{Best}

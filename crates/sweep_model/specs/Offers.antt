@@ -1,12 +1,12 @@
 -- One offer keeps what the tables say: the pair gets the lower cost, and joins its row's list where it is new.
 -- Assumes nothing.
-use Prim.Native.Nat.{ℕ, zero, suc, _+_, _*_, _≤_, _<_}
+use Prim.Native.Nat.{ℕ, suc, _+_, _*_, _≤_, _<_}
 use mathlib.Core.Path.{_≡_, refl, sym, _∙_, ap, ap₂, subst}
 use mathlib.Core.Bool.{Bool, true, false}
 use mathlib.Core.List.{List}
 use mathlib.Core.Logic.{_⊎_, inl, inr}
 use native.Mathlib.Omega.{arith}
-use lib.Dec.{leb, ltb, eqb}
+use lib.Dec.{leb, eqb}
 use lib.ListN.{length, getD, set, drop, length-set}
 use lib.Seq.{getD-set-same, getD-set-other, drop-set-lt}
 use borrow.Author.Tests.{leb-true, leb-false, eqb-true, eqb-false, lt-ltb, le-ltb}
@@ -14,13 +14,13 @@ use Rattle.definitions.specs.Basics.{pick}
 use Rattle.definitions.specs.Ways.{Graph}
 use Rattle.definitions.specs.Pairs.{Automaton, pair, pairs}
 use Rattle.definitions.specs.Limits.{Valid}
-use Rattle.theory.specs.Basics.{either, lt-or-le, same-or-not, pick-true, pick-false}
+use Rattle.theory.specs.Basics.{either, same-or-not, pick-true, pick-false}
 use Rattle.theory.specs.Pairs.{Lawful, WayTo, way-next, pair-apart, pair-inside}
 use Rattle.theory.specs.Counting.{room}
 use Rattle.sweep_model.specs.Totals.{total, total-same, total-bump}
 use Rattle.trace.specs.Trails.{packed}
-use Rattle.sweep_model.specs.Model.{unreached, Rows, rows, costAt, nodeAt, countAt, lowered, joined, offer}
-use Rattle.sweep_model.specs.Rows.{one, Via, Entry, Table, Later, Past, later-same, past-same, entry-low, count-fits}
+use Rattle.sweep_model.specs.Model.{unreached, Rows, costAt, nodeAt, countAt, lowered, joined, offer}
+use Rattle.sweep_model.specs.Rows.{one, Entry, Table, Later, Past, later-same, past-same, entry-low, count-fits}
 
 -- what an offer leaves
 pub record Offered (g : Graph) (a : Automaton) (s to t v : ℕ) (r r′ : Rows) : Type 0 where

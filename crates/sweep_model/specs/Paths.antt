@@ -1,8 +1,8 @@
 -- The plan of a reached pair: its trail is a way from the start to it, at its cost.
 -- Assumes nothing.
 use Prim.Native.Nat.{ℕ, zero, suc, _+_, _*_, _≤_, _<_}
-use mathlib.Core.Path.{_≡_, refl, sym, _∙_, ap, ap₂, subst, subst₂}
-use mathlib.Core.List.{List, [], _∷_, _++_}
+use mathlib.Core.Path.{_≡_, refl, sym, _∙_, ap₂, subst, subst₂}
+use mathlib.Core.List.{List, [], _∷_}
 use mathlib.Core.Logic.{_⊎_, inl, inr}
 use native.Mathlib.Omega.{arith}
 use lib.ListN.{length, getD}
@@ -11,7 +11,7 @@ use Rattle.definitions.specs.Pairs.{Automaton}
 use Rattle.definitions.specs.Limits.{Valid}
 use Rattle.theory.specs.Basics.{either}
 use Rattle.theory.specs.Ways.{way-climbs}
-use Rattle.theory.specs.Pairs.{Lawful, WayTo, way-start, way-next}
+use Rattle.theory.specs.Pairs.{WayTo, way-start, way-next}
 use Rattle.trace.specs.Trails.{Trail, begin, more}
 use Rattle.sweep_model.specs.Model.{unreached, Rows, costAt}
 use Rattle.sweep_model.specs.Rows.{Via, Entry, Table}

@@ -1,6 +1,6 @@
 -- The sweep gives document 01's least costs, counts the reached pairs, and leaves for each reached pair the step by which it was reached at that cost.
 -- Assumes nothing.
-use Prim.Native.Nat.{ℕ, zero, suc, _+_, _-_, _*_, _≤_, _<_}
+use Prim.Native.Nat.{ℕ, zero, suc, _+_, _-_, _≤_, _<_}
 use mathlib.Core.Path.{_≡_, refl, sym, _∙_, ap, ap₂, subst}
 use mathlib.Core.Bool.{Bool, true, false}
 use mathlib.Core.List.{List, [], _∷_, _++_, map}
@@ -11,18 +11,18 @@ use lib.Dec.{ltb, eqb}
 use lib.ListN.{length, getD, set, take, drop, length-set, length-take, take-append-drop}
 use lib.Seq.{getD-set-same, getD-set-other, drop-set-lt, ext-getD, getD-take}
 use borrow.Author.Tests.{eqb-true, eqb-false, lt-ltb, le-ltb}
-use Rattle.definitions.specs.Basics.{pick, isSome, run, upto, keep}
+use Rattle.definitions.specs.Basics.{pick, isSome, upto}
 use Rattle.definitions.specs.Ways.{Graph, IsWay, endOf, wayCost}
 use Rattle.definitions.specs.Pairs.{Automaton, stands, pair, pairs, stageOf, nodeOf, leastCost, reached, reachedPairs}
 use Rattle.definitions.specs.Limits.{Valid}
 use Rattle.definitions.specs.Promises.{shown, leastCosts}
-use Rattle.theory.specs.Basics.{either, lt-or-le, same-or-not, pick-true, pick-false, length-map-run, getD-map-upto}
-use Rattle.theory.specs.Least.{IsLeast, least-unique}
+use Rattle.theory.specs.Basics.{either, same-or-not, pick-true, pick-false, length-map-run, getD-map-upto}
+use Rattle.theory.specs.Least.{least-unique}
 use Rattle.theory.specs.Ways.{way-bounded}
 use Rattle.theory.specs.Pairs.{Lawful, WayTo, way-start, way-inside, pair-apart, pair-inside, pair-of, nodeOf-inside, stageOf-inside, stands-dead, leastCost-zero, leastCost-least, cost-attained}
 use Rattle.sweep_model.specs.Totals.{total, total-same, total-bump, keep-total}
-use Rattle.sweep_model.specs.Model.{unreached, Rows, rows, costAt, nodeAt, countAt, relaxRows, begun, swept}
-use Rattle.sweep_model.specs.Rows.{one, Entry, Table, Past, past-same, past-trans, entry-low}
+use Rattle.sweep_model.specs.Model.{unreached, Rows, rows, costAt, nodeAt, countAt, begun, swept}
+use Rattle.sweep_model.specs.Rows.{one, Entry, Table, Past, past-same, past-trans}
 use Rattle.sweep_model.specs.Sweeps.{FirstSteps, Done, Swept, rows-made}
 
 -- tables before the sweep: no cost, empty lists; the rest is arbitrary

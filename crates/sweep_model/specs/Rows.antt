@@ -1,12 +1,11 @@
 -- What the sweep's tables say at every time, and how a later table stands to an earlier one.
 -- Assumes nothing.
-use Prim.Native.Nat.{ℕ, zero, suc, _+_, _*_, _≤_, _<_}
-use mathlib.Core.Path.{_≡_, refl, sym, _∙_, ap}
-use mathlib.Core.List.{List}
+use Prim.Native.Nat.{ℕ, _+_, _≤_, _<_}
+use mathlib.Core.Path.{_≡_, refl, _∙_}
 use mathlib.Core.Logic.{_⊎_, inl, inr}
 use native.Mathlib.Omega.{arith}
 use lib.Dec.{ltb}
-use lib.ListN.{length, getD, set, drop}
+use lib.ListN.{length, getD, drop}
 use Rattle.definitions.specs.Basics.{pick}
 use Rattle.definitions.specs.Ways.{Graph}
 use Rattle.definitions.specs.Pairs.{Automaton, pair, pairs}
@@ -80,15 +79,6 @@ module _ (g : Graph) (a : Automaton) where
     cost-same = λ t n h i. y .cost-same t n h i ∙ x .cost-same t n h i;
     node-same = λ t k h i. y .node-same t k h i ∙ x .node-same t k h i;
     count-same = λ t h. y .count-same t h ∙ x .count-same t h;
-  }
-
-  -- what holds up to row s holds up to an earlier one
-  pub later-less : (s t : ℕ) (r r′ : Rows) → t ≤ s → Later s r r′ → Later t r r′
-  later-less s t r r′ h x = record {
-    lower = x .lower;
-    cost-same = λ u n i j. x .cost-same u n (omega arith) j;
-    node-same = λ u k i j. x .node-same u k (omega arith) j;
-    count-same = λ u i. x .count-same u (omega arith);
   }
 
   pub past-same : (r : Rows) → Past r r

@@ -1,24 +1,21 @@
 -- The sweep's rows in turn: once a row is relaxed, every step from its reached pairs has been offered, and later rows change nothing of that.
 -- Assumes nothing.
 use Prim.Native.Nat.{ℕ, zero, suc, _+_, _-_, _*_, _≤_, _<_}
-use mathlib.Core.Path.{_≡_, refl, sym, _∙_, ap, ap₂, subst}
+use mathlib.Core.Path.{_≡_, refl, sym, _∙_, ap, ap₂}
 use mathlib.Core.Bool.{Bool, true, false}
-use mathlib.Core.List.{List}
-use mathlib.Core.Logic.{_⊎_, inl, inr}
 use native.Mathlib.Omega.{arith}
 use lib.Dec.{eqb}
-use lib.ListN.{length, getD, set, drop}
 use borrow.Author.Tests.{eqb-true, eqb-false}
 use Rattle.definitions.specs.Basics.{pick}
 use Rattle.definitions.specs.Ways.{Graph}
-use Rattle.definitions.specs.Pairs.{Automaton, pair, pairs}
+use Rattle.definitions.specs.Pairs.{Automaton}
 use Rattle.definitions.specs.Limits.{Valid}
-use Rattle.theory.specs.Basics.{either, lt-or-le, same-or-not}
+use Rattle.theory.specs.Basics.{either, same-or-not}
 use Rattle.theory.specs.Pairs.{Lawful}
 use Rattle.trace.specs.Trails.{packed}
 use Rattle.sweep_model.specs.Model.{unreached, Rows, costAt, nodeAt, countAt, offer, relaxStep, relaxSteps, relaxNode, relaxNodes, relaxRows}
-use Rattle.sweep_model.specs.Rows.{Table, Later, Past, later-same, later-trans, later-less, past-same, past-trans, table-more, count-fits}
-use Rattle.sweep_model.specs.Offers.{Offered, offered}
+use Rattle.sweep_model.specs.Rows.{Table, Later, Past, later-same, later-trans, past-same, past-trans, table-more, count-fits}
+use Rattle.sweep_model.specs.Offers.{offered}
 
 -- `first` gives each stage's first step: the steps from `first s` to before `first (s + 1)` are those that leave s
 pub record FirstSteps (g : Graph) (first : ℕ → ℕ) : Type 0 where

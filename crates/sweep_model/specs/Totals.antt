@@ -1,13 +1,12 @@
 -- Sums over the numbers below n, and how a count of a list's members is one.
 -- Assumes nothing.
-use Prim.Native.Nat.{ℕ, zero, suc, _+_, _≤_, _<_}
-use mathlib.Core.Path.{_≡_, refl, sym, _∙_, ap}
+use Prim.Native.Nat.{ℕ, zero, suc, _+_, _<_}
+use mathlib.Core.Path.{_≡_, refl, ap}
 use mathlib.Core.Bool.{Bool, true, false}
-use mathlib.Core.List.{List, [], _∷_}
 use native.Mathlib.Omega.{arith}
 use lib.ListN.{length}
 use Rattle.definitions.specs.Basics.{pick, keep, run, upto}
-use Rattle.theory.specs.Basics.{either, lt-or-le, same-or-not}
+use Rattle.theory.specs.Basics.{either, same-or-not}
 
 -- the sum of f below n
 unfoldable pub total : (ℕ → ℕ) → ℕ → ℕ

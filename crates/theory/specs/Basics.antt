@@ -10,7 +10,7 @@ use native.Mathlib.Omega.{arith}
 use lib.Dec.{ltb}
 use lib.ListN.{length, getD}
 use borrow.Author.Tests.{ltb-true, ltb-false}
-use Rattle.definitions.specs.Basics.{pick, smaller, larger, plus, sumOf, isSome, keep, each, run, upto, least}
+use Rattle.definitions.specs.Basics.{pick, smaller, larger, plus, sumOf, keep, each, run, upto, least}
 
 -- ---- tests
 
@@ -73,53 +73,11 @@ none-not-some x e = let z : _≡_ {A = ℕ} 0 1 = cc in omega arith
 pub some-inj : (x y : ℕ) → some x ≡ some y → x ≡ y
 some-inj x y e = cc
 
-pub isSome-some : (o : Option ℕ) → isSome o ≡ true → (x : ℕ) × (o ≡ some x)
-isSome-some none e = absurd (true-not-false (sym e))
-isSome-some (some x) e = (x, refl)
-
 -- what the operations compute to
-pub smaller-none-left : (b : Option ℕ) → smaller none b ≡ b
-unfolding smaller
-smaller-none-left b = refl
-
-pub smaller-none-right : (a : Option ℕ) → smaller a none ≡ a
-unfolding smaller
-smaller-none-right none = refl
-smaller-none-right (some x) = refl
-
-pub smaller-some : (x y : ℕ) → smaller (some x) (some y) ≡ some (min x y)
-unfolding smaller
-smaller-some x y = refl
-
-pub larger-none-left : (b : Option ℕ) → larger none b ≡ none
-unfolding larger
-larger-none-left b = refl
-
 pub larger-none-right : (a : Option ℕ) → larger a none ≡ none
 unfolding larger
 larger-none-right none = refl
 larger-none-right (some x) = refl
-
-pub larger-some : (x y : ℕ) → larger (some x) (some y) ≡ some (max x y)
-unfolding larger
-larger-some x y = refl
-
-pub plus-none : (k : ℕ) → plus k none ≡ none
-unfolding plus
-plus-none k = refl
-
-pub plus-some : (k x : ℕ) → plus k (some x) ≡ some (k + x)
-unfolding plus
-plus-some k x = refl
-
-pub sumOf-none-left : (b : Option ℕ) → sumOf none b ≡ none
-unfolding sumOf
-sumOf-none-left b = refl
-
-pub sumOf-none-right : (a : Option ℕ) → sumOf a none ≡ none
-unfolding sumOf plus
-sumOf-none-right none = refl
-sumOf-none-right (some x) = refl
 
 pub sumOf-some : (x y : ℕ) → sumOf (some x) (some y) ≡ some (x + y)
 unfolding sumOf plus

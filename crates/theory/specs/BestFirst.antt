@@ -2,11 +2,11 @@
 -- that are settled and open, g their costs so far; the key of an open state is its cost plus its estimate.
 -- Assumes nothing.
 use Prim.Native.Nat.{ℕ, _+_, _≤_, _<_}
-use mathlib.Core.Path.{_≡_, sym, _∙_}
+use mathlib.Core.Path.{_≡_}
 use mathlib.Core.Logic.{_⊎_, inl, inr}
 use mathlib.Core.Option.{Option, some}
 use native.Mathlib.Omega.{arith}
-use Rattle.theory.specs.Basics.{either, some-inj}
+use Rattle.theory.specs.Basics.{either}
 
 -- a way to a state, by its last edge, and its cost
 pub data Reach (S : Type 0) (Edge : S → S → ℕ → Type 0) (start : S) : S → ℕ → Type 0 where
@@ -122,9 +122,3 @@ module _ (S : Type 0) (Edge : S → S → ℕ → Type 0) (start : S) (h : S →
           (λ u. either (turn .still y (u .0)) (λ v. inl v) (λ v. inr (v .0, omega arith))))
           (λ q. let d′ : Edge x y c = rw q at d in
           either (turn .relaxed y c d′ hy e) (λ v. inl v) (λ v. inr (v .0, rw q (omega (arith, turn .added .1)))))
-
-  -- what is open after the turn has no smaller key than x: the sums in the log never fall
-  pub turn-rises : (y : S) (hy : ℕ) → Open′ y → h y ≡ some hy → g x + hx ≤ g′ y + hy
-  turn-rises y hy p e =
-      either (turn .opens y p) (λ t. omega (arith, small y hy (t .0) e))
-      (λ t. let u = con .step x y (t .0) (t .1) hy e in let q = some-inj hx (u .0) (sym ex ∙ u .1) in omega arith)

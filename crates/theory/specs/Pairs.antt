@@ -18,7 +18,7 @@ use Rattle.definitions.specs.Ways.{Graph, IsWay, endOf, wayCost, leastWay}
 use Rattle.definitions.specs.Pairs.{Automaton, stands, leastCost, reached, goal, pair, stageOf, nodeOf, pairs, reachedPairs, Estimate, sum}
 use Rattle.definitions.specs.Plans.{graph, automaton, variable}
 use Rattle.definitions.specs.Limits.{Valid, Sound}
-use Rattle.theory.specs.Basics.{both, pick-true, pick-false, AtMost, none-not-some, isSome-some, sumOf-some, sumOf-parts, keep-in, in-keep, run-in, in-run}
+use Rattle.theory.specs.Basics.{both, pick-true, pick-false, AtMost, none-not-some, sumOf-some, sumOf-parts, keep-in, run-in}
 use Rattle.theory.specs.Least.{IsLeast, least-of}
 use Rattle.theory.specs.Diagrams.{advance-leaf, advance-le, finish-leaf}
 use Rattle.theory.specs.Ways.{end-inside, way-bounded, leastWay-lower, leastWay-attained, snoc-way, snoc-end, snoc-cost, snoc-stands}
@@ -156,20 +156,11 @@ module _ (g : Graph) (a : Automaton) where
     unfolding reached
     way-reached s n k h w = let t = cost-lower s n k h w in ap (λ (o : Option ℕ). isSome o) (t .1)
 
-  pub reached-cost : (s n : ℕ) → reached g a s n ≡ true → (m : ℕ) × (leastCost g a s n ≡ some m)
-  unfolding reached
-  reached-cost s n t = isSome-some (leastCost g a s n) t
-
   pub cost-reached : (s n m : ℕ) → leastCost g a s n ≡ some m → reached g a s n ≡ true
   unfolding reached
   cost-reached s n m e = ap (λ (o : Option ℕ). isSome o) e
 
   -- the members of the list of reached pairs
-  pub in-reachedPairs : (p : ℕ) → List·Memᴰ p (reachedPairs g a) → (p < pairs g a) × (reached g a (stageOf a p) (nodeOf a p) ≡ true)
-  unfolding reachedPairs
-  in-reachedPairs p m =
-      let t = in-keep (λ p. reached g a (stageOf a p) (nodeOf a p)) (upto (pairs g a)) m in (omega (arith, in-run 0 (pairs g a) (t .0)), t .1)
-
   pub reachedPairs-in : (p : ℕ) → p < pairs g a → reached g a (stageOf a p) (nodeOf a p) ≡ true → List·Memᴰ p (reachedPairs g a)
   unfolding reachedPairs
   reachedPairs-in p h t =

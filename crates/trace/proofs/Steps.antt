@@ -1,13 +1,13 @@
 -- Laws of trails: how a step back shortens one, and what the loops that follow one keep.
 -- Assumes nothing.
 use Prim.Native.Nat.{ℕ, zero, suc, _+_, _-_, _*_, _/_, _%_, _≤_, _<_}
-use mathlib.Core.Path.{_≡_, refl, sym, _∙_, ap, ap₂, subst, subst₂}
+use mathlib.Core.Path.{_≡_, refl, sym, _∙_, ap, ap₂, subst₂}
 use mathlib.Core.List.{List, [], _∷_, _++_}
 use native.Mathlib.Omega.{arith}
 use native.Mathlib.Nat.{mul-le-mul-right}
-use lib.ListN.{length, getD, set, take, drop, length-append}
-use Rattle.rows.specs.Rows.{rowStarts, row-at}
-use Rattle.trace.specs.Trails.{packed, Trail, begin, more, Traceable, LongAs, Written}
+use lib.ListN.{length, getD, set, take, length-append}
+use Rattle.rows.specs.Rows.{row-at}
+use Rattle.trace.specs.Trails.{packed, Trail, begin, more, Traceable, LongAs}
 
 append-nil : (xs : List ℕ) → xs ++ [] ≡ xs
 append-nil [] = refl

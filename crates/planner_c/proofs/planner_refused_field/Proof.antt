@@ -1,5 +1,5 @@
 -- `planner_c::planner_refused_field` meets its contract.
-use mathlib.Core.Path.{refl, sym, _∙_, ap}
+use mathlib.Core.Path.{ap}
 use lib.ListN.{length}
 use Rattle.planner_c.proofs.Copied.{copied}
 use borrow.Author.Needs.{needs}

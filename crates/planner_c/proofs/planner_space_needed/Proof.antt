@@ -1,5 +1,5 @@
 -- `planner_c::planner_space_needed` meets its contract.
-use mathlib.Core.Path.{refl, sym, _∙_, ap}
+use mathlib.Core.Path.{_∙_, ap}
 use Rattle.planner.specs.declared.space.Space.{Space}
 use Rattle.planner_c.specs.Exports.{spaceNumbers}
 use borrow.Author.Needs.{needs}

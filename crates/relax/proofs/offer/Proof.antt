@@ -1,6 +1,6 @@
 -- `relax::offer` meets its contract: one law for each way out.
 use Prim.Native.Nat.{_+_}
-use mathlib.Core.Path.{refl, ap, sym, _∙_}
+use mathlib.Core.Path.{refl, ap}
 use native.Mathlib.Omega.{arith}
 use Rattle.relax.proofs.Offering.{offer-kept, offer-new, offer-lower}
 use borrow.Author.Needs.{needs}

@@ -1,10 +1,10 @@
 -- `relax::relax_row` meets its contract: what is left of the row's list comes to the same as all of it.
-use Prim.Native.Nat.{ℕ, _-_, _≤_}
-use mathlib.Core.Path.{_≡_, refl, sym, _∙_, ap}
+use Prim.Native.Nat.{_-_}
+use mathlib.Core.Path.{_≡_, refl}
 use native.Mathlib.Omega.{arith}
 use borrow.Author.Needs.{needs}
 use lib.ListN.{length}
-use Rattle.sweep_model.specs.Model.{rows, relaxNodes}
+use Rattle.sweep_model.specs.Model.{rows}
 use Rattle.relax.proofs.Rowing.{Rowing, small-stage, row-begins, row-place, row-small, row-cost, row-standing, row-more, row-done}
 use Rattle.relax.proofs.relax_row.Statement.{statement}
 use Rattle.relax.proofs.relax_row.Tie as tie

@@ -1,7 +1,4 @@
 -- `relax::relax_step` meets its contract: to node 0 nothing is offered, else the pair is.
-use mathlib.Core.Path.{refl, sym, _∙_, ap, subst}
-use native.Mathlib.Omega.{arith}
-use Prim.Native.Nat.{ℕ}
 use Rattle.relax.proofs.Walking.{offers, stepped-none, stepped-offer}
 use borrow.Author.Needs.{needs}
 use Rattle.relax.proofs.relax_step.Statement.{statement}

@@ -1,6 +1,5 @@
 -- `rows::row_starts` meets its contract: the rows below s are filled.
-use Prim.Native.Nat.{_+_, _-_, _*_, _≤_}
-use native.Mathlib.Omega.{arith}
+use Prim.Native.Nat.{_-_, _≤_}
 use borrow.Author.Needs.{needs}
 use Rattle.rows.specs.Rows.{Filled, filled-none, filled-more, filled-all}
 use Rattle.rows.proofs.row_starts.Statement.{statement}

@@ -1,10 +1,10 @@
 -- `trace::trail_length` meets its contract.
 use Prim.Native.Nat.{ℕ, _+_, _-_, _≤_}
 use mathlib.Core.Path.{_≡_, refl, sym, _∙_, ap}
-use mathlib.Core.List.{List, [], _∷_, _++_}
+use mathlib.Core.List.{List, [], _∷_}
 use native.Mathlib.Omega.{arith}
 use borrow.Author.Needs.{needs}
-use lib.ListN.{length, take, drop}
+use lib.ListN.{length}
 use Rattle.trace.proofs.Steps.{Following, follow-start, follow-stage, follow-fits, follow-packed, follow-less, follow-more, follow-done}
 use Rattle.trace.proofs.trail_length.Statement.{statement}
 use Rattle.trace.proofs.trail_length.Tie as tie

@@ -1,11 +1,11 @@
 -- `trace::write_trail` meets its contract.
-use Prim.Native.Nat.{ℕ, _+_, _-_, _≤_}
-use mathlib.Core.Path.{_≡_, refl, sym, _∙_, ap, ap₂}
+use Prim.Native.Nat.{ℕ, _+_, _-_}
+use mathlib.Core.Path.{_≡_, refl, sym, _∙_, ap₂}
 use mathlib.Core.List.{List, [], _∷_, _++_}
 use native.Mathlib.Omega.{arith}
 use borrow.Author.Needs.{needs}
 use lib.ListN.{length, take, drop, take-append-drop}
-use Rattle.trace.proofs.Steps.{Following, follow-start, follow-stage, follow-fits, follow-packed, follow-less, follow-more, follow-count, follow-some, follow-none, follow-done, put-at}
+use Rattle.trace.proofs.Steps.{Following, follow-start, follow-stage, follow-fits, follow-packed, follow-less, follow-more, follow-some, follow-none, follow-done, put-at}
 use Rattle.trace.proofs.write_trail.Statement.{statement}
 use Rattle.trace.proofs.write_trail.Tie as tie
 use Rattle.trace.proofs.write_trail.Reads as reads

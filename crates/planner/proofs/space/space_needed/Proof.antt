@@ -1,6 +1,6 @@
 -- `planner::space_needed` meets its contract.
 use native.Mathlib.Omega.{arith}
-use mathlib.Core.Path.{_≡_, _∙_, ap}
+use mathlib.Core.Path.{_∙_, ap}
 use mathlib.Core.List.{[], _∷_}
 use Rattle.definitions.specs.Answers.{Load, load}
 use Rattle.planner.specs.Space.{spaceNeeded}

@@ -1,9 +1,5 @@
 -- `sweep::begin` meets its contract.
-use Prim.Native.Nat.{ℕ, _+_, _-_, _*_, _≤_}
-use mathlib.Core.Path.{_≡_, refl, sym, _∙_, ap}
-use mathlib.Core.List.{_++_}
-use native.Mathlib.Omega.{arith}
-use lib.ListN.{length, drop, replicate}
+use Prim.Native.Nat.{_-_}
 use Rattle.sweep.proofs.Leaves.{begun-none, begun-one}
 use borrow.Author.Needs.{needs}
 use Rattle.sweep.proofs.begin.begin.Statement.{statement}

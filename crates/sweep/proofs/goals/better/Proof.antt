@@ -1,10 +1,7 @@
 -- `sweep::better` meets its contract.
-use Prim.Native.Nat.{ℕ, _+_, _-_, _*_, _≤_}
-use mathlib.Core.Path.{_≡_, refl, sym, _∙_, ap}
-use mathlib.Core.List.{_++_}
-use native.Mathlib.Omega.{arith}
+use Prim.Native.Nat.{_-_}
+use mathlib.Core.Path.{refl}
 use borrow.Author.Needs.{needs}
-use lib.ListN.{length, drop, replicate}
 use Rattle.sweep.proofs.Leaves.{better-taken, better-no}
 use borrow.Author.Needs.{needs}
 use Rattle.sweep.proofs.goals.better.Statement.{statement}

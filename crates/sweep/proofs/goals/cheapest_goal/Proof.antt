@@ -1,10 +1,8 @@
 -- `sweep::cheapest_goal` meets its contract.
-use Prim.Native.Nat.{ℕ, _+_, _-_, _*_, _≤_}
-use mathlib.Core.Path.{_≡_, refl, sym, _∙_, ap, subst}
-use mathlib.Core.List.{_++_}
+use Prim.Native.Nat.{_-_, _≤_}
+use mathlib.Core.Path.{refl}
 use native.Mathlib.Omega.{arith}
 use borrow.Author.Needs.{needs}
-use lib.ListN.{length, drop, replicate}
 use Rattle.sweep.specs.Goals.{Chosen}
 use Rattle.sweep.proofs.Leaves.{chosen-none, chosen-more, chosen-all}
 use Rattle.sweep.proofs.goals.cheapest_goal.Statement.{statement}

@@ -1,10 +1,8 @@
 -- `sweep::total_count` meets its contract.
-use Prim.Native.Nat.{ℕ, _+_, _-_, _*_, _≤_}
-use mathlib.Core.Path.{_≡_, refl, sym, _∙_, ap}
-use mathlib.Core.List.{_++_}
+use Prim.Native.Nat.{_-_, _*_, _≤_}
+use mathlib.Core.Path.{_≡_, _∙_, ap}
 use native.Mathlib.Omega.{arith}
 use borrow.Author.Needs.{needs}
-use lib.ListN.{length, drop, replicate}
 use Rattle.sweep_model.specs.Totals.{total}
 use Rattle.relax.specs.Standing.{at}
 use Rattle.sweep.proofs.Leaves.{total-none, total-more}

@@ -1,6 +1,6 @@
 -- `sweep::conclude` meets its contract.
-use Prim.Native.Nat.{ℕ, _+_, _-_, _*_, _≤_}
-use mathlib.Core.Path.{_≡_, refl, sym, _∙_, ap}
+use Prim.Native.Nat.{_-_}
+use mathlib.Core.Path.{refl}
 use native.Mathlib.Omega.{arith}
 use Rattle.checks.specs.Ready.{few-nodes}
 use Rattle.sweep.proofs.Concluding.{end-falls, end-listed, end-traceable, end-fits, concludes-none, concludes-some}

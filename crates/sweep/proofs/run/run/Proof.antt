@@ -1,6 +1,5 @@
 -- `sweep::run` meets its contract.
-use Prim.Native.Nat.{ℕ, _+_, _-_, _*_, _≤_}
-use mathlib.Core.Path.{_≡_, refl, sym, _∙_, ap}
+use Prim.Native.Nat.{_-_}
 use native.Mathlib.Omega.{arith}
 use Rattle.sweep.proofs.Whole.{blank, run-sorted, run-narrow, run-ready, run-final, run-runs}
 use borrow.Author.Needs.{needs}

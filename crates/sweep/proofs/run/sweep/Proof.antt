@@ -1,7 +1,6 @@
 -- `sweep::sweep` meets its contract.
-use Prim.Native.Nat.{ℕ, _+_, _-_, _*_, _≤_, min}
-use mathlib.Core.Path.{_≡_, refl, sym, _∙_, ap}
-use native.Mathlib.Omega.{arith}
+use Prim.Native.Nat.{ℕ, _-_, min}
+use mathlib.Core.Path.{refl, _∙_, ap}
 use lib.ListN.{length}
 use Rattle.sweep.proofs.Whole.{whole-refused, whole-tables, whole-space, whole-runs}
 use borrow.Author.Needs.{needs}

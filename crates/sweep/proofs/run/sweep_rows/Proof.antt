@@ -1,6 +1,5 @@
 -- `sweep::sweep_rows` meets its contract.
-use Prim.Native.Nat.{ℕ, _+_, _-_, _*_, _≤_}
-use mathlib.Core.Path.{_≡_, refl, sym, _∙_, ap}
+use Prim.Native.Nat.{_-_}
 use native.Mathlib.Omega.{arith}
 use Rattle.checks.specs.Ready.{few-nodes}
 use Rattle.sweep.proofs.Beginning.{begin-fits, begun-row, swept-is}
