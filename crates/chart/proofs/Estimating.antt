@@ -10,7 +10,7 @@ use mir.Val.{Fits}
 use mir.Syntax.{w32, w64}
 use Rattle.definitions.specs.Plans.{graph, chartEstimate}
 use Rattle.definitions.specs.Limits.{Valid}
-use Rattle.chart.specs.Tables.{heldSteps, heldChart}
+use Rattle.chart.specs.Tables.{stepsIn, heldSteps, heldChart}
 use Rattle.chart.specs.Held.{held-count, held-from, held-to, held-cost}
 use Rattle.chart.specs.Estimates.{EstimateTable, Told, Lowered, told-start, told-fits, told-turn, told-done}
 
@@ -19,27 +19,27 @@ pub sum-fits : (c rest : ℕ) → (rest ≡ 4294967295) ⊎ (c + rest < 42949672
 sum-fits c rest (inl e) n = absurd (n e)
 sum-fits c rest (inr h) n = record { fits = omega arith }
 
-module _ (stages start end count : ℕ) (from to cost : List ℕ) (v : Valid (graph (heldChart stages start end count from to cost))) where
+module _ (stages start end count : ℕ) (packed : List (List ℕ)) (v : Valid (graph (heldChart stages start end count (stepsIn packed)))) where
   pub end-below : end < 256
   end-below = omega (arith, v .end-inside, v .few-stages)
 
-  pub estimates-start : Told (graph (heldChart stages start end count from to cost)) (count - 0) (set (replicate 256 4294967295) end 0)
+  pub estimates-start : Told (graph (heldChart stages start end count (stepsIn packed))) (count - 0) (set (replicate 256 4294967295) end 0)
   estimates-start =
-      let q : count - 0 ≡ length (heldSteps count from to cost) = omega (arith, held-count count from to cost) in
-      rw q (told-start (graph (heldChart stages start end count from to cost)) v)
+      let q : count - 0 ≡ length (heldSteps count (stepsIn packed)) = omega (arith, held-count count (stepsIn packed)) in
+      rw q (told-start (graph (heldChart stages start end count (stepsIn packed))) v)
 
   module _ (i : ℕ) (turns : i < count) where
-    step : count - 1 - i < length (heldSteps count from to cost)
-    step = omega (arith, held-count count from to cost)
+    step : count - 1 - i < length (heldSteps count (stepsIn packed))
+    step = omega (arith, held-count count (stepsIn packed))
 
     pub step-below : count - 1 - i < 1024
-    step-below = omega (arith, held-count count from to cost, v .few)
+    step-below = omega (arith, held-count count (stepsIn packed), v .few)
 
-    pub from-below : getD from (count - 1 - i) 0 < 256
-    from-below = omega (arith, held-from count from to cost (count - 1 - i) (omega arith), v .forward (count - 1 - i) step, v .inside (count - 1 - i) step, v .few-stages)
+    pub from-below : getD (stepsIn packed .from) (count - 1 - i) 0 < 256
+    from-below = omega (arith, held-from count (stepsIn packed) (count - 1 - i) (omega arith), v .forward (count - 1 - i) step, v .inside (count - 1 - i) step, v .few-stages)
 
-    pub to-below : getD to (count - 1 - i) 0 < 256
-    to-below = omega (arith, held-to count from to cost (count - 1 - i) (omega arith), v .inside (count - 1 - i) step, v .few-stages)
+    pub to-below : getD (stepsIn packed .to) (count - 1 - i) 0 < 256
+    to-below = omega (arith, held-to count (stepsIn packed) (count - 1 - i) (omega arith), v .inside (count - 1 - i) step, v .few-stages)
 
     -- the places of the entries fit
     pub step-double : Fits w64 ((count - 1 - i) * 2)
@@ -48,47 +48,47 @@ module _ (stages start end count : ℕ) (from to cost : List ℕ) (v : Valid (gr
     pub step-quad : Fits w64 ((count - 1 - i) * 4)
     step-quad = record { fits = omega (arith, step-below) }
 
-    pub from-fits : Fits w64 (getD from (count - 1 - i) 0)
+    pub from-fits : Fits w64 (getD (stepsIn packed .from) (count - 1 - i) 0)
     from-fits = record { fits = omega (arith, from-below) }
 
-    pub from-quad : Fits w64 (getD from (count - 1 - i) 0 * 4)
+    pub from-quad : Fits w64 (getD (stepsIn packed .from) (count - 1 - i) 0 * 4)
     from-quad = record { fits = omega (arith, from-below) }
 
-    pub to-fits : Fits w64 (getD to (count - 1 - i) 0)
+    pub to-fits : Fits w64 (getD (stepsIn packed .to) (count - 1 - i) 0)
     to-fits = record { fits = omega (arith, to-below) }
 
-    pub to-quad : Fits w64 (getD to (count - 1 - i) 0 * 4)
+    pub to-quad : Fits w64 (getD (stepsIn packed .to) (count - 1 - i) 0 * 4)
     to-quad = record { fits = omega (arith, to-below) }
 
-    module _ (estimates : List ℕ) (told : Told (graph (heldChart stages start end count from to cost)) (count - i) estimates) where
-      told′ : Told (graph (heldChart stages start end count from to cost)) (suc (count - 1 - i)) estimates
+    module _ (estimates : List ℕ) (told : Told (graph (heldChart stages start end count (stepsIn packed))) (count - i) estimates) where
+      told′ : Told (graph (heldChart stages start end count (stepsIn packed))) (suc (count - 1 - i)) estimates
       told′ =
           let q : suc (count - 1 - i) ≡ count - i = omega arith in
           rw q told
 
-      pub estimates-fit : (getD estimates (getD to (count - 1 - i) 0) 0 ≡ 4294967295)
-          ⊎ (getD cost (count - 1 - i) 0 + getD estimates (getD to (count - 1 - i) 0) 0 < 4294967295)
+      pub estimates-fit : (getD estimates (getD (stepsIn packed .to) (count - 1 - i) 0) 0 ≡ 4294967295)
+          ⊎ (getD (stepsIn packed .cost) (count - 1 - i) 0 + getD estimates (getD (stepsIn packed .to) (count - 1 - i) 0) 0 < 4294967295)
       estimates-fit =
-          rw (← (held-to count from to cost (count - 1 - i) (omega arith)), ← (held-cost count from to cost (count - 1 - i) (omega arith)))
-          (told-fits (graph (heldChart stages start end count from to cost)) v (count - 1 - i) step estimates told′)
+          rw (← (held-to count (stepsIn packed) (count - 1 - i) (omega arith)), ← (held-cost count (stepsIn packed) (count - 1 - i) (omega arith)))
+          (told-fits (graph (heldChart stages start end count (stepsIn packed))) v (count - 1 - i) step estimates told′)
 
       pub estimates-turn : length estimates ≡ 256 → (r : ℕ)
-          → Lowered (getD estimates (getD from (count - 1 - i) 0) 0) (getD cost (count - 1 - i) 0) (getD estimates (getD to (count - 1 - i) 0) 0) r
-          → Told (graph (heldChart stages start end count from to cost)) (count - (i + 1)) (set estimates (getD from (count - 1 - i) 0) r)
+          → Lowered (getD estimates (getD (stepsIn packed .from) (count - 1 - i) 0) 0) (getD (stepsIn packed .cost) (count - 1 - i) 0) (getD estimates (getD (stepsIn packed .to) (count - 1 - i) 0) 0) r
+          → Told (graph (heldChart stages start end count (stepsIn packed))) (count - (i + 1)) (set estimates (getD (stepsIn packed .from) (count - 1 - i) 0) r)
       estimates-turn long r l =
           let q : count - (i + 1) ≡ count - 1 - i = omega arith in
-          let f : graph (heldChart stages start end count from to cost) .from (count - 1 - i) ≡ getD from (count - 1 - i) 0 = held-from count from to cost (count - 1 - i) (omega arith) in
-          let t : graph (heldChart stages start end count from to cost) .to (count - 1 - i) ≡ getD to (count - 1 - i) 0 = held-to count from to cost (count - 1 - i) (omega arith) in
-          let c : graph (heldChart stages start end count from to cost) .cost (count - 1 - i) ≡ getD cost (count - 1 - i) 0 = held-cost count from to cost (count - 1 - i) (omega arith) in
-          rw (q, ← f) (told-turn (graph (heldChart stages start end count from to cost)) v (count - 1 - i) step estimates told′ long r (rw (f, t, c) l))
+          let f : graph (heldChart stages start end count (stepsIn packed)) .from (count - 1 - i) ≡ getD (stepsIn packed .from) (count - 1 - i) 0 = held-from count (stepsIn packed) (count - 1 - i) (omega arith) in
+          let o : graph (heldChart stages start end count (stepsIn packed)) .to (count - 1 - i) ≡ getD (stepsIn packed .to) (count - 1 - i) 0 = held-to count (stepsIn packed) (count - 1 - i) (omega arith) in
+          let c : graph (heldChart stages start end count (stepsIn packed)) .cost (count - 1 - i) ≡ getD (stepsIn packed .cost) (count - 1 - i) 0 = held-cost count (stepsIn packed) (count - 1 - i) (omega arith) in
+          rw (q, ← f) (told-turn (graph (heldChart stages start end count (stepsIn packed))) v (count - 1 - i) step estimates told′ long r (rw (f, o, c) l))
 
-  pub estimates-done : (i : ℕ) (estimates : List ℕ) → count ≤ i → length estimates ≡ 256 → Told (graph (heldChart stages start end count from to cost)) (count - i) estimates
-      → EstimateTable (heldChart stages start end count from to cost) estimates
+  pub estimates-done : (i : ℕ) (estimates : List ℕ) → count ≤ i → length estimates ≡ 256 → Told (graph (heldChart stages start end count (stepsIn packed))) (count - i) estimates
+      → EstimateTable (heldChart stages start end count (stepsIn packed)) estimates
   unfolding chartEstimate
   estimates-done i estimates h long told =
       let q : count - i ≡ 0 = omega arith in
-      let told′ : Told (graph (heldChart stages start end count from to cost)) 0 estimates = rw q at told in
-      record { at = told-done (graph (heldChart stages start end count from to cost)) v estimates told′; long = long }
+      let told′ : Told (graph (heldChart stages start end count (stepsIn packed))) 0 estimates = rw q at told in
+      record { at = told-done (graph (heldChart stages start end count (stepsIn packed))) v estimates told′; long = long }
 
 pub ruleset estimates-laws = (
   end-below,

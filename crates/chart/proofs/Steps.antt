@@ -1,21 +1,18 @@
 -- The loop over the steps: its invariant, with one law for each way on.
 -- Assumes nothing.
-use Prim.Native.Nat.{ℕ, _+_, _-_, _*_, _<_}
+use Prim.Native.Nat.{ℕ, _+_, _-_, _<_}
 use mathlib.Core.Path.{_≡_, refl, sym, _∙_, ap}
 use mathlib.Core.List.{List, [], _∷_, _++_}
-use lib.ListN.{length, set, length-append, length-set}
+use lib.ListN.{length, length-append}
 use lib.Seq.{getD-append-seam}
 use native.Mathlib.Omega.{arith}
-use mir.Val.{Fits}
-use mir.Syntax.{w64}
 use Rattle.definitions.specs.Fields.{part, fieldAt, stopped}
 use Rattle.definitions.specs.Charts.{ChartStep, noStep, stepFault, stepOf, lastFrom, stepFaultAfter, scanSteps}
 use Rattle.definitions.specs.declared.Field.{Field}
 use Rattle.definitions.specs.declared.Field.the-variants.{Absent, Faulty, Whole}
-use Rattle.fields.specs.Listed.{rest-kept}
 use Rattle.fields.specs.Scans.{Reading, reading-start, reading-done, reading-faulty, reading-bad, reading-step}
-use Rattle.chart.specs.Tables.{heldSteps, Room, Filled, stepBody, stepsAnswer}
-use Rattle.chart.specs.Held.{held-grown, nothing-filled}
+use Rattle.chart.specs.Tables.{stepsIn, heldSteps, Room, Filled, stepBody, stepsAnswer}
+use Rattle.chart.specs.Held.{stored, stored-room, held-grown, from-kept, to-kept, cost-kept, nothing-filled}
 use Rattle.chart.specs.Limits.{step-fits}
 use Rattle.chart.specs.declared.reader.StepBody.{StepBody}
 use Rattle.chart.specs.declared.reader.StepsRead.{StepsRead}
@@ -25,61 +22,45 @@ module _ (v stages last count : ℕ) (b : List ℕ) (judged : v ≡ stepFault st
   pub step-below : count < 1024
   step-below = step-fits stages last count b (sym passes ∙ judged) .below
 
-  pub step-double : Fits w64 (count * 2)
-  step-double = omega (arith, step-below)
-
-  pub step-quad : Fits w64 (count * 4)
-  step-quad = omega (arith, step-below)
-
-  pub step-more : Fits w64 (count + 1)
-  step-more = omega (arith, step-below)
-
-pub ruleset room-laws = (step-below, step-double, step-quad, step-more)
-
 -- the last of some steps, with one more
 last-grown : (before : List ChartStep) (x : ChartStep) → lastFrom (before ++ x ∷ []) ≡ x .from
 last-grown before x =
     let e : length (before ++ x ∷ []) - 1 ≡ length before = omega (arith, length-append before (x ∷ [])) in
     rw (lastFrom, e) (ap (λ (y : ChartStep). y .from) (getD-append-seam before x [] noStep))
 
-filled-grown : (before : List ChartStep) (x : ChartStep) (count : ℕ) (from₀ to₀ cost₀ from to cost : List ℕ) → length before ≡ count → count < 1024
-    → Filled before from₀ to₀ cost₀ from to cost
-    → Filled (before ++ x ∷ []) from₀ to₀ cost₀ (set from count (x .from)) (set to count (x .to)) (set cost count (x .cost))
-filled-grown before x count from₀ to₀ cost₀ from to cost counted below now =
+filled-grown : (before : List ChartStep) (x : ChartStep) (count : ℕ) (packed₀ packed : List (List ℕ)) → length before ≡ count → count < 1024
+    → Filled before packed₀ packed → Filled (before ++ x ∷ []) packed₀ (stored packed count x)
+filled-grown before x count packed₀ packed counted below now =
     let long : length (before ++ x ∷ []) ≡ count + 1 = omega (arith, length-append before (x ∷ [])) in
-    let held : heldSteps count from to cost ≡ before = rw (← counted) (now .held) in
+    let held : heldSteps count (stepsIn packed) ≡ before = rw (← counted) (now .held) in
     record {
-      held = rw (long, held-grown count from to cost x (now .room) below, held);
-      from-rest = rw long (rest-kept count (count + 1) count (x .from) from from₀ (omega arith) (omega arith) (rw (← counted) (now .from-rest)));
-      to-rest = rw long (rest-kept count (count + 1) count (x .to) to to₀ (omega arith) (omega arith) (rw (← counted) (now .to-rest)));
-      cost-rest = rw long (rest-kept count (count + 1) count (x .cost) cost cost₀ (omega arith) (omega arith) (rw (← counted) (now .cost-rest)));
-      room = record {
-        froms = length-set from count (x .from) ∙ now .room .froms;
-        tos = length-set to count (x .to) ∙ now .room .tos;
-        costs = length-set cost count (x .cost) ∙ now .room .costs;
-      };
+      held = rw (long, held-grown count packed x (now .room) below, held);
+      from-rest = rw long (from-kept count packed x (now .room) below packed₀ (rw (← counted) (now .from-rest)));
+      to-rest = rw long (to-kept count packed x (now .room) below packed₀ (rw (← counted) (now .to-rest)));
+      cost-rest = rw long (cost-kept count packed x (now .room) below packed₀ (rw (← counted) (now .cost-rest)));
+      room = stored-room count packed x (now .room) below;
     }
 
 -- what is read so far, and that the rest of the walk is still to come
-pub record SoFar (s : List ℕ) (first stages : ℕ) (from₀ to₀ cost₀ from to cost : List ℕ) (at last count : ℕ) : Type 0 where
+pub record SoFar (s : List ℕ) (first stages : ℕ) (packed₀ packed : List (List ℕ)) (at last count : ℕ) : Type 0 where
   pub before : List ChartStep
   pub reading : Reading s 2 8 (stepFaultAfter stages) stepOf first at before
   pub counted : length before ≡ count
   pub latest : lastFrom before ≡ last
-  pub filled : Room from₀ to₀ cost₀ → Filled before from₀ to₀ cost₀ from to cost
+  pub filled : Room packed₀ → Filled before packed₀ packed
 
-module _ (s : List ℕ) (first stages : ℕ) (from₀ to₀ cost₀ : List ℕ) where
-  pub steps-start : SoFar s first stages from₀ to₀ cost₀ from₀ to₀ cost₀ first 0 0
+module _ (s : List ℕ) (first stages : ℕ) (packed₀ : List (List ℕ)) where
+  pub steps-start : SoFar s first stages packed₀ packed₀ first 0 0
   unfolding heldSteps
   steps-start = record {
     before = [];
     reading = reading-start s 2 8 (stepFaultAfter stages) stepOf first;
     counted = refl;
     latest = refl;
-    filled = nothing-filled from₀ to₀ cost₀;
+    filled = nothing-filled packed₀;
   }
 
-  module _ (from to cost : List ℕ) (at last count : ℕ) (now : SoFar s first stages from₀ to₀ cost₀ from to cost at last count) (r : Field)
+  module _ (packed : List (List ℕ)) (at last count : ℕ) (now : SoFar s first stages packed₀ packed at last count) (r : Field)
       (given : r ≡ fieldAt s at 2 8) where
     module _ (found : r ≡ Absent) where
       done : scanSteps s stages first ≡ stopped (now .before) 0 0
@@ -88,7 +69,7 @@ module _ (s : List ℕ) (first stages : ℕ) (from₀ to₀ cost₀ : List ℕ) 
       pub steps-done : (x : StepsRead) → x ≡ record { number = 0; place = 0; steps = count } → x ≡ stepsAnswer (scanSteps s stages first)
       steps-done x e = rw (done, now .counted) e
 
-      pub steps-done-filled : Room from₀ to₀ cost₀ → Filled (scanSteps s stages first .passed) from₀ to₀ cost₀ from to cost
+      pub steps-done-filled : Room packed₀ → Filled (scanSteps s stages first .passed) packed₀ packed
       steps-done-filled = rw done (now .filled)
 
     module _ (k : ℕ) (found : r ≡ Faulty k) where
@@ -98,7 +79,7 @@ module _ (s : List ℕ) (first stages : ℕ) (from₀ to₀ cost₀ : List ℕ) 
       pub steps-faulty : (x : StepsRead) → x ≡ record { number = k; place = at; steps = count } → x ≡ stepsAnswer (scanSteps s stages first)
       steps-faulty x e = rw (faulty, now .counted) e
 
-      pub steps-faulty-filled : Room from₀ to₀ cost₀ → Filled (scanSteps s stages first .passed) from₀ to₀ cost₀ from to cost
+      pub steps-faulty-filled : Room packed₀ → Filled (scanSteps s stages first .passed) packed₀ packed
       steps-faulty-filled = rw faulty (now .filled)
 
     module _ (a e : ℕ) (found : r ≡ Whole a e) (v : ℕ) (judged : v ≡ stepFault stages last count (part s a e)) where
@@ -112,11 +93,11 @@ module _ (s : List ℕ) (first stages : ℕ) (from₀ to₀ cost₀ : List ℕ) 
         pub steps-bad : (x : StepsRead) → x ≡ record { number = v; place = at; steps = count } → x ≡ stepsAnswer (scanSteps s stages first)
         steps-bad x e = rw (bad, now .counted) e
 
-        pub steps-bad-filled : Room from₀ to₀ cost₀ → Filled (scanSteps s stages first .passed) from₀ to₀ cost₀ from to cost
+        pub steps-bad-filled : Room packed₀ → Filled (scanSteps s stages first .passed) packed₀ packed
         steps-bad-filled = rw bad (now .filled)
 
       pub steps-step : v ≡ 0 → (x : StepBody) → x ≡ stepBody (part s a e)
-          → SoFar s first stages from₀ to₀ cost₀ (set from count (x .from)) (set to count (x .to)) (set cost count (x .cost)) e (x .from) (count + 1)
+          → SoFar s first stages packed₀ (stored packed count (record { from = x .from; to = x .to; cost = x .cost })) e (x .from) (count + 1)
       steps-step passes x read = rw read (record {
         before = now .before ++ stepOf (part s a e) ∷ [];
         reading = reading-step s 2 8 (stepFaultAfter stages) stepOf first at (now .before) (now .reading) r given a e found v same-fault passes;
@@ -124,7 +105,7 @@ module _ (s : List ℕ) (first stages : ℕ) (from₀ to₀ cost₀ : List ℕ) 
         latest = last-grown (now .before) (stepOf (part s a e));
         filled =
             λ room.
-            filled-grown (now .before) (stepOf (part s a e)) count from₀ to₀ cost₀ from to cost (now .counted) (step-below v stages last count (part s a e) judged passes) (now .filled room);
+            filled-grown (now .before) (stepOf (part s a e)) count packed₀ packed (now .counted) (step-below v stages last count (part s a e) judged passes) (now .filled room);
       })
 
 pub ruleset steps-laws = (

@@ -17,8 +17,8 @@ use Rattle.chart.specs.declared.reader.HeadBody.{HeadBody}
 use Rattle.chart.specs.declared.reader.StepsRead.{StepsRead}
 
 -- no step passed, and the tables stay
-untouched : (s : List ℕ) (k : ℕ) (from to cost : List ℕ) → readChart s ≡ badHead k → Room from to cost → Filled (readChart s .chart .steps) from to cost from to cost
-untouched s k from to cost p = rw p (nothing-filled from to cost)
+untouched : (s : List ℕ) (k : ℕ) (packed : List (List ℕ)) → readChart s ≡ badHead k → Room packed → Filled (readChart s .chart .steps) packed packed
+untouched s k packed p = rw p (nothing-filled packed)
 
 module _ (s : List ℕ) (r : Field) (given : r ≡ fieldAt s 0 1 6) where
   module _ (found : r ≡ Absent) where
@@ -29,8 +29,8 @@ module _ (s : List ℕ) (r : Field) (given : r ≡ fieldAt s 0 1 6) where
     pub chart-empty : (x : ChartRead) → x ≡ chartAnswer (badHead 2) → x ≡ chartAnswer (readChart s)
     chart-empty x p = rw empty p
 
-    pub chart-empty-filled : (from to cost : List ℕ) → Room from to cost → Filled (readChart s .chart .steps) from to cost from to cost
-    chart-empty-filled from to cost = untouched s 2 from to cost empty
+    pub chart-empty-filled : (packed : List (List ℕ)) → Room packed → Filled (readChart s .chart .steps) packed packed
+    chart-empty-filled packed = untouched s 2 packed empty
 
   module _ (k : ℕ) (found : r ≡ Faulty k) where
     faulty : readChart s ≡ badHead k
@@ -40,8 +40,8 @@ module _ (s : List ℕ) (r : Field) (given : r ≡ fieldAt s 0 1 6) where
     pub chart-faulty : (x : ChartRead) → x ≡ chartAnswer (badHead k) → x ≡ chartAnswer (readChart s)
     chart-faulty x p = rw faulty p
 
-    pub chart-faulty-filled : (from to cost : List ℕ) → Room from to cost → Filled (readChart s .chart .steps) from to cost from to cost
-    chart-faulty-filled from to cost = untouched s k from to cost faulty
+    pub chart-faulty-filled : (packed : List (List ℕ)) → Room packed → Filled (readChart s .chart .steps) packed packed
+    chart-faulty-filled packed = untouched s k packed faulty
 
   module _ (a e : ℕ) (found : r ≡ Whole a e) where
     module _ (v : ℕ) (judged : v ≡ headFault (part s a e)) where
@@ -53,8 +53,8 @@ module _ (s : List ℕ) (r : Field) (given : r ≡ fieldAt s 0 1 6) where
         pub chart-bad : (x : ChartRead) → x ≡ chartAnswer (badHead v) → x ≡ chartAnswer (readChart s)
         chart-bad x p = rw bad p
 
-        pub chart-bad-filled : (from to cost : List ℕ) → Room from to cost → Filled (readChart s .chart .steps) from to cost from to cost
-        chart-bad-filled from to cost = untouched s v from to cost bad
+        pub chart-bad-filled : (packed : List (List ℕ)) → Room packed → Filled (readChart s .chart .steps) packed packed
+        chart-bad-filled packed = untouched s v packed bad
 
       module _ (passes : v ≡ 0) (h : HeadBody) (read : h ≡ headBody (part s a e)) where
         good : readChart s ≡ withSteps (part s a e) (scanSteps s (h .stages) e)
@@ -65,9 +65,9 @@ module _ (s : List ℕ) (r : Field) (given : r ≡ fieldAt s 0 1 6) where
             → record { number = y .number; place = y .place; stages = h .stages; start = h .start; end = h .end; steps = y .steps } ≡ chartAnswer (readChart s)
         chart-good y ey = rw (good, ey, read)
 
-        pub chart-good-filled : (from to cost from′ to′ cost′ : List ℕ) → (Room from to cost → Filled (scanSteps s (h .stages) e .passed) from to cost from′ to′ cost′)
-            → Room from to cost → Filled (readChart s .chart .steps) from to cost from′ to′ cost′
-        chart-good-filled from to cost from′ to′ cost′ f = rw good f
+        pub chart-good-filled : (packed packed′ : List (List ℕ)) → (Room packed → Filled (scanSteps s (h .stages) e .passed) packed packed′)
+            → Room packed → Filled (readChart s .chart .steps) packed packed′
+        chart-good-filled packed packed′ f = rw good f
 
 pub ruleset chart-laws = (
   chart-empty,

@@ -1,8 +1,8 @@
--- The chart that stands in tables: from, to and cost by step.
+-- The chart that stands in a table: from, to and cost by step, a column for each.
 -- Assumes nothing.
 use Prim.Native.Nat.{ℕ}
 use mathlib.Core.Path.{_≡_}
-use mathlib.Core.List.{List, map}
+use mathlib.Core.List.{List, [], map}
 use lib.ListN.{length, getD, drop}
 use Rattle.definitions.specs.Basics.{upto}
 use Rattle.definitions.specs.Fields.{two, four, Scan}
@@ -13,30 +13,40 @@ use Rattle.chart.specs.declared.reader.StepBody.{StepBody}
 use Rattle.chart.specs.declared.reader.StepsRead.{StepsRead}
 use Rattle.chart.specs.declared.reader.ChartRead.{ChartRead}
 
+-- the table of steps, by its columns
+pub record Steps : Type 0 where
+  pub from : List ℕ
+  pub to : List ℕ
+  pub cost : List ℕ
+
+abbrev pub stepsIn : List (List ℕ) → Steps
+stepsIn packed = record { from = getD packed 0 []; to = getD packed 1 []; cost = getD packed 2 [] }
+
 -- the step of a number
-abbrev pub heldStep : List ℕ → List ℕ → List ℕ → ℕ → ChartStep
-heldStep from to cost e = record { from = getD from e 0; to = getD to e 0; cost = getD cost e 0 }
+abbrev pub heldStep : Steps → ℕ → ChartStep
+heldStep t e = record { from = getD (t .from) e 0; to = getD (t .to) e 0; cost = getD (t .cost) e 0 }
 
 -- the first `count` steps
-unfoldable pub heldSteps : ℕ → List ℕ → List ℕ → List ℕ → List ChartStep
-heldSteps count from to cost = map (heldStep from to cost) (upto count)
+unfoldable pub heldSteps : ℕ → Steps → List ChartStep
+heldSteps count t = map (heldStep t) (upto count)
 
-abbrev pub heldChart : ℕ → ℕ → ℕ → ℕ → List ℕ → List ℕ → List ℕ → Chart
-heldChart stages start end count from to cost = record { stages = stages; start = start; end = end; steps = heldSteps count from to cost }
+abbrev pub heldChart : ℕ → ℕ → ℕ → ℕ → Steps → Chart
+heldChart stages start end count t = record { stages = stages; start = start; end = end; steps = heldSteps count t }
 
--- each table has 1,024 entries, as its type says. (Behind a reference to an array a proof does not know the length.)
-pub record Room (from to cost : List ℕ) : Type 0 where
-  pub froms : length from ≡ 1024
-  pub tos : length to ≡ 1024
-  pub costs : length cost ≡ 1024
+-- the table has three columns of 1,024 entries, as its type says. (Behind a reference to an array a proof does not know the length.)
+pub record Room (packed : List (List ℕ)) : Type 0 where
+  pub columns : length packed ≡ 3
+  pub froms : length (stepsIn packed .from) ≡ 1024
+  pub tos : length (stepsIn packed .to) ≡ 1024
+  pub costs : length (stepsIn packed .cost) ≡ 1024
 
--- the tables before and after reading (from′ ..): they begin with the steps that passed, their further entries stay
-pub record Filled (passed : List ChartStep) (from to cost from′ to′ cost′ : List ℕ) : Type 0 where
-  pub held : heldSteps (length passed) from′ to′ cost′ ≡ passed
-  pub from-rest : drop (length passed) from′ ≡ drop (length passed) from
-  pub to-rest : drop (length passed) to′ ≡ drop (length passed) to
-  pub cost-rest : drop (length passed) cost′ ≡ drop (length passed) cost
-  pub room : Room from′ to′ cost′
+-- the table before and after reading (packed′): it begins with the steps that passed, its further entries stay
+pub record Filled (passed : List ChartStep) (packed packed′ : List (List ℕ)) : Type 0 where
+  pub held : heldSteps (length passed) (stepsIn packed′) ≡ passed
+  pub from-rest : drop (length passed) (stepsIn packed′ .from) ≡ drop (length passed) (stepsIn packed .from)
+  pub to-rest : drop (length passed) (stepsIn packed′ .to) ≡ drop (length passed) (stepsIn packed .to)
+  pub cost-rest : drop (length passed) (stepsIn packed′ .cost) ≡ drop (length passed) (stepsIn packed .cost)
+  pub room : Room packed′
 
 -- ---- the readers' answers, from what the definitions give
 
@@ -58,3 +68,7 @@ chartAnswer x = record {
   end = x .chart .end;
   steps = length (x .chart .steps);
 }
+
+-- the chart of an answer, with the steps of a table
+abbrev pub chartOf : ChartRead → List (List ℕ) → Chart
+chartOf c packed = heldChart (c .stages) (c .start) (c .end) (c .steps) (stepsIn packed)

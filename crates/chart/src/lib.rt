@@ -4,6 +4,9 @@ mod reader;
 mod stages;
 
 pub use estimates::chart_estimates;
+pub use reader::COST;
 pub use reader::ChartRead;
+pub use reader::FROM;
+pub use reader::TO;
 pub use reader::read_chart;
 pub use stages::first_steps;

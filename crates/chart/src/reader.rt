@@ -1,4 +1,4 @@
-// The reader of the chart file: its steps go into three tables.
+// The reader of the chart file: its steps go into a table with three columns.
 ghost use mathlib.Core.Path.{_≡_};
 ghost use lib.ListN.{length};
 ghost use Rattle.definitions.specs.Charts.{headFault, stepFault, badHead, scanSteps, readChart};
@@ -7,6 +7,13 @@ use definitions::Field;
 use fields::field_at;
 use fields::read_u16;
 use fields::read_u32;
+
+// The columns of the table of steps.
+pub const FROM: usize = 0;
+
+pub const TO: usize = 1;
+
+pub const COST: usize = 2;
 
 // What is wrong with a head's body, 0: nothing.
 fn head_fault(b: &[u8]) -> u8
@@ -110,17 +117,13 @@ fn stopped(steps: usize, number: u8, place: usize) -> StepsRead
     }
 }
 
-// The steps from a place on, into the tables.
-fn read_steps(
-    file: &[u8],
-    first: usize,
-    stages: u16,
-    from: &mut [u16; 1024],
-    to: &mut [u16; 1024],
-    cost: &mut [u32; 1024],
-) -> StepsRead
+// The steps from a place on, into the table.
+fn read_steps(file: &[u8], first: usize, stages: u16, steps: &mut [[u32; 1024]; 3]) -> StepsRead
     ensures { λ r. ⌜ r ≡ stepsAnswer (scanSteps (now (file .entry)) stages first) ⌝ }
-    ensures { λ r. ⌜ (Room (now (from .entry)) (now (to .entry)) (now (cost .entry)) → Filled (scanSteps (now (file .entry)) stages first .passed) (now (from .entry)) (now (to .entry)) (now (cost .entry)) (now (from .exit)) (now (to .exit)) (now (cost .exit))) ⌝ }
+    ensures { λ r. ⌜
+        (let read = scanSteps (now (file .entry)) stages first in
+        Room (now (steps .entry)) → Filled (read .passed) (now (steps .entry)) (now (steps .exit)))
+        ⌝ }
 {
     let mut at = first;
     let mut last: u16 = 0;
@@ -136,9 +139,9 @@ fn read_steps(
                     return stopped(count, fault, at);
                 }
                 let step = step_of(body);
-                from[count] = step.from;
-                to[count] = step.to;
-                cost[count] = step.cost;
+                steps[FROM][count] = step.from as u32;
+                steps[TO][count] = step.to as u32;
+                steps[COST][count] = step.cost;
                 last = step.from;
                 count += 1;
                 at = end;
@@ -158,15 +161,13 @@ pub struct ChartRead {
     pub steps: usize,
 }
 
-// The chart of a file; its steps go into the tables.
-pub fn read_chart(
-    file: &[u8],
-    from: &mut [u16; 1024],
-    to: &mut [u16; 1024],
-    cost: &mut [u32; 1024],
-) -> ChartRead
+// The chart of a file; its steps go into the table.
+pub fn read_chart(file: &[u8], steps: &mut [[u32; 1024]; 3]) -> ChartRead
     ensures { λ r. ⌜ r ≡ chartAnswer (readChart (now (file .entry))) ⌝ }
-    ensures { λ r. ⌜ (Room (now (from .entry)) (now (to .entry)) (now (cost .entry)) → Filled (readChart (now (file .entry)) .chart .steps) (now (from .entry)) (now (to .entry)) (now (cost .entry)) (now (from .exit)) (now (to .exit)) (now (cost .exit))) ⌝ }
+    ensures { λ r. ⌜
+        (let read = readChart (now (file .entry)) in
+        Room (now (steps .entry)) → Filled (read .chart .steps) (now (steps .entry)) (now (steps .exit)))
+        ⌝ }
 {
     match field_at(file, 0, 1, 6) {
         Field::Absent => bad_head(2),
@@ -178,7 +179,7 @@ pub fn read_chart(
                 return bad_head(fault);
             }
             let head = head_of(body);
-            let read = read_steps(file, end, head.stages, from, to, cost);
+            let read = read_steps(file, end, head.stages, steps);
             ChartRead {
                 number: read.number,
                 place: read.place,

@@ -3,13 +3,13 @@ ghost use Prim.Native.Nat.{_≤_, _<_};
 ghost use Rattle.chart.specs.FirstSteps.{SortedTable, FirstTable, Walked};
 
 // The first step from `start` on that leaves stage `s` or a later one; `count` where there is none.
-fn first_from(from: &[u16; 1024], count: usize, start: usize, s: u16) -> usize
+fn first_from(from: &[u32; 1024], count: usize, start: usize, s: u16) -> usize
     requires { ⌜ (start ≤ count) × (count ≤ 1024) ⌝ }
     ensures { λ r. ⌜ Walked count (now (from .entry)) start s r ⌝ }
 {
     let mut e = start;
     while e < count {
-        if s <= from[e] {
+        if s as u32 <= from[e] {
             return e;
         }
         e += 1;
@@ -18,7 +18,7 @@ fn first_from(from: &[u16; 1024], count: usize, start: usize, s: u16) -> usize
 }
 
 // For each stage, and for the stage count, how many steps leave stages below it: the number of its first step. 0 past them.
-pub fn first_steps(from: &[u16; 1024], count: usize, stages: u16) -> [u16; 257]
+pub fn first_steps(from: &[u32; 1024], count: usize, stages: u16) -> [u16; 257]
     requires { ⌜ SortedTable count (now from) × (stages ≤ 256) ⌝ }
     ensures { λ r. ⌜ FirstTable count stages (now (from .entry)) r ⌝ }
 {

@@ -23,7 +23,7 @@ use Rattle.diagram.specs.Files as files
 use Rattle.diagram.specs.Held.{held-tables}
 use Rattle.diagram.specs.Accepted.{diagram-accepted}
 use Rattle.diagram.specs.declared.reader.DiagramRead.{DiagramRead}
-use Rattle.checks.specs.Tables.{Tables, LoadsAs, chartIn, diagramIn}
+use Rattle.checks.specs.Tables.{Read, read, Tables, LoadsAs, chartIn, diagramIn}
 use Rattle.checks.specs.Outcome.{chart-refuses, rules-refuse, space-refuses, all-ready}
 use Rattle.checks.specs.declared.Shape.{Shape}
 use Rattle.checks.specs.declared.Loaded.{Loaded}
@@ -32,9 +32,9 @@ module _ (s t : List ℕ) (work plan : ℕ) (x : ChartRead) (ex : x ≡ chart.ch
   number-is : x .number ≡ readChart s .number
   number-is = ap (λ (y : ChartRead). y .number) ex
 
-  pub chart-refused : (from to cost step lo hi : List ℕ) (r : Loaded) → (x .number ≡ 0 → ⊥)
-      → (r .number ≡ x .number) × (r .file ≡ 1) × (r .place ≡ x .place) → LoadsAs (load s t (work ∷ []) plan) from to cost step lo hi r
-  chart-refused from to cost step lo hi r h e =
+  pub chart-refused : (w : Read) (r : Loaded) → (x .number ≡ 0 → ⊥)
+      → (r .number ≡ x .number) × (r .file ≡ 1) × (r .place ≡ x .place) → LoadsAs (load s t (work ∷ []) plan) w r
+  chart-refused w r h e =
       let n : readChart s .number ≡ 0 → ⊥ = λ q. h (number-is ∙ q) in
       rw (chart-refuses s t (work ∷ []) plan n) (e .0 ∙ number-is, e .1, e .2 ∙ ap (λ (y : ChartRead). y .place) ex, n)
 
@@ -64,9 +64,9 @@ module _ (s t : List ℕ) (work plan : ℕ) (x : ChartRead) (ex : x ≡ chart.ch
       rules-number : y .number ≡ d .number
       rules-number = ap (λ (z : DiagramRead). z .number) ey ∙ ap (λ (z : diagrams.DiagramRead). z .number) same-file
 
-      pub rules-refused : (from to cost step lo hi : List ℕ) (r : Loaded) → (y .number ≡ 0 → ⊥)
-          → (r .number ≡ y .number) × (r .file ≡ 2) × (r .place ≡ y .place) → LoadsAs (load s t (work ∷ []) plan) from to cost step lo hi r
-      rules-refused from to cost step lo hi r h e =
+      pub rules-refused : (w : Read) (r : Loaded) → (y .number ≡ 0 → ⊥)
+          → (r .number ≡ y .number) × (r .file ≡ 2) × (r .place ≡ y .place) → LoadsAs (load s t (work ∷ []) plan) w r
+      rules-refused w r h e =
           let n : d .number ≡ 0 → ⊥ = λ q. h (rules-number ∙ q) in
           let p : y .place ≡ d .place = ap (λ (z : DiagramRead). z .place) ey ∙ ap (λ (z : diagrams.DiagramRead). z .place) same-file in
           rw (rules-refuse s t (work ∷ []) plan chart-passed n) (e .0 ∙ rules-number, e .1, e .2 ∙ p, n)
@@ -93,22 +93,25 @@ module _ (s t : List ℕ) (work plan : ℕ) (x : ChartRead) (ex : x ≡ chart.ch
         need-is : workNeed (readChart s .chart) (d .diagram) ≡ x .stages * (y .nodes + 2)
         need-is = ap₂ (λ (i j : ℕ). i * (j + 2)) (sym stages-is) (sym nodes-is)
 
-        pub work-refused : (from to cost step lo hi : List ℕ) (r : Loaded) → work < x .stages * (y .nodes + 2)
-            → (r .number ≡ 7) × (r .file ≡ 0) × (r .place ≡ 0) → LoadsAs (load s t (work ∷ []) plan) from to cost step lo hi r
-        work-refused from to cost step lo hi r h e =
+        pub work-refused : (w : Read) (r : Loaded) → work < x .stages * (y .nodes + 2)
+            → (r .number ≡ 7) × (r .file ≡ 0) × (r .place ≡ 0) → LoadsAs (load s t (work ∷ []) plan) w r
+        work-refused w r h e =
             rw (space-refuses s t (work ∷ []) plan chart-passed rules-passed (simp (lt-leb (workNeed (readChart s .chart) (d .diagram)) work (omega (arith, need-is)))))
             (e .0, e .1, e .2, λ q. omega arith)
 
-        pub plan-refused : (from to cost step lo hi : List ℕ) (r : Loaded) → x .stages * (y .nodes + 2) ≤ work → plan < x .stages - 1
-            → (r .number ≡ 7) × (r .file ≡ 0) × (r .place ≡ 0) → LoadsAs (load s t (work ∷ []) plan) from to cost step lo hi r
-        plan-refused from to cost step lo hi r h k e =
+        pub plan-refused : (w : Read) (r : Loaded) → x .stages * (y .nodes + 2) ≤ work → plan < x .stages - 1
+            → (r .number ≡ 7) × (r .file ≡ 0) × (r .place ≡ 0) → LoadsAs (load s t (work ∷ []) plan) w r
+        plan-refused w r h k e =
             rw (space-refuses s t (work ∷ []) plan chart-passed rules-passed
             (simp (le-leb (workNeed (readChart s .chart) (d .diagram)) work (omega (arith, need-is)), lt-leb (readChart s .chart .stages - 1) plan (omega (arith, stages-is)))))
             (e .0, e .1, e .2, λ q. omega arith)
 
-        module _ (from to cost step lo hi from₀ to₀ cost₀ step₀ lo₀ hi₀ : List ℕ) (fc : chart.Filled (readChart s .chart .steps) from₀ to₀ cost₀ from to cost)
-            (fd : files.Filled (readDiagram t (x .steps) .diagram .nodes) step₀ lo₀ hi₀ step lo hi) (z : Shape)
+        module _ (steps inner steps₀ inner₀ : List (List ℕ)) (fc : chart.Filled (readChart s .chart .steps) steps₀ steps)
+            (fd : files.Filled (readDiagram t (x .steps) .diagram .nodes) inner₀ inner) (z : Shape)
             (zs : z .stages ≡ x .stages) (zb : z .start ≡ x .start) (ze : z .end ≡ x .end) (zc : z .steps ≡ x .steps) (zr : z .root ≡ y .root) (zn : z .nodes ≡ y .nodes) where
+          abbrev w : Read
+          w = read steps inner
+
           abbrev C : Chart
           C = readChart s .chart
 
@@ -119,10 +122,10 @@ module _ (s t : List ℕ) (work plan : ℕ) (x : ChartRead) (ex : x ≡ chart.ch
           mk a b c l = record { stages = a; start = b; end = c; steps = l }
 
           -- the tables hold just what the files say
-          same-steps : chart.heldSteps (z .steps) from to cost ≡ C .steps
-          same-steps = ap (λ (k : ℕ). chart.heldSteps k from to cost) (zc ∙ steps-is) ∙ fc .held
+          same-steps : chart.heldSteps (z .steps) (chart.stepsIn steps) ≡ C .steps
+          same-steps = ap (λ (k : ℕ). chart.heldSteps k (chart.stepsIn steps)) (zc ∙ steps-is) ∙ fc .held
 
-          same-chart : chartIn z from to cost ≡ C
+          same-chart : chartIn z w ≡ C
           unfolding mk
           same-chart =
               ap (λ (l : List ChartStep). mk (z .stages) (z .start) (z .end) l) same-steps
@@ -130,32 +133,31 @@ module _ (s t : List ℕ) (work plan : ℕ) (x : ChartRead) (ex : x ≡ chart.ch
               ∙ ap (λ (k : ℕ). mk (C .stages) k (z .end) (C .steps)) (zb ∙ ap (λ (y : ChartRead). y .start) ex)
               ∙ ap (λ (k : ℕ). mk (C .stages) (C .start) k (C .steps)) (ze ∙ ap (λ (y : ChartRead). y .end) ex)
 
-          same-nodes : diagram.heldNodes (z .nodes) step lo hi ≡ D .nodes
+          same-nodes : files.nodesHeld (z .nodes) inner ≡ D .nodes
           same-nodes =
               let l : length (readDiagram t (x .steps) .diagram .nodes) ≡ length (D .nodes) = ap (λ (w : diagrams.DiagramRead). length (w .diagram .nodes)) same-file in
-              ap (λ (k : ℕ). diagram.heldNodes k step lo hi) (zn ∙ nodes-is ∙ sym l) ∙ fd .held ∙ ap (λ (w : diagrams.DiagramRead). w .diagram .nodes) same-file
+              ap (λ (k : ℕ). files.nodesHeld k inner) (zn ∙ nodes-is ∙ sym l) ∙ fd .held ∙ ap (λ (w : diagrams.DiagramRead). w .diagram .nodes) same-file
 
           root-is : z .root ≡ D .root
           root-is = zr ∙ ap (λ (w : DiagramRead). w .root) ey ∙ ap (λ (w : diagrams.DiagramRead). w .diagram .root) same-file
 
-          same-diagram : diagramIn z step lo hi ≡ D
+          same-diagram : diagramIn z w ≡ D
           same-diagram = ap₂ (λ (k : ℕ) (l : List InnerNode). diagram k l) root-is same-nodes
             where
               diagram : ℕ → List InnerNode → Diagram
               diagram k l = record { root = k; nodes = l }
 
-          in-tables : Tables z from to cost step lo hi
+          in-tables : Tables z w
           in-tables =
-              let so : Sound (z .steps) (diagramIn z step lo hi) = subst (λ (k : ℕ). Sound k (diagramIn z step lo hi)) (sym (zc ∙ steps-is)) (subst (Sound (length (C .steps))) (sym same-diagram) sound) in
+              let so : Sound (z .steps) (diagramIn z w) = subst (λ (k : ℕ). Sound k (diagramIn z w)) (sym (zc ∙ steps-is)) (subst (Sound (length (C .steps))) (sym same-diagram) sound) in
               record {
-                room = record { steps = fc .room; nodes = fd .room };
                 valid = subst (λ (c : Chart). Valid (graph c)) (sym same-chart) accepted;
                 sound = so;
-                held = held-tables (z .nodes) step lo hi (z .root) (so .ordered) (omega (arith, few-nodes)) (fd .marked);
+                held = held-tables (z .nodes) (w .inner .step) (w .inner .lo) (w .inner .hi) (z .root) (so .ordered) (omega (arith, few-nodes)) (fd .marked);
               }
 
           pub loaded : (r : Loaded) → r .shape ≡ z → r .number ≡ 0 → x .stages * (y .nodes + 2) ≤ work → x .stages - 1 ≤ plan
-              → LoadsAs (load s t (work ∷ []) plan) from to cost step lo hi r
+              → LoadsAs (load s t (work ∷ []) plan) w r
           loaded r e n h k =
               let fits : spaceFits C D (work ∷ []) plan ≡ true = simp (le-leb (workNeed C D) work (omega (arith, need-is)), le-leb (C .stages - 1) plan (omega (arith, stages-is))) in
               rw (all-ready s t (work ∷ []) plan chart-passed rules-passed fits, e) (n, same-chart, same-diagram, in-tables)

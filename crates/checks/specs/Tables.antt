@@ -14,27 +14,33 @@ use Rattle.diagram.specs.Files as files
 use Rattle.checks.specs.declared.Shape.{Shape}
 use Rattle.checks.specs.declared.Loaded.{Loaded}
 
--- the chart and the diagram of some sizes that stand in tables
-abbrev pub chartIn : Shape → List ℕ → List ℕ → List ℕ → Chart
-chartIn z from to cost = chart.heldChart (z .stages) (z .start) (z .end) (z .steps) from to cost
+-- what the two files are read into: the table of steps and the table of inner nodes
+pub record Read : Type 0 where
+  pub steps : chart.Steps
+  pub inner : files.Nodes
 
-abbrev pub diagramIn : Shape → List ℕ → List ℕ → List ℕ → Diagram
-diagramIn z step lo hi = diagram.heldDiagram (z .root) (z .nodes) step lo hi
+abbrev pub read : List (List ℕ) → List (List ℕ) → Read
+read steps inner = record { steps = chart.stepsIn steps; inner = files.nodesIn inner }
+
+-- the chart and the diagram of some sizes that stand in tables
+abbrev pub chartIn : Shape → Read → Chart
+chartIn z t = chart.heldChart (z .stages) (z .start) (z .end) (z .steps) (t .steps)
+
+abbrev pub diagramIn : Shape → Read → Diagram
+diagramIn z t = diagram.heldDiagram (z .root) (z .nodes) (t .inner .step) (t .inner .lo) (t .inner .hi)
 
 -- each table has as many entries as its type says. (Behind a reference to an array a proof does not know the length.)
-pub record Room (from to cost step lo hi : List ℕ) : Type 0 where
-  pub steps : chart.Room from to cost
-  pub nodes : files.Room step lo hi
+pub record Room (steps inner : List (List ℕ)) : Type 0 where
+  pub of-steps : chart.Room steps
+  pub of-nodes : files.Room inner
 
 -- a chart within its limits and a diagram within its limits stand in the tables
-pub record Tables (z : Shape) (from to cost step lo hi : List ℕ) : Type 0 where
-  pub room : Room from to cost step lo hi
-  pub valid : Valid (graph (chartIn z from to cost))
-  pub sound : Sound (z .steps) (diagramIn z step lo hi)
-  pub held : diagram.Held (diagramIn z step lo hi) step lo hi
+pub record Tables (z : Shape) (t : Read) : Type 0 where
+  pub valid : Valid (graph (chartIn z t))
+  pub sound : Sound (z .steps) (diagramIn z t)
+  pub held : diagram.Held (diagramIn z t) (t .inner .step) (t .inner .lo) (t .inner .hi)
 
 -- what the answer says, by the outcome of the checks
-abbrev pub LoadsAs : Load → List ℕ → List ℕ → List ℕ → List ℕ → List ℕ → List ℕ → Loaded → Type 0
-LoadsAs (refused number file place) from to cost step lo hi r = (r .number ≡ number) × (r .file ≡ file) × (r .place ≡ place) × (number ≡ 0 → ⊥)
-LoadsAs (ready c d) from to cost step lo hi r =
-    (r .number ≡ 0) × (chartIn (r .shape) from to cost ≡ c) × (diagramIn (r .shape) step lo hi ≡ d) × Tables (r .shape) from to cost step lo hi
+abbrev pub LoadsAs : Load → Read → Loaded → Type 0
+LoadsAs (refused number file place) t r = (r .number ≡ number) × (r .file ≡ file) × (r .place ≡ place) × (number ≡ 0 → ⊥)
+LoadsAs (ready c d) t r = (r .number ≡ 0) × (chartIn (r .shape) t ≡ c) × (diagramIn (r .shape) t ≡ d) × Tables (r .shape) t

@@ -2,7 +2,7 @@
 ghost use mathlib.Core.Path.{_≡_};
 ghost use mathlib.Core.List.{[], _∷_};
 ghost use Rattle.definitions.specs.Answers.{load as outcome};
-ghost use Rattle.checks.specs.Tables.{Room, LoadsAs};
+ghost use Rattle.checks.specs.Tables.{Room, read, LoadsAs};
 use chart::read_chart;
 use diagram::read_diagram;
 
@@ -52,21 +52,20 @@ pub fn load(
     rules: &[u8],
     work: usize,
     plan: usize,
-    from: &mut [u16; 1024],
-    to: &mut [u16; 1024],
-    cost: &mut [u32; 1024],
-    step: &mut [u16; 512],
-    lo: &mut [u16; 512],
-    hi: &mut [u16; 512],
+    steps: &mut [[u32; 1024]; 3],
+    inner: &mut [[u16; 512]; 3],
 ) -> Loaded
-    requires { ⌜ Room (now from) (now to) (now cost) (now step) (now lo) (now hi) ⌝ }
-    ensures { λ r. ⌜ LoadsAs (outcome (now (chart .entry)) (now (rules .entry)) (work ∷ []) plan) (now (from .exit)) (now (to .exit)) (now (cost .exit)) (now (step .exit)) (now (lo .exit)) (now (hi .exit)) r ⌝ }
+    requires { ⌜ Room (now steps) (now inner) ⌝ }
+    ensures { λ r. ⌜
+        (let o = outcome (now (chart .entry)) (now (rules .entry)) (work ∷ []) plan in
+        LoadsAs o (read (now (steps .exit)) (now (inner .exit))) r)
+        ⌝ }
 {
-    let c = read_chart(chart, from, to, cost);
+    let c = read_chart(chart, steps);
     if c.number != 0 {
         return refused(c.number as u32, 1, c.place);
     }
-    let d = read_diagram(rules, c.steps, step, lo, hi);
+    let d = read_diagram(rules, c.steps, inner);
     if d.number != 0 {
         return refused(d.number as u32, 2, d.place);
     }

@@ -9,7 +9,7 @@ use Rattle.definitions.specs.Basics.{pick}
 use Rattle.definitions.specs.Fields.{two}
 use Rattle.definitions.specs.Diagrams.{childFits, nodeFault, nodeOf}
 use Rattle.fields.specs.Choices.{tests}
-use Rattle.diagram.specs.Files.{Stored}
+use Rattle.diagram.specs.Files.{stored}
 
 module _ (stepAt : ℕ → ℕ) (own key child : ℕ) where
   pub child-past : own ≤ child → false ≡ childFits stepAt own key child
@@ -50,8 +50,6 @@ module _ (b : List ℕ) (steps : ℕ) (stepAt : ℕ → ℕ) (count : ℕ) where
 
 pub ruleset node-value-laws = (node-full, node-step, node-lo, node-hi, node-good)
 
-pub storing : (b : List ℕ) (own key low high : ℕ) (step lo hi : List ℕ) → key ≡ two b 0 → low ≡ two b 2 → high ≡ two b 4
-    → Stored (nodeOf b) own step lo hi (set step own key) (set lo own low) (set hi own high)
-storing b own key low high step lo hi ek el eh = record { step-is = rw ek; lo-is = rw el; hi-is = rw eh }
-
-pub ruleset storing-laws = (storing)
+pub storing : (b : List ℕ) (own key low high : ℕ) (packed : List (List ℕ)) → key ≡ two b 0 → low ≡ two b 2 → high ≡ two b 4
+    → stored packed own (record { step = key; lo = low; hi = high }) ≡ stored packed own (nodeOf b)
+storing b own key low high packed ek el eh = rw (ek, el, eh)

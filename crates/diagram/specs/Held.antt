@@ -10,7 +10,6 @@ use Rattle.definitions.specs.Diagrams.{Diagram, InnerNode, noNode, size, inner}
 use Rattle.definitions.specs.Limits.{Ordered}
 use Rattle.fields.specs.Listed.{listed-length, listed-getD, grown}
 use Rattle.diagram.specs.Tables.{entry, heldNodes, heldDiagram, Marked, Held}
-use Rattle.diagram.specs.Files.{Room}
 
 module _ (count : ℕ) (step lo hi : List ℕ) where
   pub length-held : length (heldNodes count step lo hi) ≡ count
@@ -32,7 +31,7 @@ module _ (count : ℕ) (step lo hi : List ℕ) where
   }
 
 -- one more node stored
-module _ (count : ℕ) (step lo hi : List ℕ) (x : InnerNode) (room : Room step lo hi) (below : count < 510) where
+module _ (count : ℕ) (step lo hi : List ℕ) (x : InnerNode) (ls : length step ≡ 512) (ll : length lo ≡ 512) (lh : length hi ≡ 512) (below : count < 510) where
   abbrev stored : (ℕ → InnerNode)
   stored n = entry (set step (count + 2) (x .step)) (set lo (count + 2) (x .lo)) (set hi (count + 2) (x .hi)) n
 
@@ -47,9 +46,9 @@ module _ (count : ℕ) (step lo hi : List ℕ) (x : InnerNode) (room : Room step
   stored-here : stored (count + 2) ≡ x
   stored-here =
       rw (
-        getD-set-same step (count + 2) (x .step) 0 (omega (arith, room)),
-        getD-set-same lo (count + 2) (x .lo) 0 (omega (arith, room)),
-        getD-set-same hi (count + 2) (x .hi) 0 (omega (arith, room)),
+        getD-set-same step (count + 2) (x .step) 0 (omega arith),
+        getD-set-same lo (count + 2) (x .lo) 0 (omega arith),
+        getD-set-same hi (count + 2) (x .hi) 0 (omega arith),
       )
 
   pub held-grown : heldNodes (count + 1) (set step (count + 2) (x .step)) (set lo (count + 2) (x .lo)) (set hi (count + 2) (x .hi)) ≡ heldNodes count step lo hi ++ x ∷ []

@@ -2,4 +2,7 @@
 mod reader;
 
 pub use reader::DiagramRead;
+pub use reader::HI;
+pub use reader::LO;
+pub use reader::STEP;
 pub use reader::read_diagram;

@@ -1,13 +1,20 @@
-// The reader of the diagram file: its inner nodes go into three tables, each at its number.
+// The reader of the diagram file: its inner nodes go into a table with three columns, each at its number.
 ghost use mathlib.Core.Path.{_≡_};
 ghost use Prim.Native.Nat.{_≤_, _<_};
 ghost use lib.ListN.{length, getD};
 ghost use mathlib.Core.List.{[]};
 ghost use Rattle.definitions.specs.Diagrams.{childFits, nodeFault, nodeOf, diagramRead};
-ghost use Rattle.diagram.specs.Files.{Stored, ReadsNodes, Reads, diagramAnswer};
+ghost use Rattle.diagram.specs.Files.{stored, ReadsNodes, Reads, diagramAnswer};
 use definitions::Field;
 use fields::field_at;
 use fields::read_u16;
+
+// The columns of the table of inner nodes.
+pub const STEP: usize = 0;
+
+pub const LO: usize = 1;
+
+pub const HI: usize = 2;
 
 // A node may be a child of the node numbered `own` with this step: it is below `own` and, if inner, has a larger step.
 fn child_fits(step: &[u16; 512], own: usize, key: u16, child: u16) -> bool
@@ -47,14 +54,14 @@ fn node_fault(b: &[u8], steps: usize, step: &[u16; 512], count: usize) -> u8
     0
 }
 
-// A node's body goes into the tables at its number.
-fn store_node(b: &[u8], own: usize, step: &mut [u16; 512], lo: &mut [u16; 512], hi: &mut [u16; 512])
+// A node's body goes into the table at its number.
+fn store_node(b: &[u8], own: usize, inner: &mut [[u16; 512]; 3])
     requires { ⌜ (length (now b) ≡ 6) × (own < 512) ⌝ }
-    ensures { λ _. ⌜ Stored (nodeOf (now (b .entry))) own (now (step .entry)) (now (lo .entry)) (now (hi .entry)) (now (step .exit)) (now (lo .exit)) (now (hi .exit)) ⌝ }
+    ensures { λ _. ⌜ now (inner .exit) ≡ stored (now (inner .entry)) own (nodeOf (now (b .entry))) ⌝ }
 {
-    step[own] = read_u16(b, 0);
-    lo[own] = read_u16(b, 2);
-    hi[own] = read_u16(b, 4);
+    inner[STEP][own] = read_u16(b, 0);
+    inner[LO][own] = read_u16(b, 2);
+    inner[HI][own] = read_u16(b, 4);
 }
 
 // The refusal's number and place, 0 and 0 where there is none, and how many nodes passed.
@@ -64,16 +71,9 @@ pub struct NodesRead {
     pub nodes: usize,
 }
 
-// The nodes from a place on, into the tables.
-fn read_nodes(
-    file: &[u8],
-    first: usize,
-    steps: usize,
-    step: &mut [u16; 512],
-    lo: &mut [u16; 512],
-    hi: &mut [u16; 512],
-) -> NodesRead
-    ensures { λ r. ⌜ ReadsNodes (now (file .entry)) steps first (now (step .entry)) (now (lo .entry)) (now (hi .entry)) (now (step .exit)) (now (lo .exit)) (now (hi .exit)) r ⌝ }
+// The nodes from a place on, into the table.
+fn read_nodes(file: &[u8], first: usize, steps: usize, inner: &mut [[u16; 512]; 3]) -> NodesRead
+    ensures { λ r. ⌜ ReadsNodes (now (file .entry)) steps first (now (inner .entry)) (now (inner .exit)) r ⌝ }
 {
     let mut at = first;
     let mut count: usize = 0;
@@ -95,7 +95,7 @@ fn read_nodes(
             }
             Field::Whole { start, end } => {
                 let body = &file[start..end];
-                let fault = node_fault(body, steps, step, count);
+                let fault = node_fault(body, steps, &inner[STEP], count);
                 if fault != 0 {
                     return NodesRead {
                         number: fault,
@@ -106,7 +106,7 @@ fn read_nodes(
                 count += 1;
                 at = end;
                 // The first node is 2.
-                store_node(body, count + 1, step, lo, hi);
+                store_node(body, count + 1, inner);
             }
         }
     }
@@ -133,24 +133,18 @@ fn bad_head(number: u8) -> DiagramRead
     }
 }
 
-// The diagram of a file over a chart of so many steps; its inner nodes go into the tables, and the step table is marked.
-pub fn read_diagram(
-    file: &[u8],
-    steps: usize,
-    step: &mut [u16; 512],
-    lo: &mut [u16; 512],
-    hi: &mut [u16; 512],
-) -> DiagramRead
-    ensures { λ r. ⌜ Reads (now (file .entry)) steps (now (step .entry)) (now (lo .entry)) (now (hi .entry)) (now (step .exit)) (now (lo .exit)) (now (hi .exit)) r ⌝ }
+// The diagram of a file over a chart of so many steps; its inner nodes go into the table, and its step column is marked.
+pub fn read_diagram(file: &[u8], steps: usize, inner: &mut [[u16; 512]; 3]) -> DiagramRead
+    ensures { λ r. ⌜ Reads (now (file .entry)) steps (now (inner .entry)) (now (inner .exit)) r ⌝ }
 {
-    step[0] = 65535;
-    step[1] = 65535;
+    inner[STEP][0] = 65535;
+    inner[STEP][1] = 65535;
     match field_at(file, 0, 17, 2) {
         Field::Absent => bad_head(2),
         Field::Faulty(number) => bad_head(number),
         Field::Whole { start, end } => {
             let root = read_u16(&file[start..end], 0);
-            let read = read_nodes(file, end, steps, step, lo, hi);
+            let read = read_nodes(file, end, steps, inner);
             if read.number != 0 {
                 return DiagramRead {
                     number: read.number,

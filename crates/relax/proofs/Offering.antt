@@ -2,29 +2,25 @@
 -- Assumes nothing.
 use Prim.Native.Nat.{ℕ, _+_, _≤_, _<_}
 use mathlib.Core.Path.{_≡_, sym, _∙_, ap}
-use mathlib.Core.List.{List}
 use lib.ListN.{getD, set}
 use borrow.Author.Tests.{le-leb, lt-leb, eq-eqb, ne-eqb}
 use Rattle.theory.specs.Basics.{pick-true, pick-false}
 use Rattle.sweep_model.specs.Model.{unreached, Rows, rows, offer}
 
-module _ (base s t v mark : ℕ) (costs via nodes counts : List ℕ) where
-  abbrev r : Rows
-  r = rows costs via nodes counts
-
-  pub offer-kept : getD costs (base + t) 0 ≤ v → r ≡ offer base s t v mark r
+module _ (base s t v mark : ℕ) (r : Rows) where
+  pub offer-kept : getD (r .cost) (base + t) 0 ≤ v → r ≡ offer base s t v mark r
   unfolding offer
   offer-kept h = sym (pick-true _ _ _ (le-leb _ _ h))
 
-  pub offer-new : v < getD costs (base + t) 0 → getD costs (base + t) 0 ≡ unreached → (k at : ℕ) → k ≡ getD counts s 0 → at ≡ base + k
-      → rows (set costs (base + t) v) (set via (base + t) mark) (set nodes at t) (set counts s (k + 1)) ≡ offer base s t v mark r
+  pub offer-new : v < getD (r .cost) (base + t) 0 → getD (r .cost) (base + t) 0 ≡ unreached → (k at : ℕ) → k ≡ getD (r .counts) s 0 → at ≡ base + k
+      → rows (set (r .cost) (base + t) v) (set (r .via) (base + t) mark) (set (r .nodes) at t) (set (r .counts) s (k + 1)) ≡ offer base s t v mark r
   unfolding offer
   offer-new h q k at e f =
-      ap (λ (i : ℕ). rows (set costs (base + t) v) (set via (base + t) mark) (set nodes i t) (set counts s (k + 1))) f
-      ∙ ap (λ (i : ℕ). rows (set costs (base + t) v) (set via (base + t) mark) (set nodes (base + i) t) (set counts s (i + 1))) e
+      ap (λ (i : ℕ). rows (set (r .cost) (base + t) v) (set (r .via) (base + t) mark) (set (r .nodes) i t) (set (r .counts) s (k + 1))) f
+      ∙ ap (λ (i : ℕ). rows (set (r .cost) (base + t) v) (set (r .via) (base + t) mark) (set (r .nodes) (base + i) t) (set (r .counts) s (i + 1))) e
       ∙ sym (pick-false _ _ _ (lt-leb _ _ h) ∙ pick-true _ _ _ (eq-eqb _ _ q))
 
-  pub offer-lower : v < getD costs (base + t) 0 → (getD costs (base + t) 0 ≡ unreached → ⊥)
-      → rows (set costs (base + t) v) (set via (base + t) mark) nodes counts ≡ offer base s t v mark r
+  pub offer-lower : v < getD (r .cost) (base + t) 0 → (getD (r .cost) (base + t) 0 ≡ unreached → ⊥)
+      → rows (set (r .cost) (base + t) v) (set (r .via) (base + t) mark) (r .nodes) (r .counts) ≡ offer base s t v mark r
   unfolding offer
   offer-lower h q = sym (pick-false _ _ _ (lt-leb _ _ h) ∙ pick-false _ _ _ (ne-eqb _ _ q))

@@ -2,21 +2,20 @@
 -- Assumes nothing.
 use Prim.Native.Nat.{ℕ, suc, _+_}
 use mathlib.Core.Path.{_≡_, ap}
-use mathlib.Core.List.{List}
 use native.Mathlib.Omega.{arith}
 use Rattle.sweep_model.specs.Sweeps.{FirstSteps}
-use Rattle.checks.specs.Ready.{Ready, graphIn, count-is, first-leave, first-all}
+use Rattle.checks.specs.Ready.{Walk, Ready, graphIn, count-is, first-leave, first-all}
 use Rattle.checks.specs.declared.Shape.{Shape}
 use Rattle.relax.specs.Standing.{at}
 
-pub first-steps : (z : Shape) (from to cost first row step lo hi : List ℕ) → Ready z from to cost first row step lo hi → FirstSteps (graphIn z from to cost) (at first)
-first-steps z from to cost first row step lo hi y = record {
+pub first-steps : (z : Shape) (on : Walk) → Ready z on → FirstSteps (graphIn z (on .read)) (at (on .first))
+first-steps z on y = record {
   leave = λ s e h i j.
       let q : suc s ≡ s + 1 = omega arith in
-      let x = first-leave z from to cost first row step lo hi y s e h i (omega (arith, ap (at first) q)) in
-      (omega (arith, x .0, count-is z from to cost step lo hi (y .tables)), x .1);
+      let x = first-leave z on y s e h i (omega (arith, ap (at (on .first)) q)) in
+      (omega (arith, x .0, count-is z (on .read) (y .tables)), x .1);
   all = λ s e h i j.
       let q : suc s ≡ s + 1 = omega arith in
-      let x = first-all z from to cost first row step lo hi y s e h i j in
-      (x .0, omega (arith, x .1, ap (at first) q));
+      let x = first-all z on y s e h i j in
+      (x .0, omega (arith, x .1, ap (at (on .first)) q));
 }

@@ -1,10 +1,13 @@
 // The rows of the sweep, relaxed in turn: from each reached pair every step offers its cost to the pair that it leads to.
 ghost use mathlib.Core.Path.{_≡_};
-ghost use Prim.Native.Nat.{_+_, _-_, _<_};
-ghost use lib.ListN.{getD};
+ghost use Prim.Native.Nat.{_-_};
 ghost use Rattle.sweep_model.specs.Model.{rows, offer as offered, relaxSteps, relaxNodes, relaxRows};
-ghost use Rattle.checks.specs.Ready.{graphIn, automatonIn};
-ghost use Rattle.relax.specs.Standing.{Open, Offering, stepped, Standing, Row, at};
+ghost use Rattle.chart.specs.Tables.{stepsIn};
+ghost use Rattle.checks.specs.Tables.{read};
+ghost use Rattle.checks.specs.Ready.{walk, graphIn, automatonIn};
+ghost use Rattle.relax.specs.Standing.{Open, Offering, stepped, Stands, Row, InRow, at};
+use chart::COST;
+use chart::TO;
 use checks::Shape;
 use convert::index;
 use convert::wide;
@@ -12,6 +15,9 @@ use definitions::NONE;
 use definitions::Node;
 use definitions::Stage;
 use definitions::Step;
+use diagram::HI;
+use diagram::LO;
+use diagram::STEP;
 use nodes::branch;
 use nodes::descend_to;
 
@@ -28,8 +34,12 @@ fn offer(
     v: u32,
     mark: u32,
 )
-    requires { ⌜ Open base s t (now costs) (now via) (now nodes) (now counts) ⌝ }
-    ensures { λ _. ⌜ rows (now (costs .exit)) (now (via .exit)) (now (nodes .exit)) (now (counts .exit)) ≡ offered base s t v mark (rows (now (costs .entry)) (now (via .entry)) (now (nodes .entry)) (now (counts .entry))) ⌝ }
+    requires { ⌜ Open base s t (rows (now costs) (now via) (now nodes) (now counts)) ⌝ }
+    ensures { λ _. ⌜
+        (let before = rows (now (costs .entry)) (now (via .entry)) (now (nodes .entry)) (now (counts .entry)) in
+        let after = rows (now (costs .exit)) (now (via .exit)) (now (nodes .exit)) (now (counts .exit)) in
+        after ≡ offered base s t v mark before)
+        ⌝ }
 {
     let q = base + t;
     let old = costs[q];
@@ -54,21 +64,26 @@ fn relax_step<'a>(
     via: &mut [u32],
     nodes: &mut [u32],
     counts: &mut [u32; 256],
-    to: &'a [u16; 1024],
-    cost: &'a [u32; 1024],
+    steps: &'a [[u32; 1024]; 3],
     row: &'a [u32; 256],
     e: usize,
     n: Node,
     v: u32,
     t: Node,
 )
-    requires { ⌜ Offering (now to) (now cost) (now row) e (n .0) v (t .0) (now costs) (now via) (now nodes) (now counts) ⌝ }
-    ensures { λ _. ⌜ rows (now (costs .exit)) (now (via .exit)) (now (nodes .exit)) (now (counts .exit)) ≡ stepped (now (to .entry)) (now (cost .entry)) (now (row .entry)) e (n .0) v (t .0) (rows (now (costs .entry)) (now (via .entry)) (now (nodes .entry)) (now (counts .entry))) ⌝ }
+    requires { ⌜
+        Offering (stepsIn (now steps)) (now row) e (n .0) v (t .0) (rows (now costs) (now via) (now nodes) (now counts))
+        ⌝ }
+    ensures { λ _. ⌜
+        (let before = rows (now (costs .entry)) (now (via .entry)) (now (nodes .entry)) (now (counts .entry)) in
+        let after = rows (now (costs .exit)) (now (via .exit)) (now (nodes .exit)) (now (counts .exit)) in
+        after ≡ stepped (stepsIn (now (steps .entry))) (now (row .entry)) e (n .0) v (t .0) before)
+        ⌝ }
 {
     if t.0 == 0 {
         return;
     }
-    let s = to[e] as usize;
+    let s = steps[TO][e] as usize;
     let base = wide(row[s]);
     let mark = e as u32 * 512 + n.0 as u32;
     offer(
@@ -79,46 +94,47 @@ fn relax_step<'a>(
         base,
         s,
         t.0 as usize,
-        v + cost[e],
+        v + steps[COST][e],
         mark,
     );
 }
 
-// Node n of stage s, at cost v, offers by the steps from `first` to before `until`, which leave s.
+// Node n, at cost v, offers by the steps from `start` to before `until`, which leave its stage.
 fn relax_node<'a>(
     costs: &mut [u32],
     via: &mut [u32],
     nodes: &mut [u32],
     counts: &mut [u32; 256],
-    z: Shape,
-    from: &'a [u16; 1024],
-    to: &'a [u16; 1024],
-    cost: &'a [u32; 1024],
-    first: &'a [u16; 257],
+    steps: &'a [[u32; 1024]; 3],
     row: &'a [u32; 256],
-    step: &'a [u16; 512],
-    lo: &'a [u16; 512],
-    hi: &'a [u16; 512],
-    s: Stage,
+    inner: &'a [[u16; 512]; 3],
     n: Node,
     v: u32,
     start: usize,
     until: usize,
 )
-    requires { ⌜ Standing z (now from) (now to) (now cost) (now first) (now row) (now step) (now lo) (now hi) (s .0) (n .0) v (rows (now costs) (now via) (now nodes) (now counts)) ⌝ }
-    requires { ⌜ (start ≡ getD (now first) (s .0) 0) × (until ≡ getD (now first) (s .0 + 1) 0) ⌝ }
-    ensures { λ _. ⌜ rows (now (costs .exit)) (now (via .exit)) (now (nodes .exit)) (now (counts .exit)) ≡ relaxSteps (graphIn z (now (from .entry)) (now (to .entry)) (now (cost .entry))) (automatonIn z (now (from .entry)) (now (to .entry)) (now (cost .entry)) (now (step .entry)) (now (lo .entry)) (now (hi .entry))) (n .0) v start (until - start) (rows (now (costs .entry)) (now (via .entry)) (now (nodes .entry)) (now (counts .entry))) ⌝ }
+    requires { ⌜
+        (let t = read (now steps) (now inner) in
+        Stands t (now row) (n .0) v start until (rows (now costs) (now via) (now nodes) (now counts)))
+        ⌝ }
+    ensures { λ _. ⌜
+        (let before = rows (now (costs .entry)) (now (via .entry)) (now (nodes .entry)) (now (counts .entry)) in
+        let after = rows (now (costs .exit)) (now (via .exit)) (now (nodes .exit)) (now (counts .exit)) in
+        let t = read (now (steps .entry)) (now (inner .entry)) in
+        (x : Stands t (now (row .entry)) (n .0) v start until before)
+        → after ≡ relaxSteps (graphIn (x .z) t) (automatonIn (x .z) t) (n .0) v start (until - start) before)
+        ⌝ }
 {
     let mut m = n;
     let mut e = start;
     while e < until {
         let key = Step(e as u16);
-        m = descend_to(step, lo, key, m);
+        m = descend_to(&inner[STEP], &inner[LO], key, m);
         if m.0 == 0 {
             return;
         }
-        let t = branch(step, hi, key, m);
-        relax_step(costs, via, nodes, counts, to, cost, row, e, n, v, t);
+        let t = branch(&inner[STEP], &inner[HI], key, m);
+        relax_step(costs, via, nodes, counts, steps, row, e, n, v, t);
         e += 1;
     }
 }
@@ -129,19 +145,24 @@ fn relax_row<'a>(
     via: &mut [u32],
     nodes: &mut [u32],
     counts: &mut [u32; 256],
-    z: Shape,
-    from: &'a [u16; 1024],
-    to: &'a [u16; 1024],
-    cost: &'a [u32; 1024],
+    steps: &'a [[u32; 1024]; 3],
     first: &'a [u16; 257],
     row: &'a [u32; 256],
-    step: &'a [u16; 512],
-    lo: &'a [u16; 512],
-    hi: &'a [u16; 512],
+    inner: &'a [[u16; 512]; 3],
     s: Stage,
 )
-    requires { ⌜ Row z (now from) (now to) (now cost) (now first) (now row) (now step) (now lo) (now hi) (s .0) (rows (now costs) (now via) (now nodes) (now counts)) × (s .0 < z .stages) ⌝ }
-    ensures { λ _. ⌜ rows (now (costs .exit)) (now (via .exit)) (now (nodes .exit)) (now (counts .exit)) ≡ relaxNodes (graphIn z (now (from .entry)) (now (to .entry)) (now (cost .entry))) (automatonIn z (now (from .entry)) (now (to .entry)) (now (cost .entry)) (now (step .entry)) (now (lo .entry)) (now (hi .entry))) (at (now (first .entry))) (s .0) 0 (getD (now (counts .entry)) (s .0) 0) (rows (now (costs .entry)) (now (via .entry)) (now (nodes .entry)) (now (counts .entry))) ⌝ }
+    requires { ⌜
+        (let on = walk (read (now steps) (now inner)) (now first) (now row) in
+        InRow on (s .0) (rows (now costs) (now via) (now nodes) (now counts)))
+        ⌝ }
+    ensures { λ _. ⌜
+        (let before = rows (now (costs .entry)) (now (via .entry)) (now (nodes .entry)) (now (counts .entry)) in
+        let after = rows (now (costs .exit)) (now (via .exit)) (now (nodes .exit)) (now (counts .exit)) in
+        let t = read (now (steps .entry)) (now (inner .entry)) in
+        let first = now (first .entry) in
+        (x : InRow (walk t first (now (row .entry))) (s .0) before)
+        → after ≡ relaxNodes (graphIn (x .z) t) (automatonIn (x .z) t) (at first) (s .0) 0 (at (before .counts) (s .0)) before)
+        ⌝ }
 {
     let at = s.0 as usize;
     let base = wide(row[at]);
@@ -157,16 +178,9 @@ fn relax_row<'a>(
             via,
             nodes,
             counts,
-            z,
-            from,
-            to,
-            cost,
-            first,
+            steps,
             row,
-            step,
-            lo,
-            hi,
-            s,
+            inner,
             Node(n as u16),
             v,
             start,
@@ -183,17 +197,21 @@ pub fn relax_rows<'a>(
     nodes: &mut [u32],
     counts: &mut [u32; 256],
     z: Shape,
-    from: &'a [u16; 1024],
-    to: &'a [u16; 1024],
-    cost: &'a [u32; 1024],
+    steps: &'a [[u32; 1024]; 3],
     first: &'a [u16; 257],
     row: &'a [u32; 256],
-    step: &'a [u16; 512],
-    lo: &'a [u16; 512],
-    hi: &'a [u16; 512],
+    inner: &'a [[u16; 512]; 3],
 )
-    requires { ⌜ Row z (now from) (now to) (now cost) (now first) (now row) (now step) (now lo) (now hi) (z .start) (rows (now costs) (now via) (now nodes) (now counts)) ⌝ }
-    ensures { λ _. ⌜ rows (now (costs .exit)) (now (via .exit)) (now (nodes .exit)) (now (counts .exit)) ≡ relaxRows (graphIn z (now (from .entry)) (now (to .entry)) (now (cost .entry))) (automatonIn z (now (from .entry)) (now (to .entry)) (now (cost .entry)) (now (step .entry)) (now (lo .entry)) (now (hi .entry))) (at (now (first .entry))) (z .start) (z .stages - z .start) (rows (now (costs .entry)) (now (via .entry)) (now (nodes .entry)) (now (counts .entry))) ⌝ }
+    requires { ⌜
+        (let on = walk (read (now steps) (now inner)) (now first) (now row) in
+        Row z on (z .start) (rows (now costs) (now via) (now nodes) (now counts)))
+        ⌝ }
+    ensures { λ _. ⌜
+        (let before = rows (now (costs .entry)) (now (via .entry)) (now (nodes .entry)) (now (counts .entry)) in
+        let after = rows (now (costs .exit)) (now (via .exit)) (now (nodes .exit)) (now (counts .exit)) in
+        let t = read (now (steps .entry)) (now (inner .entry)) in
+        after ≡ relaxRows (graphIn z t) (automatonIn z t) (at (now (first .entry))) (z .start) (z .stages - z .start) before)
+        ⌝ }
 {
     let stages = z.stages;
     let mut s = z.start;
@@ -203,15 +221,10 @@ pub fn relax_rows<'a>(
             via,
             nodes,
             counts,
-            z,
-            from,
-            to,
-            cost,
+            steps,
             first,
             row,
-            step,
-            lo,
-            hi,
+            inner,
             Stage(s),
         );
         s += 1;

@@ -14,67 +14,76 @@ use Rattle.theory.specs.Pairs.{pair-inside}
 use Rattle.sweep_model.specs.Model.{unreached, Rows, rows, begun, swept, relaxRows}
 use Rattle.sweep_model.specs.Rows.{Table}
 use Rattle.sweep_model.specs.Result.{Fresh, begun-table}
-use Rattle.checks.specs.Ready.{Ready, graphIn, automatonIn, width-is, lawful-in, few-stages, row-start}
+use Rattle.checks.specs.Ready.{Walk, Ready, graphIn, automatonIn, width-is, lawful-in, few-stages, row-start}
 use Rattle.checks.specs.declared.Shape.{Shape}
 use Rattle.relax.specs.Standing.{Row, at}
 use Rattle.relax.specs.Leaving.{first-steps}
 use Rattle.sweep.specs.Begin.{Begun}
-use Rattle.sweep.specs.Runs.{pairsIn, Space, Blank, cleared}
+use Rattle.sweep.specs.Runs.{pairsIn, Work, Space, Blank, cleared}
 
-module _ (z : Shape) (from to cost first row step lo hi : List ℕ) (y : Ready z from to cost first row step lo hi) where
+module _ {z : Shape} {on : Walk} (y : Ready z on) where
   abbrev g : Graph
-  g = graphIn z from to cost
+  g = graphIn z (on .read)
 
   abbrev a : Automaton
-  a = automatonIn z from to cost step lo hi
+  a = automatonIn z (on .read)
 
   pub pairs-is : pairs g a ≡ pairsIn z
-  pairs-is = ap (λ (w : ℕ). z .stages * w) (width-is z from to cost step lo hi (y .tables))
+  pairs-is = ap (λ (k : ℕ). z .stages * k) (width-is z (on .read) (y .tables))
 
-  module _ (costs via nodes counts : List ℕ) (sp : Space z costs via nodes) (bl : Blank counts) where
+  module _ {w : Work} {counts : List ℕ} (sp : Space z w) (bl : Blank counts) where
+    abbrev costs : List ℕ
+    costs = w .costs
+
+    abbrev via : List ℕ
+    via = w .via
+
+    abbrev nodes : List ℕ
+    nodes = w .nodes
+
     filled-long : length (replicate (pairsIn z) unreached ++ drop (pairsIn z) costs) ≡ length costs
     filled-long =
         length-append (replicate (pairsIn z) unreached) (drop (pairsIn z) costs)
         ∙ omega (arith, length-replicate (pairsIn z) unreached, length-drop (pairsIn z) costs, sp .cost-fits)
 
-    pub cleared-fresh : Fresh g a (cleared z costs via nodes counts)
+    pub cleared-fresh : Fresh g a (cleared z w counts)
     cleared-fresh = record {
       cost-fits = omega (arith, pairs-is, filled-long, sp .cost-fits);
       via-fits = omega (arith, pairs-is, sp .via-fits);
       nodes-fits = omega (arith, pairs-is, sp .nodes-fits);
-      counts-fits = omega (arith, bl .long, few-stages z from to cost step lo hi (y .tables));
+      counts-fits = omega (arith, bl .long, few-stages z (on .read) (y .tables));
       no-cost = λ p h.
           let k : p < pairsIn z = omega (arith, pairs-is) in
           List·getD-append (replicate (pairsIn z) unreached) (drop (pairsIn z) costs) 0 p (omega (arith, length-replicate (pairsIn z) unreached))
           ∙ getD-replicate (pairsIn z) p unreached 0 k;
-      no-node = λ s h. bl .none s (omega (arith, few-stages z from to cost step lo hi (y .tables)));
+      no-node = λ s h. bl .none s (omega (arith, few-stages z (on .read) (y .tables)));
     }
 
-    module _ (costs₁ : List ℕ) (e₁ : costs₁ ≡ replicate (pairsIn z) unreached ++ drop (pairsIn z) costs) (base : ℕ) (eb : base ≡ getD row (z .start) 0) where
+    module _ {costs₁ : List ℕ} (e₁ : costs₁ ≡ replicate (pairsIn z) unreached ++ drop (pairsIn z) costs) {base : ℕ} (eb : base ≡ getD (on .row) (z .start) 0) where
       base-is : base ≡ z .start * a .size
       base-is =
-          eb ∙ row-start z from to cost first row step lo hi y (z .start) (y .tables .valid .start-inside)
-          ∙ ap (λ (w : ℕ). z .start * w) (sym (width-is z from to cost step lo hi (y .tables)))
+          eb ∙ row-start z on y (z .start) (y .tables .valid .start-inside)
+          ∙ ap (λ (k : ℕ). z .start * k) (sym (width-is z (on .read) (y .tables)))
 
       pub begin-fits : (z .start < 256) × (base + z .root < length costs₁) × (base < length nodes)
       begin-fits =
           let p = pair-inside g a (z .start) (z .root) (y .tables .valid .start-inside) (y .tables .sound .root-inside) in
           let s = y .tables .valid .start-inside in (
-            omega (arith, few-stages z from to cost step lo hi (y .tables)),
+            omega (arith, few-stages z (on .read) (y .tables)),
             omega (arith, base-is, pairs-is, ap length e₁, filled-long, sp .cost-fits),
             omega (arith, base-is, pairs-is, sp .nodes-fits),
           )
 
-      pub begun-is : (costs₂ nodes₂ counts₂ : List ℕ) → Begun base (z .start) (z .root) costs₁ nodes counts costs₂ nodes₂ counts₂
-          → rows costs₂ via nodes₂ counts₂ ≡ begun g a (cleared z costs via nodes counts)
+      pub begun-is : {costs₂ nodes₂ counts₂ : List ℕ} → Begun base (z .start) (z .root) costs₁ nodes counts costs₂ nodes₂ counts₂
+          → rows costs₂ via nodes₂ counts₂ ≡ begun g a (cleared z w counts)
       unfolding begun pick
-      begun-is costs₂ nodes₂ counts₂ b = go (eqb (z .root) 0) (b .cost) (b .node) (b .count)
+      begun-is {costs₂} {nodes₂} {counts₂} b = go (eqb (z .root) 0) (b .cost) (b .node) (b .count)
         where
           zero-place : base ≡ pair a (z .start) 0
           zero-place = omega (arith, base-is)
 
           go : (t : Bool) → costs₂ ≡ pick t costs₁ (set costs₁ (base + z .root) 0) → nodes₂ ≡ pick t nodes (set nodes base (z .root)) → counts₂ ≡ pick t counts (set counts (z .start) 1)
-              → rows costs₂ via nodes₂ counts₂ ≡ pick t (cleared z costs via nodes counts)
+              → rows costs₂ via nodes₂ counts₂ ≡ pick t (cleared z w counts)
               (rows (set (replicate (pairsIn z) unreached ++ drop (pairsIn z) costs) (pair a (z .start) (z .root)) 0) via (set nodes (pair a (z .start) 0) (z .root)) (set counts (z .start) 1))
           go true p q r =
               ap (λ (l : List ℕ). rows l via nodes₂ counts₂) (p ∙ e₁) ∙ ap₂ (λ (m l : List ℕ). rows (replicate (pairsIn z) unreached ++ drop (pairsIn z) costs) via m l) q r
@@ -82,17 +91,17 @@ module _ (z : Shape) (from to cost first row step lo hi : List ℕ) (y : Ready z
               ap (λ (l : List ℕ). rows l via nodes₂ counts₂) (p ∙ ap₂ (λ (l : List ℕ) (i : ℕ). set l (i + z .root) 0) e₁ base-is)
               ∙ ap₂ (λ (m l : List ℕ). rows (set (replicate (pairsIn z) unreached ++ drop (pairsIn z) costs) (pair a (z .start) (z .root)) 0) via m l) (q ∙ ap (λ (i : ℕ). set nodes i (z .root)) zero-place) r
 
-      pub begun-row : (costs₂ nodes₂ counts₂ : List ℕ) → Begun base (z .start) (z .root) costs₁ nodes counts costs₂ nodes₂ counts₂
-          → Row z from to cost first row step lo hi (z .start) (rows costs₂ via nodes₂ counts₂)
-      begun-row costs₂ nodes₂ counts₂ b = record {
+      pub begun-row : {costs₂ nodes₂ counts₂ : List ℕ} → Begun base (z .start) (z .root) costs₁ nodes counts costs₂ nodes₂ counts₂
+          → Row z on (z .start) (rows costs₂ via nodes₂ counts₂)
+      begun-row b = record {
         ready = y;
-        table = subst (Table g a (z .start)) (sym (begun-is costs₂ nodes₂ counts₂ b))
-            (begun-table g a (y .tables .valid) (lawful-in z from to cost step lo hi (y .tables)) (cleared z costs via nodes counts) cleared-fresh (at first) (first-steps z from to cost first row step lo hi y));
+        table = subst (Table g a (z .start)) (sym (begun-is b))
+            (begun-table g a (y .tables .valid) (lawful-in z (on .read) (y .tables)) (cleared z w counts) cleared-fresh (at (on .first)) (first-steps z on y));
         stage = omega (arith, y .tables .valid .start-inside);
       }
 
-      pub swept-is : (costs₂ nodes₂ counts₂ : List ℕ) → Begun base (z .start) (z .root) costs₁ nodes counts costs₂ nodes₂ counts₂ → (r : Rows)
-          → r ≡ relaxRows g a (at first) (z .start) (z .stages - z .start) (rows costs₂ via nodes₂ counts₂)
-          → r ≡ swept g a (at first) (cleared z costs via nodes counts)
+      pub swept-is : {costs₂ nodes₂ counts₂ : List ℕ} → Begun base (z .start) (z .root) costs₁ nodes counts costs₂ nodes₂ counts₂ → {r : Rows}
+          → r ≡ relaxRows g a (at (on .first)) (z .start) (z .stages - z .start) (rows costs₂ via nodes₂ counts₂)
+          → r ≡ swept g a (at (on .first)) (cleared z w counts)
       unfolding swept
-      swept-is costs₂ nodes₂ counts₂ b r e = e ∙ ap (relaxRows g a (at first) (z .start) (z .stages - z .start)) (begun-is costs₂ nodes₂ counts₂ b)
+      swept-is b e = e ∙ ap (relaxRows g a (at (on .first)) (z .start) (z .stages - z .start)) (begun-is b)

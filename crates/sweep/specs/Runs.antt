@@ -10,8 +10,8 @@ use Rattle.definitions.specs.Promises.{Outcome, leastCosts}
 use Rattle.definitions.specs.declared.Answer.{Answer}
 use Rattle.sweep_model.specs.Model.{unreached, Rows, rows, swept}
 use Rattle.sweep_model.specs.Result.{Fresh}
-use Rattle.checks.specs.Tables.{chartIn, diagramIn}
-use Rattle.checks.specs.Ready.{Ready, graphIn, automatonIn}
+use Rattle.checks.specs.Tables.{Read, chartIn, diagramIn}
+use Rattle.checks.specs.Ready.{walk, Ready, graphIn, automatonIn}
 use Rattle.checks.specs.declared.Shape.{Shape}
 use Rattle.relax.specs.Standing.{at}
 
@@ -19,11 +19,20 @@ use Rattle.relax.specs.Standing.{at}
 abbrev pub pairsIn : Shape → ℕ
 pairsIn z = z .stages * (z .nodes + 2)
 
+-- the work slices
+pub record Work : Type 0 where
+  pub costs : List ℕ
+  pub via : List ℕ
+  pub nodes : List ℕ
+
+abbrev pub work : List ℕ → List ℕ → List ℕ → Work
+work costs via nodes = record { costs = costs; via = via; nodes = nodes }
+
 -- each work slice has an entry for each pair
-pub record Space (z : Shape) (costs via nodes : List ℕ) : Type 0 where
-  pub cost-fits : pairsIn z ≤ length costs
-  pub via-fits : pairsIn z ≤ length via
-  pub nodes-fits : pairsIn z ≤ length nodes
+pub record Space (z : Shape) (w : Work) : Type 0 where
+  pub cost-fits : pairsIn z ≤ length (w .costs)
+  pub via-fits : pairsIn z ≤ length (w .via)
+  pub nodes-fits : pairsIn z ≤ length (w .nodes)
 
 -- no row has a node yet
 pub record Blank (counts : List ℕ) : Type 0 where
@@ -31,26 +40,26 @@ pub record Blank (counts : List ℕ) : Type 0 where
   pub none : (s : ℕ) → s < 256 → getD counts s 0 ≡ 0
 
 -- the tables after the costs were cleared
-abbrev pub cleared : Shape → List ℕ → List ℕ → List ℕ → List ℕ → Rows
-cleared z costs via nodes counts = rows (replicate (pairsIn z) unreached ++ drop (pairsIn z) costs) via nodes counts
+abbrev pub cleared : Shape → Work → List ℕ → Rows
+cleared z w counts = rows (replicate (pairsIn z) unreached ++ drop (pairsIn z) (w .costs)) (w .via) (w .nodes) counts
 
--- the tables are those of a finished sweep
-pub record Final (z : Shape) (from to cost first row step lo hi costs via nodes counts : List ℕ) : Type 0 where
-  pub ready : Ready z from to cost first row step lo hi
+-- the tables are those of a finished sweep, by some table of first steps
+pub record Final (z : Shape) (t : Read) (row : List ℕ) (r : Rows) : Type 0 where
+  pub first : List ℕ
+  pub ready : Ready z (walk t first row)
   pub before : Rows
-  pub fresh : Fresh (graphIn z from to cost) (automatonIn z from to cost step lo hi) before
-  pub swept-rows : rows costs via nodes counts ≡ swept (graphIn z from to cost) (automatonIn z from to cost step lo hi) (at first) before
+  pub fresh : Fresh (graphIn z t) (automatonIn z t) before
+  pub swept-rows : r ≡ swept (graphIn z t) (automatonIn z t) (at first) before
 
 -- the answer and the plan slice are as promised
-pub record Concludes (z : Shape) (from to cost step lo hi plan plan′ : List ℕ) (r : Answer) : Type 0 where
-  pub outcome : Outcome (cheapest (chartIn z from to cost) (diagramIn z step lo hi)) (chartIn z from to cost) (diagramIn z step lo hi)
-      (length (reachedPairs (graphIn z from to cost) (automatonIn z from to cost step lo hi))) plan plan′ r
+pub record Concludes (z : Shape) (t : Read) (plan plan′ : List ℕ) (r : Answer) : Type 0 where
+  pub outcome : Outcome (cheapest (chartIn z t) (diagramIn z t)) (chartIn z t) (diagramIn z t) (length (reachedPairs (graphIn z t) (automatonIn z t))) plan plan′ r
 
 -- so are the work slices
-pub record Runs (z : Shape) (from to cost step lo hi costs via nodes plan costs′ via′ nodes′ plan′ : List ℕ) (r : Answer) : Type 0 where
-  pub concludes : Concludes z from to cost step lo hi plan plan′ r
-  pub cost-slice : costs′ ≡ leastCosts (graphIn z from to cost) (automatonIn z from to cost step lo hi) ++ drop (pairsIn z) costs
-  pub via-past : drop (pairsIn z) via′ ≡ drop (pairsIn z) via
-  pub nodes-past : drop (pairsIn z) nodes′ ≡ drop (pairsIn z) nodes
-  pub via-long : length via′ ≡ length via
-  pub nodes-long : length nodes′ ≡ length nodes
+pub record Runs (z : Shape) (t : Read) (w w′ : Work) (plan plan′ : List ℕ) (r : Answer) : Type 0 where
+  pub concludes : Concludes z t plan plan′ r
+  pub cost-slice : w′ .costs ≡ leastCosts (graphIn z t) (automatonIn z t) ++ drop (pairsIn z) (w .costs)
+  pub via-past : drop (pairsIn z) (w′ .via) ≡ drop (pairsIn z) (w .via)
+  pub nodes-past : drop (pairsIn z) (w′ .nodes) ≡ drop (pairsIn z) (w .nodes)
+  pub via-long : length (w′ .via) ≡ length (w .via)
+  pub nodes-long : length (w′ .nodes) ≡ length (w .nodes)

@@ -29,7 +29,10 @@ pub fn begin(
     root: Node,
 )
     requires { ⌜ (start < 256) × (base + root .0 < length (now costs)) × (base < length (now nodes)) ⌝ }
-    ensures { λ _. ⌜ Begun base start (root .0) (now (costs .entry)) (now (nodes .entry)) (now (counts .entry)) (now (costs .exit)) (now (nodes .exit)) (now (counts .exit)) ⌝ }
+    ensures { λ _. ⌜
+        Begun base start (root .0) (now (costs .entry)) (now (nodes .entry)) (now (counts .entry))
+        (now (costs .exit)) (now (nodes .exit)) (now (counts .exit))
+        ⌝ }
 {
     if root.0 == 0 {
         return;

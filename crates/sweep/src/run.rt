@@ -6,14 +6,15 @@ ghost use lib.ListN.{length};
 ghost use Rattle.definitions.specs.Answers.{load as outcome};
 ghost use Rattle.definitions.specs.Promises.{Swept, Scratch};
 ghost use Rattle.sweep_model.specs.Model.{rows, swept};
-ghost use Rattle.checks.specs.Tables.{Tables};
-ghost use Rattle.checks.specs.Ready.{Ready, graphIn, automatonIn};
+ghost use Rattle.checks.specs.Tables.{read, Tables};
+ghost use Rattle.checks.specs.Ready.{walk, Ready, graphIn, automatonIn};
 ghost use Rattle.relax.specs.Standing.{at};
-ghost use Rattle.sweep.specs.Runs.{Space, Blank, cleared, Final, Concludes, Runs};
+ghost use Rattle.sweep.specs.Runs.{work, Space, Blank, cleared, Final, Concludes, Runs};
 use crate::begin::begin;
 use crate::begin::clear;
 use crate::goals::cheapest_goal;
 use crate::goals::total_count;
+use chart::FROM;
 use chart::first_steps;
 use checks::Shape;
 use checks::load;
@@ -23,6 +24,7 @@ use definitions::Answer;
 use definitions::NONE;
 use definitions::Node;
 use definitions::Stage;
+use diagram::LO;
 use nodes::finishing;
 use relax::relax_rows;
 use rows::row_starts;
@@ -36,18 +38,19 @@ fn sweep_rows<'a>(
     nodes: &mut [u32],
     counts: &mut [u32; 256],
     z: Shape,
-    from: &'a [u16; 1024],
-    to: &'a [u16; 1024],
-    cost: &'a [u32; 1024],
+    steps: &'a [[u32; 1024]; 3],
     first: &'a [u16; 257],
     row: &'a [u32; 256],
-    step: &'a [u16; 512],
-    lo: &'a [u16; 512],
-    hi: &'a [u16; 512],
+    inner: &'a [[u16; 512]; 3],
 )
-    requires { ⌜ Ready z (now from) (now to) (now cost) (now first) (now row) (now step) (now lo) (now hi) ⌝ }
-    requires { ⌜ Space z (now costs) (now via) (now nodes) × Blank (now counts) ⌝ }
-    ensures { λ _. ⌜ rows (now (costs .exit)) (now (via .exit)) (now (nodes .exit)) (now (counts .exit)) ≡ swept (graphIn z (now (from .entry)) (now (to .entry)) (now (cost .entry))) (automatonIn z (now (from .entry)) (now (to .entry)) (now (cost .entry)) (now (step .entry)) (now (lo .entry)) (now (hi .entry))) (at (now (first .entry))) (cleared z (now (costs .entry)) (now (via .entry)) (now (nodes .entry)) (now (counts .entry))) ⌝ }
+    requires { ⌜ Ready z (walk (read (now steps) (now inner)) (now first) (now row)) ⌝ }
+    requires { ⌜ Space z (work (now costs) (now via) (now nodes)) × Blank (now counts) ⌝ }
+    ensures { λ _. ⌜
+        (let t = read (now (steps .entry)) (now (inner .entry)) in
+        let before = work (now (costs .entry)) (now (via .entry)) (now (nodes .entry)) in
+        let after = rows (now (costs .exit)) (now (via .exit)) (now (nodes .exit)) (now (counts .exit)) in
+        after ≡ swept (graphIn z t) (automatonIn z t) (at (now (first .entry))) (cleared z before (now (counts .entry))))
+        ⌝ }
 {
     let stages = z.stages as usize;
     let width = z.nodes + 2;
@@ -55,21 +58,7 @@ fn sweep_rows<'a>(
     clear(costs, stages * width);
     let base = wide(row[start]);
     begin(costs, nodes, counts, base, start, Node(z.root));
-    relax_rows(
-        costs,
-        via,
-        nodes,
-        counts,
-        z,
-        from,
-        to,
-        cost,
-        first,
-        row,
-        step,
-        lo,
-        hi,
-    );
+    relax_rows(costs, via, nodes, counts, z, steps, first, row, inner);
 }
 
 // The answer by the finished tables; a plan is written where there is one.
@@ -79,24 +68,24 @@ fn conclude<'a>(
     nodes: &'a [u32],
     counts: &'a [u32; 256],
     z: Shape,
-    from: &'a [u16; 1024],
-    to: &'a [u16; 1024],
-    cost: &'a [u32; 1024],
-    first: &'a [u16; 257],
+    steps: &'a [[u32; 1024]; 3],
     row: &'a [u32; 256],
-    step: &'a [u16; 512],
-    lo: &'a [u16; 512],
-    hi: &'a [u16; 512],
+    inner: &'a [[u16; 512]; 3],
     plan: &mut [u16],
 ) -> Answer
-    requires { ⌜ Final z (now from) (now to) (now cost) (now first) (now row) (now step) (now lo) (now hi) (now costs) (now via) (now nodes) (now counts) ⌝ }
+    requires { ⌜
+        (let after = rows (now costs) (now via) (now nodes) (now counts) in
+        Final z (read (now steps) (now inner)) (now row) after)
+        ⌝ }
     requires { ⌜ z .stages - 1 ≤ length (now plan) ⌝ }
-    ensures { λ r. ⌜ Concludes z (now (from .entry)) (now (to .entry)) (now (cost .entry)) (now (step .entry)) (now (lo .entry)) (now (hi .entry)) (now (plan .entry)) (now (plan .exit)) r ⌝ }
+    ensures { λ r. ⌜
+        Concludes z (read (now (steps .entry)) (now (inner .entry))) (now (plan .entry)) (now (plan .exit)) r
+        ⌝ }
 {
     let stages = z.stages as usize;
     let end = z.end as usize;
     let count = total_count(counts, stages);
-    let yes = finishing(lo, z.nodes);
+    let yes = finishing(&inner[LO], z.nodes);
     let base = wide(row[end]);
     let listed = wide(counts[end]);
     let best = cheapest_goal(costs, nodes, &yes, base, listed);
@@ -111,27 +100,22 @@ fn conclude<'a>(
             count,
         };
     }
-    let width = z.nodes + 2;
-    let steps = trail_length(
+    let length = trail_length(
         via,
-        from,
+        &steps[FROM],
         row,
-        width,
-        stages,
         Stage(z.start),
         Stage(z.end),
         best.node,
     );
     write_trail(
         via,
-        from,
+        &steps[FROM],
         row,
-        width,
-        stages,
         Stage(z.start),
         Stage(z.end),
         best.node,
-        steps,
+        length,
         plan,
     );
     Answer {
@@ -139,7 +123,7 @@ fn conclude<'a>(
         file: 0,
         place: 0,
         cost: least,
-        length: steps,
+        length,
         count,
     }
 }
@@ -151,18 +135,19 @@ fn run<'a>(
     nodes: &mut [u32],
     plan: &mut [u16],
     z: Shape,
-    from: &'a [u16; 1024],
-    to: &'a [u16; 1024],
-    cost: &'a [u32; 1024],
-    step: &'a [u16; 512],
-    lo: &'a [u16; 512],
-    hi: &'a [u16; 512],
+    steps: &'a [[u32; 1024]; 3],
+    inner: &'a [[u16; 512]; 3],
 ) -> Answer
-    requires { ⌜ Tables z (now from) (now to) (now cost) (now step) (now lo) (now hi) ⌝ }
-    requires { ⌜ Space z (now costs) (now via) (now nodes) × (z .stages - 1 ≤ length (now plan)) ⌝ }
-    ensures { λ r. ⌜ Runs z (now (from .entry)) (now (to .entry)) (now (cost .entry)) (now (step .entry)) (now (lo .entry)) (now (hi .entry)) (now (costs .entry)) (now (via .entry)) (now (nodes .entry)) (now (plan .entry)) (now (costs .exit)) (now (via .exit)) (now (nodes .exit)) (now (plan .exit)) r ⌝ }
+    requires { ⌜ Tables z (read (now steps) (now inner)) ⌝ }
+    requires { ⌜ Space z (work (now costs) (now via) (now nodes)) × (z .stages - 1 ≤ length (now plan)) ⌝ }
+    ensures { λ r. ⌜
+        (let t = read (now (steps .entry)) (now (inner .entry)) in
+        let before = work (now (costs .entry)) (now (via .entry)) (now (nodes .entry)) in
+        let after = work (now (costs .exit)) (now (via .exit)) (now (nodes .exit)) in
+        Runs z t before after (now (plan .entry)) (now (plan .exit)) r)
+        ⌝ }
 {
-    let first = first_steps(from, z.steps, z.stages);
+    let first = first_steps(&steps[FROM], z.steps, z.stages);
     let row = row_starts(z.stages as usize, z.nodes + 2);
     let mut counts = [0u32; 256];
     sweep_rows(
@@ -171,31 +156,12 @@ fn run<'a>(
         nodes,
         &mut counts,
         z,
-        from,
-        to,
-        cost,
+        steps,
         &first,
         &row,
-        step,
-        lo,
-        hi,
+        inner,
     );
-    conclude(
-        costs,
-        via,
-        nodes,
-        &counts,
-        z,
-        from,
-        to,
-        cost,
-        &first,
-        &row,
-        step,
-        lo,
-        hi,
-        plan,
-    )
+    conclude(costs, via, nodes, &counts, z, steps, &row, inner, plan)
 }
 
 // The least cost of every pair and a cheapest legal plan, from both files. `cost` gets the least costs; `via` and
@@ -208,29 +174,18 @@ pub fn sweep(
     nodes: &mut [u32],
     plan: &mut [u16],
 ) -> Answer
-    ensures { λ r. ⌜ Swept (outcome (now (chart .entry)) (now (rules .entry)) (length (now (cost .entry)) ∷ length (now (via .entry)) ∷ length (now (nodes .entry)) ∷ []) (length (now (plan .entry)))) (now (plan .entry)) (now (plan .exit)) (now (cost .entry)) (now (cost .exit)) r ⌝ }
-    ensures { λ r. ⌜ Scratch (outcome (now (chart .entry)) (now (rules .entry)) (length (now (cost .entry)) ∷ length (now (via .entry)) ∷ length (now (nodes .entry)) ∷ []) (length (now (plan .entry)))) (now (via .entry)) (now (via .exit)) ⌝ }
-    ensures { λ r. ⌜ Scratch (outcome (now (chart .entry)) (now (rules .entry)) (length (now (cost .entry)) ∷ length (now (via .entry)) ∷ length (now (nodes .entry)) ∷ []) (length (now (plan .entry)))) (now (nodes .entry)) (now (nodes .exit)) ⌝ }
+    ensures { λ r. ⌜
+        (let lengths = length (now (cost .entry)) ∷ length (now (via .entry)) ∷ length (now (nodes .entry)) ∷ [] in
+        let o = outcome (now (chart .entry)) (now (rules .entry)) lengths (length (now (plan .entry))) in
+        Swept o (now (plan .entry)) (now (plan .exit)) (now (cost .entry)) (now (cost .exit)) r
+        × Scratch o (now (via .entry)) (now (via .exit))
+        × Scratch o (now (nodes .entry)) (now (nodes .exit)))
+        ⌝ }
 {
-    let mut from = [0u16; 1024];
-    let mut to = [0u16; 1024];
-    let mut price = [0u32; 1024];
-    let mut step = [0u16; 512];
-    let mut lo = [0u16; 512];
-    let mut hi = [0u16; 512];
+    let mut steps = [[0u32; 1024]; 3];
+    let mut inner = [[0u16; 512]; 3];
     let work = lesser(lesser(cost.len(), via.len()), nodes.len());
-    let got = load(
-        chart,
-        rules,
-        work,
-        plan.len(),
-        &mut from,
-        &mut to,
-        &mut price,
-        &mut step,
-        &mut lo,
-        &mut hi,
-    );
+    let got = load(chart, rules, work, plan.len(), &mut steps, &mut inner);
     if got.number != 0 {
         return Answer {
             number: got.number,
@@ -242,17 +197,5 @@ pub fn sweep(
         };
     }
     let z = got.shape;
-    run(
-        cost,
-        via,
-        nodes,
-        plan,
-        z,
-        &from,
-        &to,
-        &price,
-        &step,
-        &lo,
-        &hi,
-    )
+    run(cost, via, nodes, plan, z, &steps, &inner)
 }

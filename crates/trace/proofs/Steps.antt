@@ -1,13 +1,13 @@
 -- Laws of trails: how a step back shortens one, and what the loops that follow one keep.
 -- Assumes nothing.
 use Prim.Native.Nat.{ℕ, zero, suc, _+_, _-_, _*_, _/_, _%_, _≤_, _<_}
-use mathlib.Core.Path.{_≡_, refl, sym, _∙_, ap, ap₂, subst₂}
+use mathlib.Core.Path.{_≡_, refl, sym, _∙_, ap, subst₂}
 use mathlib.Core.List.{List, [], _∷_, _++_}
 use native.Mathlib.Omega.{arith}
 use native.Mathlib.Nat.{mul-le-mul-right}
 use lib.ListN.{length, getD, set, take, length-append}
 use Rattle.rows.specs.Rows.{row-at}
-use Rattle.trace.specs.Trails.{packed, Trail, begin, more, Traceable, LongAs}
+use Rattle.trace.specs.Trails.{packed, Trail, begin, more, Traceable}
 
 append-nil : (xs : List ℕ) → xs ++ [] ≡ xs
 append-nil [] = refl
@@ -52,46 +52,41 @@ module _ (via from : List ℕ) (width start : ℕ) where
   no-step s n w h begin = refl
   no-step s n w h (more a b c d f t) = absurd (omega arith)
 
-  -- one trail only
-  pub one-trail : (s n t k : ℕ) (u v : List ℕ) → s ≡ t → n ≡ k → width ≤ 512 → Way s n u → Way t k v → u ≡ v
-  one-trail s n t k u v p q h begin y = sym (no-step t k v (omega arith) y)
-  one-trail s n t k u v p q h (more {e} {m} {w} a b c d f x) y =
-      let l = last-step t k v (omega arith) y in
-      let z : packed e m ≡ packed (l .e) (l .m) = sym f ∙ ap₂ (λ (i j : ℕ). getD via (i * width + j) 0) p q ∙ l .packs in
-      let ee : e ≡ l .e = omega (arith, l .node) in
-      let em : m ≡ l .m = omega (arith, l .node) in
-      let r = one-trail (getD from e 0) m (getD from (l .e) 0) (l .m) w (l .rest) (ap (λ (i : ℕ). getD from i 0) ee) em h x (l .trail) in
-      ap₂ (λ (z : List ℕ) (i : ℕ). z ++ i ∷ []) r ee ∙ sym (l .whole)
-
-  -- The loops that follow the trail from the pair of s₀ and n₀: they have come to the pair of s and n, `before` leads there, and `after` are the steps from there on
-  pub record Following (s₀ n₀ s n : ℕ) (after : List ℕ) : Type 0 where
+  -- The loops that follow the trail `steps`: they have come to the pair of s and n, `before` leads there, and `after` are the steps from there on
+  pub record Following (steps : List ℕ) (s₀ s n : ℕ) (after : List ℕ) : Type 0 where
     pub before : List ℕ
     pub trail : Way s n before
     pub node : n < width
     pub down : s ≤ s₀
-    pub whole : (w : List ℕ) → Way s₀ n₀ w → w ≡ before ++ after
+    pub whole : steps ≡ before ++ after
 
-module _ (via from row : List ℕ) (width stages start s₀ n₀ : ℕ) (t : Traceable via from row width stages start s₀ n₀) where
-  pub follow-start : Following via from width start s₀ n₀ s₀ n₀ []
+module _ (via from row : List ℕ) (start s₀ n₀ : ℕ) (t : Traceable via from row start s₀ n₀) where
+  abbrev width : ℕ
+  width = t .width
+
+  abbrev pub Follows : ℕ → ℕ → List ℕ → Type 0
+  Follows = Following via from width start (t .steps) s₀
+
+  pub follow-start : Follows s₀ n₀ []
   follow-start = record {
     before = t .steps;
     trail = t .trail;
     node = t .node;
     down = omega arith;
-    whole = λ w x. one-trail via from width start s₀ n₀ s₀ n₀ w (t .steps) refl refl (t .narrow) x (t .trail) ∙ sym (append-nil (t .steps));
+    whole = sym (append-nil (t .steps));
   }
 
-  module _ (s n : ℕ) (after : List ℕ) (f : Following via from width start s₀ n₀ s n after) where
+  module _ (s n : ℕ) (after : List ℕ) (f : Follows s n after) where
     -- the pair stands in the tables
     pub follow-stage : s < 256
     follow-stage = omega (arith, f .down, t .stage, t .few)
 
     place : (at : ℕ) → at ≡ getD row s 0 + n → at ≡ s * width + n
-    place at e = omega (arith, ap (λ (l : List ℕ). getD l s 0) (t .rows), row-at stages width s (t .few) (omega (arith, f .down, t .stage)))
+    place at e = omega (arith, ap (λ (l : List ℕ). getD l s 0) (t .rows), row-at (t .stages) width s (t .few) (omega (arith, f .down, t .stage)))
 
     pub follow-fits : (at : ℕ) → at ≡ getD row s 0 + n → at < length via
     follow-fits at e =
-        let h : s < stages = omega (arith, f .down, t .stage) in
+        let h : s < t .stages = omega (arith, f .down, t .stage) in
         omega (arith, place at e, f .node, t .fits, mul-le-mul-right width h)
 
     module _ (h : start < s) (at x : ℕ) (e : at ≡ getD row s 0 + n) (ex : x ≡ getD via at 0) where
@@ -101,8 +96,10 @@ module _ (via from row : List ℕ) (width stages start s₀ n₀ : ℕ) (t : Tra
       packs : x ≡ packed (last .e) (last .m)
       packs = ex ∙ ap (λ (i : ℕ). getD via i 0) (place at e) ∙ last .packs
 
-      pub follow-packed : x / 512 < 1024
-      follow-packed = omega (arith, packs, last .node, last .exists, t .narrow)
+      pub follow-packed : (x / 512 < 1024) × (getD from (x / 512) 0 < 65536)
+      follow-packed =
+          let e : x / 512 ≡ last .e = omega (arith, packs, last .node, t .narrow) in
+          (omega (arith, last .exists), omega (arith, ap (λ (i : ℕ). getD from i 0) e, last .down, follow-stage))
 
       module _ (step stage node : ℕ) (es : step ≡ x / 512) (et : stage ≡ getD from step 0) (en : node ≡ x % 512) where
         step-is : step ≡ last .e
@@ -117,29 +114,28 @@ module _ (via from row : List ℕ) (width stages start s₀ n₀ : ℕ) (t : Tra
         pub follow-less : stage < s
         follow-less = omega (arith, stage-is, last .down)
 
-        pub follow-more : Following via from width start s₀ n₀ stage node (step ∷ after)
+        pub follow-more : Follows stage node (step ∷ after)
         follow-more = record {
           before = last .rest;
           trail = subst₂ (λ (i j : ℕ). Trail via from width start i j (last .rest)) (sym stage-is) (sym node-is) (last .trail);
           node = omega (arith, node-is, last .node);
           down = omega (arith, follow-less, f .down);
-          whole = λ w y. f .whole w y ∙ ap (λ (z : List ℕ). z ++ after) (last .whole) ∙ append-one (last .rest) (last .e) after
+          whole = f .whole ∙ ap (λ (z : List ℕ). z ++ after) (last .whole) ∙ append-one (last .rest) (last .e) after
               ∙ ap (λ (i : ℕ). last .rest ++ i ∷ after) (sym step-is);
         }
 
     -- what is left of the trail is as long as what was not yet taken of the count
-    pub follow-count : (count i : ℕ) → LongAs via from width start s₀ n₀ count → i + length after ≡ count → length (f .before) ≡ i
-    follow-count count i c e =
-        omega (arith, c (t .steps) (t .trail), ap length (f .whole (t .steps) (t .trail)), length-append (f .before) after)
+    pub follow-count : (count i : ℕ) → count ≡ length (t .steps) → i + length after ≡ count → length (f .before) ≡ i
+    follow-count count i c e = omega (arith, ap length (f .whole), length-append (f .before) after)
 
-    pub follow-some : (count i : ℕ) → LongAs via from width start s₀ n₀ count → i + length after ≡ count → start < s → 1 ≤ i
+    pub follow-some : (count i : ℕ) → count ≡ length (t .steps) → i + length after ≡ count → start < s → 1 ≤ i
     follow-some count i c e h =
         let l = last-step via from width start s n (f .before) h (f .trail) in
         omega (arith, follow-count count i c e, ap length (l .whole), length-append (l .rest) (l .e ∷ []))
 
     -- at the start's stage the trail is at its end
-    pub follow-none : (count i : ℕ) → LongAs via from width start s₀ n₀ count → i + length after ≡ count → s ≤ start → i ≡ 0
+    pub follow-none : (count i : ℕ) → count ≡ length (t .steps) → i + length after ≡ count → s ≤ start → i ≡ 0
     follow-none count i c e h = sym (follow-count count i c e) ∙ ap length (no-step via from width start s n (f .before) h (f .trail))
 
-    pub follow-done : s ≤ start → (w : List ℕ) → Trail via from width start s₀ n₀ w → w ≡ after
-    follow-done h w y = f .whole w y ∙ ap (λ (z : List ℕ). z ++ after) (no-step via from width start s n (f .before) h (f .trail))
+    pub follow-done : s ≤ start → t .steps ≡ after
+    follow-done h = f .whole ∙ ap (λ (z : List ℕ). z ++ after) (no-step via from width start s n (f .before) h (f .trail))

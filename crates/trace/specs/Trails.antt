@@ -3,7 +3,7 @@
 use Prim.Native.Nat.{ℕ, _+_, _*_, _≤_, _<_}
 use mathlib.Core.Path.{_≡_}
 use mathlib.Core.List.{List, [], _∷_, _++_}
-use lib.ListN.{length, getD, drop}
+use lib.ListN.{length, getD}
 use Rattle.rows.specs.Rows.{rowStarts}
 
 -- a step and a node in one number
@@ -17,8 +17,10 @@ pub data Trail (via from : List ℕ) (width start : ℕ) : ℕ → ℕ → List 
   more : {s n e m : ℕ} {w : List ℕ} → start < s → e < 1024 → m < width → getD from e 0 < s → getD via (s * width + n) 0 ≡ packed e m
       → Trail via from width start (getD from e 0) m w → Trail via from width start s n (w ++ e ∷ [])
 
--- a pair can be traced back, by these tables
-pub record Traceable (via from row : List ℕ) (width stages start s n : ℕ) : Type 0 where
+-- a pair can be traced back, by these tables: rows of some width, of some stages, and a trail to the pair
+pub record Traceable (via from row : List ℕ) (start s n : ℕ) : Type 0 where
+  pub stages : ℕ
+  pub width : ℕ
   pub rows : row ≡ rowStarts stages width
   pub few : stages ≤ 256
   pub narrow : width ≤ 512
@@ -27,11 +29,3 @@ pub record Traceable (via from row : List ℕ) (width stages start s n : ℕ) : 
   pub node : n < width
   pub steps : List ℕ
   pub trail : Trail via from width start s n steps
-
--- r is the length of the trail to a pair
-abbrev pub LongAs : List ℕ → List ℕ → ℕ → ℕ → ℕ → ℕ → ℕ → Type 0
-LongAs via from width start s n r = (w : List ℕ) → Trail via from width start s n w → r ≡ length w
-
--- the plan begins with the trail to a pair, as many steps as count, and goes on as before
-abbrev pub Written : List ℕ → List ℕ → ℕ → ℕ → ℕ → ℕ → ℕ → List ℕ → List ℕ → Type 0
-Written via from width start s n count plan plan′ = (w : List ℕ) → Trail via from width start s n w → plan′ ≡ w ++ drop count plan

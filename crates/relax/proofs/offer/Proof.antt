@@ -6,9 +6,6 @@ use Rattle.relax.proofs.Offering.{offer-kept, offer-new, offer-lower}
 use borrow.Author.Needs.{needs}
 use Rattle.relax.proofs.offer.Statement.{statement}
 use Rattle.relax.proofs.offer.Tie as tie
-use Rattle.relax.proofs.offer.Reads as reads
-use Rattle.relax.proofs.offer.Lts as lts
-use Rattle.convert.proofs.wide.Reads as wide-reads
 
 add-q : tie.Need-add-q
 add-q c = search needs
@@ -20,7 +17,7 @@ slice-read-old : tie.Need-slice-read-old
 slice-read-old c = search needs
 
 returns : tie.Need-returns
-returns c = offer-kept _ _ _ _ _ _ _ _ _ (c .if1 .taken)
+returns c = offer-kept _ _ _ _ _ _ (c .if1 .taken)
 
 mul-k : tie.Need-mul-k
 mul-k c = search needs
@@ -41,10 +38,16 @@ mul-nodes : tie.Need-mul-nodes
 mul-nodes c = search needs
 
 slice-write-nodes : tie.Need-slice-write-nodes
-slice-write-nodes c = omega (arith, c .before .before .before .before .before .before .before .before .pre .list-fits (c .before .before .if2 .taken), c .wide .ensures)
+slice-write-nodes c =
+    let new : tie.Then2 = search in
+    let start : tie.Start = search in
+    omega (arith, start .pre .list-fits (new .if2 .taken), c .wide .ensures)
 
 add-counts : tie.Need-add-counts
-add-counts c = omega (arith, c .before .before .before .before .before .before .before .before .pre .count-small (c .before .before .if2 .taken))
+add-counts c =
+    let new : tie.Then2 = search in
+    let start : tie.Start = search in
+    omega (arith, start .pre .count-small (new .if2 .taken))
 
 mul-counts : tie.Need-mul-counts
 mul-counts c = search needs
@@ -74,7 +77,11 @@ same-length-3 : tie.Need-same-length-3
 same-length-3 c = search needs
 
 returns-2 : tie.Need-returns-2
-returns-2 c = offer-new _ _ _ _ _ _ _ _ _ (c .before .before .before .if1 .left) (c .before .before .if2 .taken) _ _ refl (ap (λ k. c .before .before .before .before .before .before .before .before .args .base + k) (c .wide .ensures .0))
+returns-2 c =
+    let new : tie.Then2 = search in
+    let low : tie.Else1 = search in
+    let start : tie.Start = search in
+    offer-new _ _ _ _ _ _ (low .if1 .left) (new .if2 .taken) _ _ refl (ap (λ k. start .args .base + k) (c .wide .ensures .0))
 
 mul-costs-2 : tie.Need-mul-costs-2
 mul-costs-2 c = search needs
@@ -95,7 +102,9 @@ same-length-5 : tie.Need-same-length-5
 same-length-5 c = search needs
 
 returns-3 : tie.Need-returns-3
-returns-3 c = offer-lower _ _ _ _ _ _ _ _ _ (c .before .if1 .left) (c .if2 .left)
+returns-3 c =
+    let low : tie.Else1 = search in
+    offer-lower _ _ _ _ _ _ (low .if1 .left) (c .if2 .left)
 
 pub offer-spec : {M : Type 1} → statement M
 offer-spec =

@@ -3,19 +3,18 @@ use Rattle.relax.proofs.Walking.{offers, stepped-none, stepped-offer}
 use borrow.Author.Needs.{needs}
 use Rattle.relax.proofs.relax_step.Statement.{statement}
 use Rattle.relax.proofs.relax_step.Tie as tie
-use Rattle.relax.proofs.relax_step.Reads as reads
-use Rattle.relax.proofs.relax_step.Lts as lts
-use Rattle.convert.proofs.wide.Reads as wide-reads
-use Rattle.relax.proofs.offer.Reads as offer-reads
 
 returns : tie.Need-returns
-returns c = stepped-none _ _ _ _ _ _ _ _ (c .if1 .taken)
+returns c = stepped-none _ _ _ _ _ _ _ (c .if1 .taken)
 
 mul-s : tie.Need-mul-s
 mul-s c = search needs
 
-element-copy-out-s : tie.Need-element-copy-out-s
-element-copy-out-s c = search needs
+index-1-s : tie.Need-index-1-s
+index-1-s c = search needs
+
+index-2-s : tie.Need-index-2-s
+index-2-s c = search needs
 
 cast-s : tie.Need-cast-s
 cast-s c = search needs
@@ -47,14 +46,21 @@ cast-offer c = search needs
 mul-offer : tie.Need-mul-offer
 mul-offer c = search needs
 
-element-copy-out-offer : tie.Need-element-copy-out-offer
-element-copy-out-offer c = search needs
+index-1-offer : tie.Need-index-1-offer
+index-1-offer c = search needs
+
+index-2-offer : tie.Need-index-2-offer
+index-2-offer c = search needs
 
 add-offer : tie.Need-add-offer
 add-offer c = search needs
 
 offer-requires : tie.Need-offer-requires
-offer-requires c κs = offers _ _ _ _ _ _ _ _ _ _ _ (c .before .before .before .before .before .before .before .before .before .before .before .before .before .before .before .pre) (c .before .before .before .before .before .before .before .before .before .before .if1 .left) _ (c .before .before .before .before .before .before .before .wide .ensures .0)
+offer-requires c κs =
+    let based : tie.After-wide = search in
+    let goes : tie.Else1 = search in
+    let start : tie.Start = search in
+    offers (start .pre) (goes .if1 .left) _ (based .wide .ensures .0)
 
 same-length : tie.Need-same-length
 same-length c = search needs
@@ -66,7 +72,11 @@ same-length-3 : tie.Need-same-length-3
 same-length-3 c = search needs
 
 returns-2 : tie.Need-returns-2
-returns-2 c = stepped-offer _ _ _ _ _ _ _ _ _ _ (c .before .before .before .before .before .before .before .before .before .before .before .before .before .before .before .before .before .if1 .left) (c .before .before .before .before .before .before .before .before .before .before .before .before .before .before .wide .ensures .0) (c .before .before .before .before .before .before .offer .ensures)
+returns-2 c =
+    let offered : tie.After-offer = search in
+    let based : tie.After-wide = search in
+    let goes : tie.Else1 = search in
+    stepped-offer _ _ _ _ _ _ _ _ _ (goes .if1 .left) (based .wide .ensures .0) (offered .offer .ensures)
 
 pub relax-step-spec : {M : Type 1} → statement M
 relax-step-spec =
@@ -74,7 +84,8 @@ relax-step-spec =
     (tie.spec
     returns
     mul-s
-    element-copy-out-s
+    index-1-s
+    index-2-s
     cast-s
     mul-wide
     element-copy-out-wide
@@ -85,7 +96,8 @@ relax-step-spec =
     add-mark
     cast-offer
     mul-offer
-    element-copy-out-offer
+    index-1-offer
+    index-2-offer
     add-offer
     offer-requires
     same-length

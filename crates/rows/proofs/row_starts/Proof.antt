@@ -35,10 +35,14 @@ loop-less : tie.Need-loop-less Inv-loop μ-loop
 loop-less c = search needs
 
 loop-again : tie.Need-loop-again Inv-loop μ-loop
-loop-again c = (search needs, filled-more _ _ _ _ _ (search needs) (search needs) (c .before .loop .inv .1))
+loop-again c =
+    let head : tie.At-loop Inv-loop μ-loop = search in
+    (search needs, filled-more _ _ _ _ _ (search needs) (search needs) (head .loop .inv .1))
 
 returns : tie.Need-returns Inv-loop μ-loop
-returns c = filled-all _ _ _ _ _ (search needs) (search needs) (c .before .loop .inv .1)
+returns c =
+    let head : tie.At-loop Inv-loop μ-loop = search in
+    filled-all _ _ _ _ _ (search needs) (search needs) (head .loop .inv .1)
 
 pub row-starts-spec : {M : Type 1} → statement M
 row-starts-spec =

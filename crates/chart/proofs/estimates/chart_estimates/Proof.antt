@@ -1,24 +1,21 @@
+-- `chart::chart_estimates` meets its contract.
 use Prim.Native.Nat.{_-_, _≤_}
 use mathlib.Core.Path.{_≡_}
 use lib.ListN.{length}
 use Rattle.definitions.specs.Plans.{graph}
-use Rattle.chart.specs.Tables.{heldChart}
+use Rattle.chart.specs.Tables.{chartOf}
 use Rattle.chart.specs.Estimates.{Told}
 use Rattle.chart.proofs.Estimating.{estimates-turn, estimates-laws}
 use borrow.Author.Needs.{needs}
 use Rattle.chart.proofs.estimates.chart_estimates.Statement.{statement}
 use Rattle.chart.proofs.estimates.chart_estimates.Tie as tie
-use Rattle.chart.proofs.estimates.chart_estimates.Reads as reads
-use Rattle.chart.proofs.estimates.chart_estimates.Lts as lts
-use Rattle.chart.proofs.estimates.through.Reads as through-reads
 
 abbrev Inv-loop : tie.InvT-loop
-Inv-loop chart from to cost estimates₀ end i₀ i-end estimates i =
-    (i-end ≡ chart .steps) × (i ≤ chart .steps) × (length estimates ≡ 256)
-    × Told (graph (heldChart (chart .stages) (chart .start) (chart .end) (chart .steps) from to cost)) (chart .steps - i) estimates
+Inv-loop chart steps estimates₀ end i₀ i-end estimates i =
+    (i-end ≡ chart .steps) × (i ≤ chart .steps) × (length estimates ≡ 256) × Told (graph (chartOf chart steps)) (chart .steps - i) estimates
 
 abbrev μ-loop : tie.MeasureT-loop
-μ-loop chart from to cost estimates₀ end i₀ i-end estimates i = i-end - i
+μ-loop chart steps estimates₀ end i₀ i-end estimates i = i-end - i
 
 cast-end : tie.Need-cast-end Inv-loop μ-loop
 cast-end c = search needs
@@ -41,8 +38,11 @@ sub-e-2 c = search needs
 mul-s : tie.Need-mul-s Inv-loop μ-loop
 mul-s c = search (estimates-laws, needs)
 
-element-copy-out-s : tie.Need-element-copy-out-s Inv-loop μ-loop
-element-copy-out-s c = search (estimates-laws, needs)
+index-1-s : tie.Need-index-1-s Inv-loop μ-loop
+index-1-s c = search (estimates-laws, needs)
+
+index-2-s : tie.Need-index-2-s Inv-loop μ-loop
+index-2-s c = search (estimates-laws, needs)
 
 cast-s : tie.Need-cast-s Inv-loop μ-loop
 cast-s c = search (estimates-laws, needs)
@@ -50,8 +50,11 @@ cast-s c = search (estimates-laws, needs)
 mul-t : tie.Need-mul-t Inv-loop μ-loop
 mul-t c = search (estimates-laws, needs)
 
-element-copy-out-t : tie.Need-element-copy-out-t Inv-loop μ-loop
-element-copy-out-t c = search (estimates-laws, needs)
+index-1-t : tie.Need-index-1-t Inv-loop μ-loop
+index-1-t c = search (estimates-laws, needs)
+
+index-2-t : tie.Need-index-2-t Inv-loop μ-loop
+index-2-t c = search (estimates-laws, needs)
 
 cast-t : tie.Need-cast-t Inv-loop μ-loop
 cast-t c = search (estimates-laws, needs)
@@ -65,8 +68,11 @@ array-read-through c = search (estimates-laws, needs)
 mul-through-2 : tie.Need-mul-through-2 Inv-loop μ-loop
 mul-through-2 c = search (estimates-laws, needs)
 
-element-copy-out-through : tie.Need-element-copy-out-through Inv-loop μ-loop
-element-copy-out-through c = search (estimates-laws, needs)
+index-1-through : tie.Need-index-1-through Inv-loop μ-loop
+index-1-through c = search (estimates-laws, needs)
+
+index-2-through : tie.Need-index-2-through Inv-loop μ-loop
+index-2-through c = search (estimates-laws, needs)
 
 mul-through-3 : tie.Need-mul-through-3 Inv-loop μ-loop
 mul-through-3 c = search (estimates-laws, needs)
@@ -108,15 +114,18 @@ chart-estimates-spec =
     sub-e
     sub-e-2
     mul-s
-    element-copy-out-s
+    index-1-s
+    index-2-s
     cast-s
     mul-t
-    element-copy-out-t
+    index-1-t
+    index-2-t
     cast-t
     mul-through
     array-read-through
     mul-through-2
-    element-copy-out-through
+    index-1-through
+    index-2-through
     mul-through-3
     array-read-through-2
     through-requires

@@ -1,22 +1,35 @@
-use Prim.Native.Nat.{_-_}
+-- `chart::read_steps` meets its contract.
+use Prim.Native.Nat.{_-_, _<_}
+use native.Mathlib.Omega.{arith}
 use lib.ListN.{length}
 use Rattle.fields.specs.Positions.{body-laws}
-use Rattle.chart.proofs.Steps.{SoFar, steps-step, steps-laws, room-laws}
+use Rattle.chart.proofs.Steps.{SoFar, step-below, steps-step, steps-laws}
 use borrow.Author.Needs.{needs}
 use Rattle.chart.proofs.reader.read_steps.Statement.{statement}
 use Rattle.chart.proofs.reader.read_steps.Tie as tie
-use Rattle.chart.proofs.reader.read_steps.Reads as reads
-use Rattle.chart.proofs.reader.read_steps.Lts as lts
-use Rattle.chart.proofs.reader.step_fault.Reads as step-fault-reads
-use Rattle.chart.proofs.reader.step_of.Reads as step-of-reads
-use Rattle.chart.proofs.reader.stopped.Reads as stopped-reads
-use Rattle.fields.proofs.field_at.Reads as field-at-reads
 
 abbrev Inv-loop : tie.InvT-loop
-Inv-loop file first stages from₀ to₀ cost₀ at₀ last₀ count₀ from to cost at last count = SoFar file first stages from₀ to₀ cost₀ from to cost at last count
+Inv-loop file first stages steps₀ at₀ last₀ count₀ steps at last count = SoFar file first stages steps₀ steps at last count
 
 abbrev μ-loop : tie.MeasureT-loop
-μ-loop file first stages from₀ to₀ cost₀ at₀ last₀ count₀ from to cost at last count = length file - at
+μ-loop file first stages steps₀ at₀ last₀ count₀ steps at last count = length file - at
+
+-- the places on the way: the field is found, the step has passed, its values are there
+abbrev found : tie.Else1 Inv-loop μ-loop → tie.After-field-at Inv-loop μ-loop
+found c = search
+
+abbrev passed : tie.After-step-of Inv-loop μ-loop → tie.Else1 Inv-loop μ-loop
+passed c = search
+
+abbrev read : tie.After-struct-known Inv-loop μ-loop → tie.After-step-of Inv-loop μ-loop
+read c = search
+
+abbrev read-on : tie.After-struct-known2 Inv-loop μ-loop → tie.After-struct-known Inv-loop μ-loop
+read-on c = search
+
+-- a step that passed has room in the table
+room : (c : tie.Else1 Inv-loop μ-loop) → found c .before .loop .count < 1024
+room c = step-below _ _ _ _ _ (c .before .step-fault .ensures) (c .if1 .left)
 
 loop-holds : tie.Need-loop-holds Inv-loop μ-loop
 loop-holds c = search steps-laws
@@ -66,33 +79,51 @@ returns-3 c = search steps-laws
 step-of-requires : tie.Need-step-of-requires Inv-loop μ-loop
 step-of-requires c κs = search body-laws
 
-mul-from : tie.Need-mul-from Inv-loop μ-loop
-mul-from c = search (room-laws, c .before .before .step-fault .ensures, c .before .if1 .left)
+cast-steps : tie.Need-cast-steps Inv-loop μ-loop
+cast-steps c = search needs
 
-element-write-from : tie.Need-element-write-from Inv-loop μ-loop
-element-write-from c = search (room-laws, c .before .before .step-fault .ensures, c .before .if1 .left)
+mul-steps : tie.Need-mul-steps Inv-loop μ-loop
+mul-steps c = omega (arith, room (passed (read c)))
 
-mul-to : tie.Need-mul-to Inv-loop μ-loop
-mul-to c = search (room-laws, c .before .before .step-fault .ensures, c .before .if1 .left)
+index-1-steps : tie.Need-index-1-steps Inv-loop μ-loop
+index-1-steps c = search needs
 
-element-write-to : tie.Need-element-write-to Inv-loop μ-loop
-element-write-to c = search (room-laws, c .before .before .step-fault .ensures, c .before .if1 .left)
+index-2-steps : tie.Need-index-2-steps Inv-loop μ-loop
+index-2-steps c = omega (arith, room (passed (read c)))
 
-mul-cost : tie.Need-mul-cost Inv-loop μ-loop
-mul-cost c = search (room-laws, c .before .before .step-fault .ensures, c .before .if1 .left)
+cast-steps-2 : tie.Need-cast-steps-2 Inv-loop μ-loop
+cast-steps-2 c = search needs
 
-element-write-cost : tie.Need-element-write-cost Inv-loop μ-loop
-element-write-cost c = search (room-laws, c .before .before .step-fault .ensures, c .before .if1 .left)
+mul-steps-2 : tie.Need-mul-steps-2 Inv-loop μ-loop
+mul-steps-2 c = omega (arith, room (passed (read (read-on c))))
+
+index-1-steps-2 : tie.Need-index-1-steps-2 Inv-loop μ-loop
+index-1-steps-2 c = search needs
+
+index-2-steps-2 : tie.Need-index-2-steps-2 Inv-loop μ-loop
+index-2-steps-2 c = omega (arith, room (passed (read (read-on c))))
+
+mul-steps-3 : tie.Need-mul-steps-3 Inv-loop μ-loop
+mul-steps-3 c = omega (arith, room (passed (read (read-on c))))
+
+index-1-steps-3 : tie.Need-index-1-steps-3 Inv-loop μ-loop
+index-1-steps-3 c = search needs
+
+index-2-steps-3 : tie.Need-index-2-steps-3 Inv-loop μ-loop
+index-2-steps-3 c = omega (arith, room (passed (read (read-on c))))
 
 add-count : tie.Need-add-count Inv-loop μ-loop
-add-count c = search (room-laws, c .before .before .step-fault .ensures, c .before .if1 .left)
+add-count c = omega (arith, room (passed (read (read-on c))))
 
 loop-less : tie.Need-loop-less Inv-loop μ-loop
 loop-less c = search body-laws
 
 loop-again : tie.Need-loop-again Inv-loop μ-loop
-loop-again c = let l = c .before .before .before .before .before .before .before in
-    search (steps-step, c .step-of .ensures, c .before .if1 .left, c .before .before .step-fault .ensures, l .field-at .ensures, l .before .loop .inv)
+loop-again c =
+    let q = read (read-on c) in
+    let p = passed q in
+    let f = found p in
+    search (steps-step, q .step-of .ensures, p .if1 .left, p .before .step-fault .ensures, f .field-at .ensures, f .before .loop .inv)
 
 pub read-steps-spec : {M : Type 1} → statement M
 read-steps-spec =
@@ -116,12 +147,17 @@ read-steps-spec =
     stopped-requires-3
     returns-3
     step-of-requires
-    mul-from
-    element-write-from
-    mul-to
-    element-write-to
-    mul-cost
-    element-write-cost
+    cast-steps
+    mul-steps
+    index-1-steps
+    index-2-steps
+    cast-steps-2
+    mul-steps-2
+    index-1-steps-2
+    index-2-steps-2
+    mul-steps-3
+    index-1-steps-3
+    index-2-steps-3
     add-count
     loop-less
     loop-again)

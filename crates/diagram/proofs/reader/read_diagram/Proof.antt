@@ -1,15 +1,21 @@
 -- `diagram::read_diagram` meets its contract.
-use borrow.Author.Needs.{needs}
 use Rattle.fields.specs.Positions.{body-laws}
 use Rattle.diagram.proofs.Whole.{whole-laws}
+use borrow.Author.Needs.{needs}
 use Rattle.diagram.proofs.reader.read_diagram.Statement.{statement}
 use Rattle.diagram.proofs.reader.read_diagram.Tie as tie
 
-element-write-step : tie.Need-element-write-step
-element-write-step c = search needs
+index-1-inner : tie.Need-index-1-inner
+index-1-inner c = search needs
 
-element-write-step-2 : tie.Need-element-write-step-2
-element-write-step-2 c = search needs
+index-2-inner : tie.Need-index-2-inner
+index-2-inner c = search needs
+
+index-1-inner-2 : tie.Need-index-1-inner-2
+index-1-inner-2 c = search needs
+
+index-2-inner-2 : tie.Need-index-2-inner-2
+index-2-inner-2 c = search needs
 
 field-at-requires : tie.Need-field-at-requires
 field-at-requires c κs = search needs
@@ -69,8 +75,10 @@ pub read-diagram-spec : {M : Type 1} → statement M
 read-diagram-spec =
     tie.close
     (tie.spec
-    element-write-step
-    element-write-step-2
+    index-1-inner
+    index-2-inner
+    index-1-inner-2
+    index-2-inner-2
     field-at-requires
     enum-told
     bad-head-requires

@@ -1,17 +1,17 @@
 -- `diagram::read_nodes` meets its contract.
-use borrow.Author.Needs.{needs}
 use Prim.Native.Nat.{_-_}
 use lib.ListN.{length}
 use Rattle.fields.specs.Positions.{body-laws}
 use Rattle.diagram.proofs.Nodes.{SoFar, nodes-laws}
+use borrow.Author.Needs.{needs}
 use Rattle.diagram.proofs.reader.read_nodes.Statement.{statement}
 use Rattle.diagram.proofs.reader.read_nodes.Tie as tie
 
 abbrev Inv-loop : tie.InvT-loop
-Inv-loop file first steps step₀ lo₀ hi₀ at₀ count₀ step lo hi at count = SoFar file first steps step₀ lo₀ hi₀ step lo hi at count
+Inv-loop file first steps inner₀ at₀ count₀ inner at count = SoFar file first steps inner₀ inner at count
 
 abbrev μ-loop : tie.MeasureT-loop
-μ-loop file first steps step₀ lo₀ hi₀ at₀ count₀ step lo hi at count = length file - at
+μ-loop file first steps inner₀ at₀ count₀ inner at count = length file - at
 
 loop-holds : tie.Need-loop-holds Inv-loop μ-loop
 loop-holds c = search nodes-laws
@@ -42,6 +42,9 @@ part-body-start c = search body-laws
 
 part-body-end : tie.Need-part-body-end Inv-loop μ-loop
 part-body-end c = search body-laws
+
+index-1-node-fault : tie.Need-index-1-node-fault Inv-loop μ-loop
+index-1-node-fault c = search needs
 
 node-fault-requires : tie.Need-node-fault-requires Inv-loop μ-loop
 node-fault-requires c κs = search body-laws
@@ -80,6 +83,7 @@ read-nodes-spec =
     sub-body
     part-body-start
     part-body-end
+    index-1-node-fault
     node-fault-requires
     returns-3
     add-count

@@ -22,10 +22,15 @@ element-copy-out-t15 : tie.Need-element-copy-out-t15
 element-copy-out-t15 c = search needs
 
 returns : tie.Need-returns
-returns c = λ lo n low. advancing-hi _ lo _ _ n _ (c .before .before .before .before .pre .0) low (c .before .before .before .before .pre .2) (c .before .if1 .taken)
+returns c =
+    let got-yes1 : tie.Then1 = search in
+    let start : tie.Start = search in
+    λ lo n low. advancing-hi _ lo _ _ n _ (start .pre .0) low (start .pre .2) (got-yes1 .if1 .taken)
 
 returns-2 : tie.Need-returns-2
-returns-2 c = λ lo n low. advancing-stays _ lo _ _ n _ (c .before .before .before .pre .0) low (c .if1 .left)
+returns-2 c =
+    let start : tie.Start = search in
+    λ lo n low. advancing-stays _ lo _ _ n _ (start .pre .0) low (c .if1 .left)
 
 pub branch-spec : {M : Type 1} → statement M
 branch-spec =

@@ -44,7 +44,9 @@ same-length-2 : tie.Need-same-length-2
 same-length-2 c = search needs
 
 returns-2 : tie.Need-returns-2
-returns-2 c = begun-one _ _ _ _ _ _ (c .before .before .if1 .left)
+returns-2 c =
+    let got-not1 : tie.Else1 = search in
+    begun-one _ _ _ _ _ _ (got-not1 .if1 .left)
 
 pub begin-spec : {M : Type 1} → statement M
 begin-spec =

@@ -33,13 +33,19 @@ loop-less : tie.Need-loop-less Inv-loop μ-loop
 loop-less c = search needs
 
 loop-again : tie.Need-loop-again Inv-loop μ-loop
-loop-again c = (search needs, ap (λ l. set l (c .before .loop .i) 4294967295) (c .before .loop .inv .1) ∙ fill-more (c .before .loop .i) 4294967295 (c .before .before .args .costs .now) (omega (arith, c .before .before .pre)), search needs)
+loop-again c =
+    let head : tie.At-loop Inv-loop μ-loop = search in
+    let start : tie.Start Inv-loop μ-loop = search in
+    (search needs, ap (λ l. set l (head .loop .i) 4294967295) (head .loop .inv .1) ∙ fill-more (head .loop .i) 4294967295 (start .args .costs .now) (omega (arith, start .pre)), search needs)
 
 same-length : tie.Need-same-length Inv-loop μ-loop
 same-length c = search needs
 
 returns : tie.Need-returns Inv-loop μ-loop
-returns c = let e : c .before .loop .i ≡ c .before .before .args .pairs = omega (arith, c .before .loop .inv .0) in c .before .loop .inv .1 ∙ ap (λ (k : ℕ). replicate k 4294967295 ++ drop k (c .before .before .args .costs .now)) e
+returns c =
+    let head : tie.At-loop Inv-loop μ-loop = search in
+    let start : tie.Start Inv-loop μ-loop = search in
+    let e : head .loop .i ≡ start .args .pairs = omega (arith, head .loop .inv .0) in head .loop .inv .1 ∙ ap (λ (k : ℕ). replicate k 4294967295 ++ drop k (start .args .costs .now)) e
 
 pub clear-spec : {M : Type 1} → statement M
 clear-spec =

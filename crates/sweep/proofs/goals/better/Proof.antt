@@ -13,7 +13,9 @@ returns : tie.Need-returns
 returns c = search needs
 
 returns-2 : tie.Need-returns-2
-returns-2 c = better-taken _ _ _ _ _ (c .before .if1 .left) (c .if2 .taken) refl refl
+returns-2 c =
+    let got-not1 : tie.Else1 = search in
+    better-taken _ _ _ _ _ (got-not1 .if1 .left) (c .if2 .taken) refl refl
 
 returns-3 : tie.Need-returns-3
 returns-3 c = better-no _ _ _ _ (c .if2 .left)

@@ -31,7 +31,10 @@ wide-requires : tie.Need-wide-requires Inv-loop μ-loop
 wide-requires c κs = search needs
 
 add-sum : tie.Need-add-sum Inv-loop μ-loop
-add-sum c = omega (arith, c .wide .ensures .1, c .before .before .before .loop .inv .2, c .before .before .before .before .pre)
+add-sum c =
+    let head : tie.At-loop Inv-loop μ-loop = search in
+    let start : tie.Start Inv-loop μ-loop = search in
+    omega (arith, c .wide .ensures .1, head .loop .inv .2, start .pre)
 
 add-s : tie.Need-add-s Inv-loop μ-loop
 add-s c = search needs
@@ -40,10 +43,15 @@ loop-less : tie.Need-loop-less Inv-loop μ-loop
 loop-less c = search needs
 
 loop-again : tie.Need-loop-again Inv-loop μ-loop
-loop-again c = (search needs, total-more _ _ _ _ (c .before .before .before .loop .inv .1) (c .wide .ensures .0), omega (arith, c .wide .ensures .1, c .before .before .before .loop .inv .2))
+loop-again c =
+    let head : tie.At-loop Inv-loop μ-loop = search in
+    (search needs, total-more _ _ _ _ (head .loop .inv .1) (c .wide .ensures .0), omega (arith, c .wide .ensures .1, head .loop .inv .2))
 
 returns : tie.Need-returns Inv-loop μ-loop
-returns c = let e : c .before .loop .s ≡ c .before .before .args .stages = omega (arith, c .before .loop .inv .0) in c .before .loop .inv .1 ∙ ap (total (at (c .before .before .args .counts .now))) e
+returns c =
+    let head : tie.At-loop Inv-loop μ-loop = search in
+    let start : tie.Start Inv-loop μ-loop = search in
+    let e : head .loop .s ≡ start .args .stages = omega (arith, head .loop .inv .0) in head .loop .inv .1 ∙ ap (total (at (start .args .counts .now))) e
 
 pub total-count-spec : {M : Type 1} → statement M
 total-count-spec =

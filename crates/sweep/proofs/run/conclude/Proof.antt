@@ -1,20 +1,14 @@
 -- `sweep::conclude` meets its contract.
-use Prim.Native.Nat.{_-_}
 use mathlib.Core.Path.{refl}
 use native.Mathlib.Omega.{arith}
-use Rattle.checks.specs.Ready.{few-nodes}
 use Rattle.sweep.proofs.Concluding.{end-falls, end-listed, end-traceable, end-fits, concludes-none, concludes-some}
 use borrow.Author.Needs.{needs}
 use Rattle.sweep.proofs.run.conclude.Statement.{statement}
 use Rattle.sweep.proofs.run.conclude.Tie as tie
-use Rattle.sweep.proofs.run.conclude.Reads as reads
-use Rattle.sweep.proofs.run.conclude.Lts as lts
-use Rattle.nodes.proofs.finishing.Reads as finishing-reads
-use Rattle.sweep.proofs.goals.cheapest_goal.Reads as cheapest-goal-reads
-use Rattle.sweep.proofs.goals.total_count.Reads as total-count-reads
-use Rattle.convert.proofs.wide.Reads as wide-reads
-use Rattle.trace.proofs.trail_length.Reads as trail-length-reads
-use Rattle.trace.proofs.write_trail.Reads as write-trail-reads
+
+-- the places before a place
+abbrev start-of : tie.After-total-count → tie.Start
+start-of c = search
 
 cast-stages : tie.Need-cast-stages
 cast-stages c = search needs
@@ -25,8 +19,13 @@ cast-end c = search needs
 total-count-requires : tie.Need-total-count-requires
 total-count-requires c κs = search needs
 
+index-1-finishing : tie.Need-index-1-finishing
+index-1-finishing c = search needs
+
 finishing-requires : tie.Need-finishing-requires
-finishing-requires c κs = end-falls _ _ _ _ _ _ _ _ _ _ _ _ _ (c .before .before .before .before .before .before .before .pre .0)
+finishing-requires c κs =
+    let start : tie.Start = search in
+    end-falls (start .pre .0)
 
 mul-wide : tie.Need-mul-wide
 mul-wide c = search needs
@@ -47,25 +46,70 @@ wide-requires-2 : tie.Need-wide-requires-2
 wide-requires-2 c κs = search needs
 
 cheapest-goal-requires : tie.Need-cheapest-goal-requires
-cheapest-goal-requires c κs = end-listed _ _ _ _ _ _ _ _ _ _ _ _ _ (c .before .before .before .before .before .before .before .before .before .before .before .before .before .pre .0) _ _ (c .before .before .before .wide .ensures .0) (c .before .wide2 .ensures .0)
+cheapest-goal-requires c κs =
+    let listed : tie.After-wide2 = search in
+    let based : tie.After-wide = search in
+    let start : tie.Start = search in
+    end-listed (start .pre .0) (based .wide .ensures .0) (listed .wide2 .ensures .0)
 
 returns : tie.Need-returns
-returns c = concludes-none _ _ _ _ _ _ _ _ _ _ _ _ _ (c .before .before .before .before .before .before .before .before .before .before .before .before .before .before .before .pre .0) _ _ (c .before .before .before .before .before .wide .ensures .0) (c .before .before .before .wide2 .ensures .0) _ (c .before .before .before .before .before .before .before .finishing .ensures) _ (c .before .cheapest-goal .ensures) _ (c .before .before .before .before .before .before .before .before .total-count .ensures) _ _ (c .if1 .taken) refl
+returns c =
+    let chosen : tie.After-cheapest-goal = search in
+    let listed : tie.After-wide2 = search in
+    let based : tie.After-wide = search in
+    let yes : tie.After-finishing = search in
+    let counted : tie.After-total-count = search in
+    let start = start-of counted in
+    concludes-none (start .pre .0) (based .wide .ensures .0) (listed .wide2 .ensures .0) (yes .finishing .ensures) (chosen .cheapest-goal .ensures) (counted .total-count .ensures) (c .if1 .taken) refl
 
-add-width : tie.Need-add-width
-add-width c = omega (arith, few-nodes _ _ _ _ _ _ _ (c .before .before .before .before .before .before .before .before .before .before .before .before .before .before .before .before .pre .0 .ready .tables))
+index-1-trail-length : tie.Need-index-1-trail-length
+index-1-trail-length c = search needs
 
 trail-length-requires : tie.Need-trail-length-requires
-trail-length-requires c κs = end-traceable _ _ _ _ _ _ _ _ _ _ _ _ _ (c .before .before .before .before .before .before .before .before .before .before .before .before .before .before .before .before .pre .0) _ _ (c .before .before .before .before .before .before .wide .ensures .0) (c .before .before .before .before .wide2 .ensures .0) _ (c .before .before .before .before .before .before .before .before .finishing .ensures) _ (c .before .before .cheapest-goal .ensures) _ (c .before .before .before .before .before .before .before .before .before .total-count .ensures) (omega (arith, c .before .before .cheapest-goal .ensures .bounded, c .before .if1 .left))
+trail-length-requires c κs =
+    let found : tie.Else1 = search in
+    let chosen : tie.After-cheapest-goal = search in
+    let listed : tie.After-wide2 = search in
+    let based : tie.After-wide = search in
+    let yes : tie.After-finishing = search in
+    let counted : tie.After-total-count = search in
+    let start = start-of counted in
+    end-traceable (start .pre .0) (based .wide .ensures .0) (listed .wide2 .ensures .0) (yes .finishing .ensures) (chosen .cheapest-goal .ensures) (counted .total-count .ensures) (omega (arith, chosen .cheapest-goal .ensures .bounded, found .if1 .left))
+
+index-1-write-trail : tie.Need-index-1-write-trail
+index-1-write-trail c = search needs
 
 write-trail-requires : tie.Need-write-trail-requires
-write-trail-requires c κs = (end-traceable _ _ _ _ _ _ _ _ _ _ _ _ _ (c .before .before .before .before .before .before .before .before .before .before .before .before .before .before .before .before .before .before .pre .0) _ _ (c .before .before .before .before .before .before .before .before .wide .ensures .0) (c .before .before .before .before .before .before .wide2 .ensures .0) _ (c .before .before .before .before .before .before .before .before .before .before .finishing .ensures) _ (c .before .before .before .before .cheapest-goal .ensures) _ (c .before .before .before .before .before .before .before .before .before .before .before .total-count .ensures) (omega (arith, c .before .before .before .before .cheapest-goal .ensures .bounded, c .before .before .before .if1 .left)), (end-fits _ _ _ _ _ _ _ _ _ _ _ _ _ (c .before .before .before .before .before .before .before .before .before .before .before .before .before .before .before .before .before .before .pre .0) _ _ (c .before .before .before .before .before .before .before .before .wide .ensures .0) (c .before .before .before .before .before .before .wide2 .ensures .0) _ (c .before .before .before .before .before .before .before .before .before .before .finishing .ensures) _ (c .before .before .before .before .cheapest-goal .ensures) _ (c .before .before .before .before .before .before .before .before .before .before .before .total-count .ensures) (omega (arith, c .before .before .before .before .cheapest-goal .ensures .bounded, c .before .before .before .if1 .left)) (c .before .trail-length .result) (c .before .trail-length .ensures) (c .before .before .before .before .before .before .before .before .before .before .before .before .before .before .before .before .before .before .args .plan .now) (c .before .before .before .before .before .before .before .before .before .before .before .before .before .before .before .before .before .before .pre .1), c .before .trail-length .ensures))
+write-trail-requires c κs =
+    let long : tie.After-trail-length = search in
+    let found : tie.Else1 = search in
+    let chosen : tie.After-cheapest-goal = search in
+    let listed : tie.After-wide2 = search in
+    let based : tie.After-wide = search in
+    let yes : tie.After-finishing = search in
+    let counted : tie.After-total-count = search in
+    let start = start-of counted in
+    let trail = end-traceable (start .pre .0) (based .wide .ensures .0) (listed .wide2 .ensures .0) (yes .finishing .ensures) (chosen .cheapest-goal .ensures) (counted .total-count .ensures) (omega (arith, chosen .cheapest-goal .ensures .bounded, found .if1 .left)) in
+    let fits = end-fits (start .pre .0) (based .wide .ensures .0) (listed .wide2 .ensures .0) (yes .finishing .ensures) (chosen .cheapest-goal .ensures) (counted .total-count .ensures) (omega (arith, chosen .cheapest-goal .ensures .bounded, found .if1 .left)) (long .trail-length .ensures trail) (start .args .plan .now) (start .pre .1) in
+    (trail, (fits, long .trail-length .ensures))
 
 same-length : tie.Need-same-length
 same-length c = search needs
 
 returns-2 : tie.Need-returns-2
-returns-2 c = concludes-some _ _ _ _ _ _ _ _ _ _ _ _ _ (c .before .before .before .before .before .before .before .before .before .before .before .before .before .before .before .before .before .before .before .before .before .pre .0) _ _ (c .before .before .before .before .before .before .before .before .before .before .before .wide .ensures .0) (c .before .before .before .before .before .before .before .before .before .wide2 .ensures .0) _ (c .before .before .before .before .before .before .before .before .before .before .before .before .before .finishing .ensures) _ (c .before .before .before .before .before .before .before .cheapest-goal .ensures) _ (c .before .before .before .before .before .before .before .before .before .before .before .before .before .before .total-count .ensures) (omega (arith, c .before .before .before .before .before .before .before .cheapest-goal .ensures .bounded, c .before .before .before .before .before .before .if1 .left)) _ (c .before .before .before .before .trail-length .ensures) _ _ _ (c .before .before .before .before .before .before .before .before .before .before .before .before .before .before .before .before .before .before .before .before .before .pre .1) (c .before .before .write-trail .ensures) (omega (arith, c .before .before .write-trail .kept)) refl
+returns-2 c =
+    let written : tie.After-write-trail = search in
+    let long : tie.After-trail-length = search in
+    let found : tie.Else1 = search in
+    let chosen : tie.After-cheapest-goal = search in
+    let listed : tie.After-wide2 = search in
+    let based : tie.After-wide = search in
+    let yes : tie.After-finishing = search in
+    let counted : tie.After-total-count = search in
+    let start = start-of counted in
+    let trail = end-traceable (start .pre .0) (based .wide .ensures .0) (listed .wide2 .ensures .0) (yes .finishing .ensures) (chosen .cheapest-goal .ensures) (counted .total-count .ensures) (omega (arith, chosen .cheapest-goal .ensures .bounded, found .if1 .left)) in
+    concludes-some (start .pre .0) (based .wide .ensures .0) (listed .wide2 .ensures .0) (yes .finishing .ensures) (chosen .cheapest-goal .ensures) (counted .total-count .ensures) (omega (arith, chosen .cheapest-goal .ensures .bounded, found .if1 .left))
+    (long .trail-length .ensures trail) (start .pre .1) (written .write-trail .ensures trail) (omega (arith, written .write-trail .kept)) refl
 
 pub conclude-spec : {M : Type 1} → statement M
 conclude-spec =
@@ -74,6 +118,7 @@ conclude-spec =
     cast-stages
     cast-end
     total-count-requires
+    index-1-finishing
     finishing-requires
     mul-wide
     element-copy-out-wide
@@ -83,8 +128,9 @@ conclude-spec =
     wide-requires-2
     cheapest-goal-requires
     returns
-    add-width
+    index-1-trail-length
     trail-length-requires
+    index-1-write-trail
     write-trail-requires
     same-length
     returns-2)

@@ -1,34 +1,58 @@
 -- `sweep::run` meets its contract.
-use Prim.Native.Nat.{_-_}
 use native.Mathlib.Omega.{arith}
 use Rattle.sweep.proofs.Whole.{blank, run-sorted, run-narrow, run-ready, run-final, run-runs}
 use borrow.Author.Needs.{needs}
 use Rattle.sweep.proofs.run.run.Statement.{statement}
 use Rattle.sweep.proofs.run.run.Tie as tie
-use Rattle.sweep.proofs.run.run.Reads as reads
-use Rattle.sweep.proofs.run.run.Lts as lts
-use Rattle.chart.proofs.first_steps.Reads as first-steps-reads
-use Rattle.rows.proofs.row_starts.Reads as row-starts-reads
-use Rattle.sweep.proofs.run.conclude.Reads as conclude-reads
-use Rattle.sweep.proofs.run.sweep_rows.Reads as sweep-rows-reads
+
+-- the places before a place
+abbrev start-of : tie.After-first-steps → tie.Start
+start-of c = search
+
+abbrev first-of : tie.After-row-starts → tie.After-first-steps
+first-of c = search
+
+abbrev row-of : tie.After-sweep-rows → tie.After-row-starts
+row-of c = search
+
+abbrev done-of : tie.After-conclude → tie.After-sweep-rows
+done-of c = search
+
+index-1-first-steps : tie.Need-index-1-first-steps
+index-1-first-steps c = search needs
 
 first-steps-requires : tie.Need-first-steps-requires
-first-steps-requires c κs = run-sorted _ _ _ _ _ _ _ (c .before .before .before .before .pre .0)
+first-steps-requires c κs =
+    let start : tie.Start = search in
+    run-sorted (start .pre .0)
 
 cast-row-starts : tie.Need-cast-row-starts
 cast-row-starts c = search needs
 
 add-row-starts : tie.Need-add-row-starts
-add-row-starts c = omega (arith, run-narrow _ _ _ _ _ _ _ (c .before .before .before .before .before .before .before .pre .0))
+add-row-starts c =
+    let start : tie.Start = search in
+    omega (arith, run-narrow (start .pre .0))
 
 row-starts-requires : tie.Need-row-starts-requires
-row-starts-requires c κs = run-narrow _ _ _ _ _ _ _ (c .before .before .before .before .before .before .before .pre .0)
+row-starts-requires c κs =
+    let start : tie.Start = search in
+    run-narrow (start .pre .0)
 
 sweep-rows-requires : tie.Need-sweep-rows-requires
-sweep-rows-requires c κs = (run-ready _ _ _ _ _ _ _ (c .before .before .before .before .before .before .before .before .before .before .before .before .before .before .pre .0) _ _ (c .before .before .before .before .before .before .before .before .before .first-steps .ensures) (c .before .before .before .before .before .before .row-starts .ensures), (c .before .before .before .before .before .before .before .before .before .before .before .before .before .before .pre .1 .0, blank))
+sweep-rows-requires c κs =
+    let row : tie.After-row-starts = search in
+    let first : tie.After-first-steps = search in
+    let start : tie.Start = search in
+    (run-ready (start .pre .0) (first .first-steps .ensures) (row .row-starts .ensures), (start .pre .1 .0, blank))
 
 conclude-requires : tie.Need-conclude-requires
-conclude-requires c κs = (run-final _ _ _ _ _ _ _ (c .before .before .before .before .before .before .before .before .before .before .before .before .before .before .before .before .before .before .before .before .before .before .before .before .before .before .before .before .pre .0) _ _ (c .before .before .before .before .before .before .before .before .before .before .before .before .before .before .before .before .before .before .before .before .before .before .before .first-steps .ensures) (c .before .before .before .before .before .before .before .before .before .before .before .before .before .before .before .before .before .before .before .before .row-starts .ensures) _ _ _ _ (c .before .before .before .before .before .before .before .before .before .before .before .before .before .before .before .before .before .before .before .before .before .before .before .before .before .before .before .before .pre .1 .0) blank _ _ _ _ (c .before .before .before .before .before .before .before .before .before .before .before .before .before .sweep-rows .ensures), c .before .before .before .before .before .before .before .before .before .before .before .before .before .before .before .before .before .before .before .before .before .before .before .before .before .before .before .before .pre .1 .1)
+conclude-requires c κs =
+    let done : tie.After-sweep-rows = search in
+    let row : tie.After-row-starts = search in
+    let first : tie.After-first-steps = search in
+    let start : tie.Start = search in
+    (run-final (start .pre .0) (first .first-steps .ensures) (row .row-starts .ensures) (start .pre .1 .0) blank (done .sweep-rows .ensures), start .pre .1 .1)
 
 same-length : tie.Need-same-length
 same-length c = search needs
@@ -43,12 +67,19 @@ same-length-4 : tie.Need-same-length-4
 same-length-4 c = search needs
 
 returns : tie.Need-returns
-returns c = run-runs _ _ _ _ _ _ _ (c .before .before .before .before .before .before .before .before .before .before .before .before .before .before .before .before .before .before .before .before .before .before .before .before .before .before .before .before .before .before .before .pre .0) _ _ (c .before .before .before .before .before .before .before .before .before .before .before .before .before .before .before .before .before .before .before .before .before .before .before .before .before .before .first-steps .ensures) (c .before .before .before .before .before .before .before .before .before .before .before .before .before .before .before .before .before .before .before .before .before .before .before .row-starts .ensures) _ _ _ _ (c .before .before .before .before .before .before .before .before .before .before .before .before .before .before .before .before .before .before .before .before .before .before .before .before .before .before .before .before .before .before .before .pre .1 .0) blank _ _ _ _ (c .before .before .before .before .before .before .before .before .before .before .before .before .before .before .before .before .sweep-rows .ensures) _ _ _ (c .before .before .conclude .ensures)
+returns c =
+    let ended : tie.After-conclude = search in
+    let done = done-of ended in
+    let row = row-of done in
+    let first = first-of row in
+    let start = start-of first in
+    run-runs (start .pre .0) (first .first-steps .ensures) (row .row-starts .ensures) (start .pre .1 .0) blank (done .sweep-rows .ensures) (ended .conclude .ensures)
 
 pub run-spec : {M : Type 1} → statement M
 run-spec =
     tie.close
     (tie.spec
+    index-1-first-steps
     first-steps-requires
     cast-row-starts
     add-row-starts

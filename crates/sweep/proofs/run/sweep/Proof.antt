@@ -1,16 +1,16 @@
 -- `sweep::sweep` meets its contract.
-use Prim.Native.Nat.{ℕ, _-_, min}
+use Prim.Native.Nat.{ℕ, min}
 use mathlib.Core.Path.{refl, _∙_, ap}
 use lib.ListN.{length}
+use Rattle.sweep.specs.Runs.{work}
 use Rattle.sweep.proofs.Whole.{whole-refused, whole-tables, whole-space, whole-runs}
 use borrow.Author.Needs.{needs}
 use Rattle.sweep.proofs.run.sweep.Statement.{statement}
 use Rattle.sweep.proofs.run.sweep.Tie as tie
-use Rattle.sweep.proofs.run.sweep.Reads as reads
-use Rattle.sweep.proofs.run.sweep.Lts as lts
-use Rattle.checks.proofs.load.Reads as load-reads
-use Rattle.convert.proofs.lesser.Reads as lesser-reads
-use Rattle.sweep.proofs.run.run.Reads as run-reads
+
+-- the places before a place
+abbrev start-of : tie.After-lesser → tie.Start
+start-of c = search
 
 lesser-requires : tie.Need-lesser-requires
 lesser-requires c κs = search needs
@@ -22,10 +22,26 @@ load-requires : tie.Need-load-requires
 load-requires c κs = search needs
 
 returns : tie.Need-returns
-returns c = let k = whole-refused (c .before .before .before .before .before .before .before .before .before .before .before .before .before .before .before .before .before .args .chart .now) (c .before .before .before .before .before .before .before .before .before .before .before .before .before .before .before .before .before .args .rules .now) (c .before .before .before .before .before .before .before .before .before .before .before .before .before .before .before .before .before .args .plan .now) (c .before .before .before .before .before .before .before .before .before .before .before .before .before .before .before .before .before .args .cost .now) (c .before .before .before .before .before .before .before .before .before .before .before .before .before .before .before .before .before .args .via .now) (c .before .before .before .before .before .before .before .before .before .before .before .before .before .before .before .before .before .args .nodes .now) (c .before .before .before .before .before .before .before .before .before .lesser2 .result) (c .before .before .before .before .before .before .before .before .before .lesser2 .ensures ∙ ap (λ (k : ℕ). min k (length (c .before .before .before .before .before .before .before .before .before .before .before .before .before .before .before .before .before .args .nodes .now))) (c .before .before .before .before .before .before .before .before .before .before .lesser .ensures)) _ _ _ _ _ _ _ (c .before .before .load .ensures) _ (c .if1 .taken) refl in (k .answers, (k .via-scratch, k .nodes-scratch))
+returns c =
+    let got : tie.After-load = search in
+    let two : tie.After-lesser2 = search in
+    let one : tie.After-lesser = search in
+    let start = start-of one in
+    let works = work (start .args .cost .now) (start .args .via .now) (start .args .nodes .now) in
+    let shortest = two .lesser2 .ensures ∙ ap (λ (k : ℕ). min k (length (start .args .nodes .now))) (one .lesser .ensures) in
+    let kept = whole-refused (start .args .chart .now) (start .args .rules .now) works (start .args .plan .now) shortest _ _ (got .load .ensures) (c .if1 .taken) refl in
+    (kept .answers, kept .via-scratch, kept .nodes-scratch)
 
 run-requires : tie.Need-run-requires
-run-requires c κs = (whole-tables (c .before .before .before .before .before .before .before .before .before .before .before .before .before .before .before .before .before .before .before .before .before .before .before .before .before .before .before .before .args .chart .now) (c .before .before .before .before .before .before .before .before .before .before .before .before .before .before .before .before .before .before .before .before .before .before .before .before .before .before .before .before .args .rules .now) (c .before .before .before .before .before .before .before .before .before .before .before .before .before .before .before .before .before .before .before .before .before .before .before .before .before .before .before .before .args .plan .now) (c .before .before .before .before .before .before .before .before .before .before .before .before .before .before .before .before .before .before .before .before .before .before .before .before .before .before .before .before .args .cost .now) (c .before .before .before .before .before .before .before .before .before .before .before .before .before .before .before .before .before .before .before .before .before .before .before .before .before .before .before .before .args .via .now) (c .before .before .before .before .before .before .before .before .before .before .before .before .before .before .before .before .before .before .before .before .before .before .before .before .before .before .before .before .args .nodes .now) (c .before .before .before .before .before .before .before .before .before .before .before .before .before .before .before .before .before .before .before .before .lesser2 .result) (c .before .before .before .before .before .before .before .before .before .before .before .before .before .before .before .before .before .before .before .before .lesser2 .ensures ∙ ap (λ (k : ℕ). min k (length (c .before .before .before .before .before .before .before .before .before .before .before .before .before .before .before .before .before .before .before .before .before .before .before .before .before .before .before .before .args .nodes .now))) (c .before .before .before .before .before .before .before .before .before .before .before .before .before .before .before .before .before .before .before .before .before .lesser .ensures)) _ _ _ _ _ _ _ (c .before .before .before .before .before .before .before .before .before .before .before .before .before .load .ensures) (c .before .before .before .before .before .before .before .before .before .before .before .if1 .left), whole-space (c .before .before .before .before .before .before .before .before .before .before .before .before .before .before .before .before .before .before .before .before .before .before .before .before .before .before .before .before .args .chart .now) (c .before .before .before .before .before .before .before .before .before .before .before .before .before .before .before .before .before .before .before .before .before .before .before .before .before .before .before .before .args .rules .now) (c .before .before .before .before .before .before .before .before .before .before .before .before .before .before .before .before .before .before .before .before .before .before .before .before .before .before .before .before .args .plan .now) (c .before .before .before .before .before .before .before .before .before .before .before .before .before .before .before .before .before .before .before .before .before .before .before .before .before .before .before .before .args .cost .now) (c .before .before .before .before .before .before .before .before .before .before .before .before .before .before .before .before .before .before .before .before .before .before .before .before .before .before .before .before .args .via .now) (c .before .before .before .before .before .before .before .before .before .before .before .before .before .before .before .before .before .before .before .before .before .before .before .before .before .before .before .before .args .nodes .now) (c .before .before .before .before .before .before .before .before .before .before .before .before .before .before .before .before .before .before .before .before .lesser2 .result) (c .before .before .before .before .before .before .before .before .before .before .before .before .before .before .before .before .before .before .before .before .lesser2 .ensures ∙ ap (λ (k : ℕ). min k (length (c .before .before .before .before .before .before .before .before .before .before .before .before .before .before .before .before .before .before .before .before .before .before .before .before .before .before .before .before .args .nodes .now))) (c .before .before .before .before .before .before .before .before .before .before .before .before .before .before .before .before .before .before .before .before .before .lesser .ensures)) _ _ _ _ _ _ _ (c .before .before .before .before .before .before .before .before .before .before .before .before .before .load .ensures) (c .before .before .before .before .before .before .before .before .before .before .before .if1 .left))
+run-requires c κs =
+    let passed : tie.Else1 = search in
+    let got : tie.After-load = search in
+    let two : tie.After-lesser2 = search in
+    let one : tie.After-lesser = search in
+    let start = start-of one in
+    let works = work (start .args .cost .now) (start .args .via .now) (start .args .nodes .now) in
+    let shortest = two .lesser2 .ensures ∙ ap (λ (k : ℕ). min k (length (start .args .nodes .now))) (one .lesser .ensures) in
+    (whole-tables (start .args .chart .now) (start .args .rules .now) works (start .args .plan .now) shortest _ _ (got .load .ensures) (passed .if1 .left), whole-space (start .args .chart .now) (start .args .rules .now) works (start .args .plan .now) shortest _ _ (got .load .ensures) (passed .if1 .left))
 
 same-length : tie.Need-same-length
 same-length c = search needs
@@ -40,7 +56,17 @@ same-length-4 : tie.Need-same-length-4
 same-length-4 c = search needs
 
 returns-2 : tie.Need-returns-2
-returns-2 c = let k = whole-runs (c .before .before .before .before .before .before .before .before .before .before .before .before .before .before .before .before .before .before .before .before .before .before .before .before .before .before .before .before .before .before .before .before .before .before .before .before .before .args .chart .now) (c .before .before .before .before .before .before .before .before .before .before .before .before .before .before .before .before .before .before .before .before .before .before .before .before .before .before .before .before .before .before .before .before .before .before .before .before .before .args .rules .now) (c .before .before .before .before .before .before .before .before .before .before .before .before .before .before .before .before .before .before .before .before .before .before .before .before .before .before .before .before .before .before .before .before .before .before .before .before .before .args .plan .now) (c .before .before .before .before .before .before .before .before .before .before .before .before .before .before .before .before .before .before .before .before .before .before .before .before .before .before .before .before .before .before .before .before .before .before .before .before .before .args .cost .now) (c .before .before .before .before .before .before .before .before .before .before .before .before .before .before .before .before .before .before .before .before .before .before .before .before .before .before .before .before .before .before .before .before .before .before .before .before .before .args .via .now) (c .before .before .before .before .before .before .before .before .before .before .before .before .before .before .before .before .before .before .before .before .before .before .before .before .before .before .before .before .before .before .before .before .before .before .before .before .before .args .nodes .now) (c .before .before .before .before .before .before .before .before .before .before .before .before .before .before .before .before .before .before .before .before .before .before .before .before .before .before .before .before .before .lesser2 .result) (c .before .before .before .before .before .before .before .before .before .before .before .before .before .before .before .before .before .before .before .before .before .before .before .before .before .before .before .before .before .lesser2 .ensures ∙ ap (λ (k : ℕ). min k (length (c .before .before .before .before .before .before .before .before .before .before .before .before .before .before .before .before .before .before .before .before .before .before .before .before .before .before .before .before .before .before .before .before .before .before .before .before .before .args .nodes .now))) (c .before .before .before .before .before .before .before .before .before .before .before .before .before .before .before .before .before .before .before .before .before .before .before .before .before .before .before .before .before .before .lesser .ensures)) _ _ _ _ _ _ _ (c .before .before .before .before .before .before .before .before .before .before .before .before .before .before .before .before .before .before .before .before .before .before .load .ensures) (c .before .before .before .before .before .before .before .before .before .before .before .before .before .before .before .before .before .before .before .before .if1 .left) _ _ _ _ _ (c .before .before .before .before .before .before .before .before .run .ensures) in (k .answers, (k .via-scratch, k .nodes-scratch))
+returns-2 c =
+    let done : tie.After-run = search in
+    let passed : tie.Else1 = search in
+    let got : tie.After-load = search in
+    let two : tie.After-lesser2 = search in
+    let one : tie.After-lesser = search in
+    let start = start-of one in
+    let works = work (start .args .cost .now) (start .args .via .now) (start .args .nodes .now) in
+    let shortest = two .lesser2 .ensures ∙ ap (λ (k : ℕ). min k (length (start .args .nodes .now))) (one .lesser .ensures) in
+    let kept = whole-runs (start .args .chart .now) (start .args .rules .now) works (start .args .plan .now) shortest _ _ (got .load .ensures) (passed .if1 .left) (done .run .ensures) in
+    (kept .answers, kept .via-scratch, kept .nodes-scratch)
 
 pub sweep-spec : {M : Type 1} → statement M
 sweep-spec =

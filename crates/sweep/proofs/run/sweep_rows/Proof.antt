@@ -1,23 +1,18 @@
 -- `sweep::sweep_rows` meets its contract.
-use Prim.Native.Nat.{_-_}
 use native.Mathlib.Omega.{arith}
 use Rattle.checks.specs.Ready.{few-nodes}
 use Rattle.sweep.proofs.Beginning.{begin-fits, begun-row, swept-is}
 use borrow.Author.Needs.{needs}
 use Rattle.sweep.proofs.run.sweep_rows.Statement.{statement}
 use Rattle.sweep.proofs.run.sweep_rows.Tie as tie
-use Rattle.sweep.proofs.run.sweep_rows.Reads as reads
-use Rattle.sweep.proofs.run.sweep_rows.Lts as lts
-use Rattle.relax.proofs.relax_rows.Reads as relax-rows-reads
-use Rattle.sweep.proofs.begin.begin.Reads as begin-reads
-use Rattle.sweep.proofs.begin.clear.Reads as clear-reads
-use Rattle.convert.proofs.wide.Reads as wide-reads
 
 cast-stages : tie.Need-cast-stages
 cast-stages c = search needs
 
 add-width : tie.Need-add-width
-add-width c = omega (arith, few-nodes _ _ _ _ _ _ _ (c .before .before .before .before .before .pre .0 .tables))
+add-width c =
+    let start : tie.Start = search in
+    omega (arith, few-nodes _ _ (start .pre .0 .tables))
 
 cast-start : tie.Need-cast-start
 cast-start c = search needs
@@ -38,10 +33,19 @@ wide-requires : tie.Need-wide-requires
 wide-requires c κs = search needs
 
 begin-requires : tie.Need-begin-requires
-begin-requires c κs = begin-fits _ _ _ _ _ _ _ _ _ (c .before .before .before .before .before .before .before .before .before .before .before .before .before .before .before .pre .0) _ _ _ _ (c .before .before .before .before .before .before .before .before .before .before .before .before .before .before .before .pre .1 .0) (c .before .before .before .before .before .before .before .before .before .before .before .before .before .before .before .pre .1 .1) _ (c .before .before .before .before .before .before .before .clear .ensures) _ (c .before .before .before .wide .ensures .0)
+begin-requires c κs =
+    let based : tie.After-wide = search in
+    let clean : tie.After-clear = search in
+    let start : tie.Start = search in
+    begin-fits (start .pre .0) (start .pre .1 .0) (start .pre .1 .1) (clean .clear .ensures) (based .wide .ensures .0)
 
 relax-rows-requires : tie.Need-relax-rows-requires
-relax-rows-requires c κs = begun-row _ _ _ _ _ _ _ _ _ (c .before .before .before .before .before .before .before .before .before .before .before .before .before .before .before .before .before .before .before .before .before .before .before .before .pre .0) _ _ _ _ (c .before .before .before .before .before .before .before .before .before .before .before .before .before .before .before .before .before .before .before .before .before .before .before .before .pre .1 .0) (c .before .before .before .before .before .before .before .before .before .before .before .before .before .before .before .before .before .before .before .before .before .before .before .before .pre .1 .1) _ (c .before .before .before .before .before .before .before .before .before .before .before .before .before .before .before .before .clear .ensures) _ (c .before .before .before .before .before .before .before .before .before .before .before .before .wide .ensures .0) _ _ _ (c .before .before .before .before .before .before .before .before .begin .ensures)
+relax-rows-requires c κs =
+    let begun : tie.After-begin = search in
+    let based : tie.After-wide = search in
+    let clean : tie.After-clear = search in
+    let start : tie.Start = search in
+    begun-row (start .pre .0) (start .pre .1 .0) (start .pre .1 .1) (clean .clear .ensures) (based .wide .ensures .0) (begun .begin .ensures)
 
 same-length : tie.Need-same-length
 same-length c = search needs
@@ -53,7 +57,13 @@ same-length-3 : tie.Need-same-length-3
 same-length-3 c = search needs
 
 returns : tie.Need-returns
-returns c = swept-is _ _ _ _ _ _ _ _ _ (c .before .before .before .before .before .before .before .before .before .before .before .before .before .before .before .before .before .before .before .before .before .before .before .before .before .before .before .before .before .before .before .pre .0) _ _ _ _ (c .before .before .before .before .before .before .before .before .before .before .before .before .before .before .before .before .before .before .before .before .before .before .before .before .before .before .before .before .before .before .before .pre .1 .0) (c .before .before .before .before .before .before .before .before .before .before .before .before .before .before .before .before .before .before .before .before .before .before .before .before .before .before .before .before .before .before .before .pre .1 .1) _ (c .before .before .before .before .before .before .before .before .before .before .before .before .before .before .before .before .before .before .before .before .before .before .before .clear .ensures) _ (c .before .before .before .before .before .before .before .before .before .before .before .before .before .before .before .before .before .before .before .wide .ensures .0) _ _ _ (c .before .before .before .before .before .before .before .before .before .before .before .before .before .before .before .begin .ensures) _ (c .before .before .before .before .before .before .relax-rows .ensures)
+returns c =
+    let done : tie.After-relax-rows = search in
+    let begun : tie.After-begin = search in
+    let based : tie.After-wide = search in
+    let clean : tie.After-clear = search in
+    let start : tie.Start = search in
+    swept-is (start .pre .0) (start .pre .1 .0) (start .pre .1 .1) (clean .clear .ensures) (based .wide .ensures .0) (begun .begin .ensures) (done .relax-rows .ensures)
 
 pub sweep-rows-spec : {M : Type 1} → statement M
 sweep-rows-spec =
