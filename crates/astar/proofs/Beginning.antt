@@ -16,13 +16,13 @@ use Rattle.theory.specs.Pairs.{pair-inside}
 use Rattle.checks.specs.declared.Shape.{Shape}
 use Rattle.checks.specs.Tables.{chartIn, diagramIn, Tables}
 use Rattle.checks.specs.Ready.{graphIn, automatonIn, width-is, sound-in, few-stages, few-nodes}
-use Rattle.guided_model.specs.Charts.{Running, NoneSettled, running-start, running-empty}
-use Rattle.expand.specs.Tables.{pairsIn}
+use Rattle.guided_model.specs.Charts.{Running, NoneSettled, guide, running-start, running-empty}
+use Rattle.expand.specs.Tables.{estimateIn, pairsIn}
 use Rattle.astar.specs.Search.{Begun, Past}
 
 pub record Turning (z : Shape) (from to cost step lo hi : List ℕ) (p : ℕ) (keys₀ via₀ heap₀ pos₀ stack₀ log₀ keys via heap pos stack log : List ℕ) (c : Counts) (count : ℕ) : Type 0 where
   pub queue : Queue keys heap pos stack p c
-  pub running : Running (chartIn z from to cost) (diagramIn z step lo hi) keys via log₀ log (Contains heap pos stack c) count (c .floor)
+  pub running : Running (chartIn z from to cost) (diagramIn z step lo hi) (estimateIn z from to cost step lo hi) 0 keys via log₀ log (Contains heap pos stack c) count (c .floor)
   pub past : Past p keys₀ via₀ heap₀ pos₀ stack₀ keys via heap pos stack
 
 -- of lengths and counts
@@ -79,9 +79,9 @@ module _ {z : Shape} {from to cost step lo hi : List ℕ} (t : Tables z from to 
         pub begin-turning : Turning z from to cost step lo hi p keys′ via heap′ pos′ stack′ log keys′ via heap′ pos′ stack′ log c′ 0
         begin-turning = record {
           queue = x .queue;
-          running = subst (λ (f : ℕ). Running (chartIn z from to cost) (diagramIn z step lo hi) keys′ via log log (Contains heap′ pos′ stack′ c′) 0 f)
+          running = subst (λ (f : ℕ). Running (chartIn z from to cost) (diagramIn z step lo hi) (estimateIn z from to cost step lo hi) 0 keys′ via log log (Contains heap′ pos′ stack′ c′) 0 f)
               (sym (x .same-floor ∙ e .floor-zero))
-              (running-start (chartIn z from to cost) (diagramIn z step lo hi) (t .valid) sound keys keys′ via log (Contains heap′ pos′ stack′ c′) rest (b .has) (b .clear)
+              (running-start (chartIn z from to cost) (diagramIn z step lo hi) (estimateIn z from to cost step lo hi) (t .valid) sound (guide (chartIn z from to cost) (diagramIn z step lo hi) (t .valid) (t .small) sound) keys keys′ via log (Contains heap′ pos′ stack′ c′) rest (b .has) (b .clear)
               (omega (arith, b .begins, begin-inside, b .keys-fit))
               (x .stored ∙ ap (λ (k : ℕ). set keys k rest) (b .begins))
               (subst Open (b .begins) (x .here)) (λ k o. only-begin k o ∙ b .begins) (omega (arith, pairs-are (b .pairs), b .log-fits)));
@@ -100,7 +100,7 @@ module _ {z : Shape} {from to cost step lo hi : List ℕ} (t : Tables z from to 
   -- nothing is open any more
   pub turning-empty : {p : ℕ} {keys₀ via₀ heap₀ pos₀ stack₀ log₀ keys via heap pos stack log : List ℕ} {c : Counts} {count : ℕ}
       → Turning z from to cost step lo hi p keys₀ via₀ heap₀ pos₀ stack₀ log₀ keys via heap pos stack log c count → c .held ≡ 0
-      → NoneSettled (chartIn z from to cost) (diagramIn z step lo hi) count log₀ log
+      → NoneSettled (chartIn z from to cost) (diagramIn z step lo hi) (estimateIn z from to cost step lo hi) 0 count log₀ log
   turning-empty {p} {keys₀} {via₀} {heap₀} {pos₀} {stack₀} {log₀} {keys} {via} {heap} {pos} {stack} {log} {c} {count} w e =
-      running-empty (chartIn z from to cost) (diagramIn z step lo hi) (t .valid) sound keys via log₀ log (Contains heap pos stack c) count (c .floor) (w .running)
+      running-empty (chartIn z from to cost) (diagramIn z step lo hi) (estimateIn z from to cost step lo hi) (t .valid) sound (guide (chartIn z from to cost) (diagramIn z step lo hi) (t .valid) (t .small) sound) keys via log₀ log (Contains heap pos stack c) count (c .floor) (w .running)
       (λ k o. contains-none (w .queue) e o)

@@ -54,7 +54,7 @@ module _ {z : Shape} {from to cost first row step lo hi byStage byNode : List �
   laws = lawful-in z from to cost step lo hi (t .ready .tables)
 
   guided-by : Guide g a h
-  guided-by = guide C D (t .ready .tables .valid) (sound (t .ready .tables))
+  guided-by = guide C D (t .ready .tables .valid) (t .ready .tables .small) (sound (t .ready .tables))
 
   width : a .size ≡ z .nodes + 2
   width = width-is z from to cost step lo hi (t .ready .tables)
@@ -70,7 +70,7 @@ module _ {z : Shape} {from to cost first row step lo hi byStage byNode : List �
     turn-room =
         omega (
           arith,
-          running-room C D (t .ready .tables .valid) (sound (t .ready .tables)) keys via log₀ log (Contains heap pos stack c) count (c .floor) (w .running) x (k .was) (k .least),
+          running-room C D h (t .ready .tables .valid) (sound (t .ready .tables)) (guide C D (t .ready .tables .valid) (t .ready .tables .small) (sound (t .ready .tables))) keys via log₀ log (Contains heap pos stack c) count (c .floor) (w .running) x (k .was) (k .least),
           pairs-are (t .ready .tables) ep,
         )
 
@@ -146,10 +146,10 @@ module _ {z : Shape} {from to cost first row step lo hi byStage byNode : List �
 
         module _ {yes-goal : Bool} (eg : yes-goal ≡ (eqb s (z .end) && getD yes-at n false)) where
           -- a goal pair
-          pub turn-goal : yes-goal ≡ true → GoalSettled C D via from n (c′ .floor - r) (count + 1) log₀ (set log count x)
+          pub turn-goal : yes-goal ≡ true → GoalSettled C D h 0 via from n (c′ .floor - r) (count + 1) log₀ (set log count x)
           turn-goal q =
               let y = both (eqb s (z .end)) (getD yes-at n false) (sym eg ∙ q) in
-              running-goal C D (t .ready .tables .valid) (sound (t .ready .tables)) keys via log₀ log (Contains heap pos stack c) count (c .floor) (w .running) x (k .was) (k .least)
+              running-goal C D h (t .ready .tables .valid) (sound (t .ready .tables)) (guide C D (t .ready .tables .valid) (t .ready .tables .small) (sound (t .ready .tables))) keys via log₀ log (Contains heap pos stack c) count (c .floor) (w .running) x (k .was) (k .least)
               s n (c′ .floor - r) from
               (λ e i. from-at z from to cost step lo hi (t .ready .tables) e (omega (arith, count-is z from to cost step lo hi (t .ready .tables))))
               turn-located (eqb-true s (z .end) (y .0)) (sym (t .accepts n (turn-located .node)) ∙ y .1)
@@ -189,9 +189,9 @@ module _ {z : Shape} {from to cost first row step lo hi byStage byNode : List �
               → Turning z from to cost step lo hi p keys₀ via₀ heap₀ pos₀ stack₀ log₀ keys″ via″ heap″ pos″ stack″ (set log count x) c″ (count + 1)
           turn-more q {keys″} {via″} {heap″} {pos″} {stack″} {c″} y = record {
             queue = y .kept .queue;
-            running = subst (λ (f : ℕ). Running C D keys″ via″ log₀ (set log count x) (Contains heap″ pos″ stack″ c″) (count + 1) f)
+            running = subst (λ (f : ℕ). Running C D h 0 keys″ via″ log₀ (set log count x) (Contains heap″ pos″ stack″ c″) (count + 1) f)
                 (sym (y .kept .same-floor ∙ k .new-floor))
-                (running-turn C D (t .ready .tables .valid) (sound (t .ready .tables)) keys via log₀ log (Contains heap pos stack c) count (c .floor) (w .running) x (k .was) (k .least)
+                (running-turn C D h (t .ready .tables .valid) (sound (t .ready .tables)) (guide C D (t .ready .tables .valid) (t .ready .tables .small) (sound (t .ready .tables))) keys via log₀ log (Contains heap pos stack c) count (c .floor) (w .running) x (k .was) (k .least)
                 (Contains heap′ pos′ stack c′) (k .kept) (k .only) (k .gone) s n (c′ .floor - r) (getD first s 0) (getD first (s + 1) 0) turn-located
                 (ap (λ (i : ℕ). i - r) (k .new-floor) ∙ settles .1)
                 (λ e i f. first-all z from to cost first row step lo hi (t .ready) s e (turn-located .stage) i f)

@@ -46,6 +46,6 @@ pub record Past (p : ℕ) (keys via heap pos stack keys′ via′ heap′ pos′
 
 pub record Searched (z : Shape) (from to cost step lo hi : List ℕ) (p : ℕ)
     (keys via heap pos stack log keys′ via′ heap′ pos′ stack′ log′ : List ℕ) (r : Ended) : Type 0 where
-  pub goal : r .found ≡ true → GoalSettled (chartIn z from to cost) (diagramIn z step lo hi) via′ from (r .node .0) (r .cost) (r .count) log log′
-  pub no-goal : r .found ≡ false → NoneSettled (chartIn z from to cost) (diagramIn z step lo hi) (r .count) log log′
+  pub goal : r .found ≡ true → GoalSettled (chartIn z from to cost) (diagramIn z step lo hi) (estimateIn z from to cost step lo hi) 0 via′ from (r .node .0) (r .cost) (r .count) log log′
+  pub no-goal : r .found ≡ false → NoneSettled (chartIn z from to cost) (diagramIn z step lo hi) (estimateIn z from to cost step lo hi) 0 (r .count) log log′
   pub past : Past p keys via heap pos stack keys′ via′ heap′ pos′ stack′

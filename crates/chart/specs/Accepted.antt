@@ -12,7 +12,8 @@ use native.Mathlib.Decide.{decLt}
 use borrow.Author.Tests.{eqb-true, eqb-false}
 use Rattle.definitions.specs.Basics.{pick}
 use Rattle.definitions.specs.Fields.{two, part, fieldAt, onField}
-use Rattle.definitions.specs.Charts.{ChartStep, ChartRead, noStep, headFault, stepOf, lastFrom, stepFaultAfter, badHead, withSteps, scanSteps, readChart}
+use Rattle.theory.specs.Estimates.{Small}
+use Rattle.definitions.specs.Charts.{Chart, ChartStep, ChartRead, noStep, headFault, stepOf, lastFrom, stepFaultAfter, badHead, withSteps, scanSteps, readChart}
 use Rattle.definitions.specs.Limits.{Valid}
 use Rattle.definitions.specs.Plans.{graph}
 use Rattle.definitions.specs.declared.Field.{Field}
@@ -85,27 +86,34 @@ scanned-fit s stages at =
     scan-keeps s 2 8 (stepFaultAfter stages) stepOf (StepsFit stages) (λ at a e l w p old. steps-grown stages l (part s a e) (sym p) old) (length s) at []
     (none-fit stages)
 
-chart-valid : (b : List ℕ) (l : List ChartStep) → HeadFits b → StepsFit (two b 0) l → Valid (graph (record { stages = two b 0; start = two b 2; end = two b 4; steps = l }))
-chart-valid b l h f = record {
-  some-stages = h .some-stages;
-  few-stages = h .few-stages;
-  start-inside = h .start-inside;
-  end-inside = h .end-inside;
-  few = f .few;
-  forward = f .forward;
-  inside = f .inside;
-  sorted = f .sorted;
-  cheap = f .cheap;
-}
+-- a chart within its limits
+abbrev pub Within : Chart → Type 0
+Within c = Valid (graph c) × Small c
+
+chart-valid : (b : List ℕ) (l : List ChartStep) → HeadFits b → StepsFit (two b 0) l → Within (record { stages = two b 0; start = two b 2; end = two b 4; steps = l })
+chart-valid b l h f = (
+  record {
+    some-stages = h .some-stages;
+    few-stages = h .few-stages;
+    start-inside = h .start-inside;
+    end-inside = h .end-inside;
+    few = f .few;
+    forward = f .forward;
+    inside = f .inside;
+    sorted = f .sorted;
+    cheap = λ e i. omega (arith, f .cheap e i, f .forward e i);
+  },
+  f .cheap,
+)
 
 -- by the test of the head's body
-head-passed : (b : List ℕ) (x : ChartRead) (t : Bool) → eqb (headFault b) 0 ≡ t → (HeadFits b → Valid (graph (x .chart)))
-    → pick t x (badHead (headFault b)) .number ≡ 0 → Valid (graph (pick t x (badHead (headFault b)) .chart))
+head-passed : (b : List ℕ) (x : ChartRead) (t : Bool) → eqb (headFault b) 0 ≡ t → (HeadFits b → Within (x .chart))
+    → pick t x (badHead (headFault b)) .number ≡ 0 → Within (pick t x (badHead (headFault b)) .chart)
 unfolding pick
 head-passed b x true t k p = k (head-fits b (sym (eqb-true (headFault b) 0 t)))
 head-passed b x false t k p = absurd (eqb-false (headFault b) 0 t p)
 
-pub chart-accepted : (s : List ℕ) → readChart s .number ≡ 0 → Valid (graph (readChart s .chart))
+pub chart-accepted : (s : List ℕ) → readChart s .number ≡ 0 → Within (readChart s .chart)
 unfolding readChart onField
 chart-accepted s = go (fieldAt s 0 1 6) refl
   where
@@ -114,7 +122,7 @@ chart-accepted s = go (fieldAt s 0 1 6) refl
         let b = part s a e in
         pick (eqb (headFault b) 0) (withSteps b (scanSteps s (two b 0) e)) (badHead (headFault b))
 
-    go : (r : Field) → r ≡ fieldAt s 0 1 6 → onField r (badHead 2) badHead found .number ≡ 0 → Valid (graph (onField r (badHead 2) badHead found .chart))
+    go : (r : Field) → r ≡ fieldAt s 0 1 6 → onField r (badHead 2) badHead found .number ≡ 0 → Within (onField r (badHead 2) badHead found .chart)
     go Absent g p = absurd (omega arith)
     go (Faulty k) g p = absurd (omega (arith, faulty-number s 0 1 6 k g))
     go (Whole a e) g p =

@@ -21,7 +21,7 @@ use Rattle.definitions.specs.Promises.{shown}
 use Rattle.definitions.specs.Limits.{Valid}
 use Rattle.theory.specs.Basics.{same-or-not}
 use Rattle.theory.specs.Least.{IsLeast, More, least-of, least-unique, least-same, least-either, least-more}
-use Rattle.theory.specs.Ways.{way-climbs, way-cheap, leastWay-lower, leastWay-attained}
+use Rattle.theory.specs.Ways.{way-climbs, way-cheap, step-cheap, leastWay-lower, leastWay-attained}
 
 -- the table of the estimates: at each stage the chart estimate, 4,294,967,295 where there is none, and there is none past the stages
 pub record EstimateTable (c : Chart) (estimates : List ℕ) : Type 0 where
@@ -59,7 +59,7 @@ begins-zero [] = tt
 begins-zero (e ∷ w) = omega arith
 
 -- P is what is known, Q the rest
-module _ (P Q : ℕ → Type 0) (few : (m : ℕ) → Q m → m ≤ 255000000) (c : ℕ) (small : c ≤ 1000000) where
+module _ (P Q : ℕ → Type 0) (few : (m : ℕ) → Q m → m ≤ 510000000) (c : ℕ) (small : c ≤ 510000000) where
   lowered-shown : (a b : Option ℕ) (known rest r : ℕ) → IsLeast P a → IsLeast Q b → known ≡ shown a → rest ≡ shown b → Lowered known c rest r
       → r ≡ shown (smaller a (plus c b))
   unfolding smaller plus
@@ -88,7 +88,7 @@ shows-same P Q v f h s = (s .0, least-same P Q (s .0) f h (s .1), s .2)
 
 module _ (g : Graph) (v : Valid g) where
   -- such a way costs at most 255,000,000
-  cheap : (k s m : ℕ) → WayFrom g k s m → m ≤ 255000000
+  cheap : (k s m : ℕ) → WayFrom g k s m → m ≤ 510000000
   cheap k s m w =
       omega (arith, way-climbs g v (w .steps) s (w .way), way-cheap g v (w .steps) s (w .way), w .ends, w .costs, v .end-inside, v .few-stages)
 
@@ -189,7 +189,7 @@ module _ (g : Graph) (v : Valid g) where
     module _ (estimates : List ℕ) (told : Told g (suc e) estimates) where
       pub told-fits : (getD estimates (g .to e) 0 ≡ 4294967295) ⊎ (g .cost e + getD estimates (g .to e) 0 < 4294967295)
       told-fits =
-          rest-fits (WayFrom g (suc e) (g .from e)) (WayFrom g (suc e) (g .to e)) (cheap (suc e) (g .to e)) (g .cost e) (v .cheap e i)
+          rest-fits (WayFrom g (suc e) (g .from e)) (WayFrom g (suc e) (g .to e)) (cheap (suc e) (g .to e)) (g .cost e) (step-cheap g v e i)
           (getD estimates (g .to e) 0) (told .at (g .to e) (omega (arith, v .inside e i, v .few-stages)))
 
       pub told-turn : length estimates ≡ 256 → (r : ℕ) → Lowered (getD estimates (g .from e) 0) (g .cost e) (getD estimates (g .to e) 0) r
@@ -203,7 +203,7 @@ module _ (g : Graph) (v : Valid g) where
           go s h (inl q) =
               rw (q, getD-set-same estimates (g .from e) r 0 (omega (arith, low)))
               (shows-same _ (WayFrom g e (g .from e)) r joined split
-              (shows-lowered (WayFrom g (suc e) (g .from e)) (WayFrom g (suc e) (g .to e)) (cheap (suc e) (g .to e)) (g .cost e) (v .cheap e i)
+              (shows-lowered (WayFrom g (suc e) (g .from e)) (WayFrom g (suc e) (g .to e)) (cheap (suc e) (g .to e)) (g .cost e) (step-cheap g v e i)
               (getD estimates (g .from e) 0) (getD estimates (g .to e) 0) r (told .at (g .from e) low) (told .at (g .to e) (omega (arith, v .inside e i, v .few-stages))) l))
           go s h (inr n) =
               rw (getD-set-other estimates (g .from e) s r 0 n)

@@ -16,7 +16,8 @@ use Rattle.definitions.specs.Plans.{graph}
 use Rattle.definitions.specs.Limits.{Valid, Sound}
 use Rattle.definitions.specs.Answers.{load, spaceFits, workNeed}
 use Rattle.chart.specs.Tables as chart
-use Rattle.chart.specs.Accepted.{chart-accepted}
+use Rattle.chart.specs.Accepted.{Within, chart-accepted}
+use Rattle.theory.specs.Estimates.{Small}
 use Rattle.chart.specs.declared.reader.ChartRead.{ChartRead}
 use Rattle.diagram.specs.Tables as diagram
 use Rattle.diagram.specs.Files as files
@@ -42,7 +43,7 @@ module _ (s t : List ℕ) (work plan : ℕ) (x : ChartRead) (ex : x ≡ chart.ch
     chart-passed : readChart s .number ≡ 0
     chart-passed = sym number-is ∙ cx
 
-    accepted : Valid (graph (readChart s .chart))
+    accepted : Within (readChart s .chart)
     accepted = chart-accepted s chart-passed
 
     stages-is : x .stages ≡ readChart s .chart .stages
@@ -52,7 +53,7 @@ module _ (s t : List ℕ) (work plan : ℕ) (x : ChartRead) (ex : x ≡ chart.ch
     steps-is = ap (λ (y : ChartRead). y .steps) ex
 
     pub some-stages : 1 ≤ x .stages
-    some-stages = omega (arith, stages-is, accepted .some-stages)
+    some-stages = omega (arith, stages-is, accepted .0 .some-stages)
 
     module _ (y : DiagramRead) (ey : y ≡ files.diagramAnswer (readDiagram t (x .steps))) where
       abbrev d : diagrams.DiagramRead
@@ -86,7 +87,7 @@ module _ (s t : List ℕ) (work plan : ℕ) (x : ChartRead) (ex : x ≡ chart.ch
 
         pub few-pairs : x .stages * (y .nodes + 2) ≤ 131072
         few-pairs =
-            let a : x .stages ≤ 256 = omega (arith, stages-is, accepted .few-stages) in
+            let a : x .stages ≤ 256 = omega (arith, stages-is, accepted .0 .few-stages) in
             let b = mul-le-mul-right (y .nodes + 2) a in
             omega (arith, few-nodes)
 
@@ -151,7 +152,8 @@ module _ (s t : List ℕ) (work plan : ℕ) (x : ChartRead) (ex : x ≡ chart.ch
           in-tables =
               let so : Sound (z .steps) (diagramIn z w) = subst (λ (k : ℕ). Sound k (diagramIn z w)) (sym (zc ∙ steps-is)) (subst (Sound (length (C .steps))) (sym same-diagram) sound) in
               record {
-                valid = subst (λ (c : Chart). Valid (graph c)) (sym same-chart) accepted;
+                valid = subst (λ (c : Chart). Valid (graph c)) (sym same-chart) (accepted .0);
+                small = subst (λ (c : Chart). Small c) (sym same-chart) (accepted .1);
                 sound = so;
                 held = held-tables (z .nodes) (w .inner .step) (w .inner .lo) (w .inner .hi) (z .root) (so .ordered) (omega (arith, few-nodes)) (fd .marked);
               }

@@ -6,6 +6,7 @@ use mathlib.Core.List.{List}
 use Rattle.definitions.specs.Charts.{Chart}
 use Rattle.definitions.specs.Diagrams.{Diagram}
 use Rattle.definitions.specs.Plans.{graph}
+use Rattle.theory.specs.Estimates.{Small}
 use Rattle.definitions.specs.Limits.{Valid, Sound}
 use Rattle.definitions.specs.Answers.{Load, ready, refused}
 use Rattle.chart.specs.Tables as chart
@@ -37,6 +38,7 @@ pub record Room (steps inner : List (List ℕ)) : Type 0 where
 -- a chart within its limits and a diagram within its limits stand in the tables
 pub record Tables (z : Shape) (t : Read) : Type 0 where
   pub valid : Valid (graph (chartIn z t))
+  pub small : Small (chartIn z t)
   pub sound : Sound (z .steps) (diagramIn z t)
   pub held : diagram.Held (diagramIn z t) (t .inner .step) (t .inner .lo) (t .inner .hi)
 

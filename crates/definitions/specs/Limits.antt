@@ -1,12 +1,12 @@
 -- The limits of document 01 as statements. They hold of every chart and diagram that the readers accept.
 -- Assumes nothing.
-use Prim.Native.Nat.{ℕ, _≤_, _<_}
+use Prim.Native.Nat.{ℕ, _-_, _*_, _≤_, _<_}
 use lib.ListN.{length}
 use Rattle.definitions.specs.Diagrams.{Diagram, size, inner}
-use Rattle.definitions.specs.Ways.{Graph}
+use Rattle.definitions.specs.Ways.{GraphOf, Graph}
 
--- of a chart, as the graph that the searches walk
-pub record Valid (g : Graph) : Type 0 where
+-- of a chart, as the graph that the searches walk; a step's cost is in the relation Cheap to the stages that it leaves and enters
+pub record ValidOf {C : Type 0} (Cheap : ℕ → ℕ → C → Type 0) (g : GraphOf C) : Type 0 where
   pub some-stages : 1 ≤ g .stages
   pub few-stages : g .stages ≤ 256
   pub start-inside : g .start < g .stages
@@ -15,7 +15,11 @@ pub record Valid (g : Graph) : Type 0 where
   pub forward : (e : ℕ) → e < g .count → g .from e < g .to e
   pub inside : (e : ℕ) → e < g .count → g .to e < g .stages
   pub sorted : (e f : ℕ) → e ≤ f → f < g .count → g .from e ≤ g .from f
-  pub cheap : (e : ℕ) → e < g .count → g .cost e ≤ 1000000
+  pub cheap : (e : ℕ) → e < g .count → Cheap (g .from e) (g .to e) (g .cost e)
+
+-- of the graph that the searches walk: for each stage that a step climbs, it costs at most 2,000,000
+abbrev pub Valid : Graph → Type 0
+Valid = ValidOf (λ from to cost. cost ≤ 2000000 * (to - from))
 
 -- of a diagram's nodes: children have lower numbers and, if inner, larger steps. Past the nodes it holds of `noNode`
 pub record Ordered (d : Diagram) : Type 0 where

@@ -6,7 +6,7 @@ use mathlib.Core.List.{List, [], _∷_}
 use mathlib.Core.Option.{Option, none}
 use lib.Dec.{eqb}
 use Rattle.definitions.specs.Basics.{pick, isSome, sumOf, keep, upto}
-use Rattle.definitions.specs.Ways.{Graph, endOf, leastWay}
+use Rattle.definitions.specs.Ways.{GraphOf, Graph, endOf, leastWay}
 
 -- What the searches need of a rule diagram (an automaton that reads the steps of a way): `size` nodes, from node 0 no way is legal,
 -- `next e n` is the node after step e at node n, and a way that ends at a node is legal where the node `accepts`
@@ -45,7 +45,7 @@ abbrev pub nodeOf : Automaton → ℕ → ℕ
 nodeOf a p = p % a .size
 
 -- how many pairs there are, reached or not
-abbrev pub pairs : Graph → Automaton → ℕ
+abbrev pub pairs : {C : Type 0} → GraphOf C → Automaton → ℕ
 pairs g a = g .stages * a .size
 
 -- the reached pairs, and the goal pairs, in the order of their numbers

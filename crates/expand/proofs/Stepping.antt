@@ -6,6 +6,7 @@ use mathlib.Core.List.{List}
 use mathlib.Core.Option.{some, none}
 use native.Mathlib.Omega.{arith}
 use lib.ListN.{length, getD}
+use Rattle.theory.specs.Ways.{step-cheap}
 use Rattle.queue.specs.declared.Counts.{Counts}
 use Rattle.queue.specs.Queue.{Contains, Queue}
 use Rattle.definitions.specs.Ways.{Graph}
@@ -43,7 +44,7 @@ module _ {z : Shape} {from to cost row step lo hi byStage byNode : List ℕ} {s 
   h = estimateIn z from to cost step lo hi
 
   guided-by : Guide g a h
-  guided-by = guide (chartIn z from to cost) (diagramIn z step lo hi) (o .guides .tables .valid) (sound-in z from to cost step lo hi (o .guides .tables))
+  guided-by = guide (chartIn z from to cost) (diagramIn z step lo hi) (o .guides .tables .valid) (o .guides .tables .small) (sound-in z from to cost step lo hi (o .guides .tables))
 
   laws : Lawful g a
   laws = lawful-in z from to cost step lo hi (o .guides .tables)
@@ -127,8 +128,8 @@ module _ {z : Shape} {from to cost row step lo hi byStage byNode : List ℕ} {s 
           has : h (g .to e) (a .next e n) ≡ some rest
           has = estimate-some g a h (o .guides .tables .valid) laws guided-by (g .to e) (a .next e n) rest shown-is q
 
-          pub offer-fits : base + getD cost e 0 + rest ≤ 800000000
-          offer-fits = omega (arith, o .settling .cheap, cost-is, o .guides .tables .valid .cheap e exists, guided-by .bounded (g .to e) (a .next e n) rest next-inside has)
+          pub offer-fits : base + getD cost e 0 + rest ≤ 2820000000
+          offer-fits = omega (arith, o .settling .cheap, cost-is, step-cheap g (o .guides .tables .valid) e exists, guided-by .bounded (g .to e) (a .next e n) rest next-inside has)
 
           leads : Target g a h (o .guides .tables .valid) laws guided-by (c .floor) (pair a (g .to e) (a .next e n)) (base + g .cost e + rest)
           leads = target g a h (o .guides .tables .valid) laws guided-by s n base (c .floor) e rest (o .settling) exists f has

@@ -105,7 +105,7 @@ module _ {z : Shape} {from to cost first row step lo hi byStage byNode : List �
   row-at s h = row-start z from to cost first row step lo hi (t .ready) s h
 
   in-order : z .start ≤ z .end
-  in-order = guide C D (t .ready .tables .valid) (sound (t .ready .tables)) .until-end (z .start) (z .root) rest has
+  in-order = guide C D (t .ready .tables .valid) (t .ready .tables .small) (sound (t .ready .tables)) .until-end (z .start) (z .root) rest has
 
   module _ {low high : ℕ} (el : low ≡ getD row (z .start) 0 + 0) (eh : high ≡ getD row (z .end) 0 + 0) where
     low-is : low ≡ z .start * (z .nodes + 2)
@@ -151,7 +151,7 @@ module _ {z : Shape} {from to cost first row step lo hi byStage byNode : List �
           (s : Searched z from to cost step lo hi (pairsIn z) keys′ via heap pos stack log keys″ via″ heap″ pos″ stack″ log″ e) where
         module _ (f : e .found ≡ true) where
           -- a goal pair was settled
-          settled : GoalSettled C D via″ from (e .node .0) (e .cost) (e .count) log log″
+          settled : GoalSettled C D (estimateIn z from to cost step lo hi) 0 via″ from (e .node .0) (e .cost) (e .count) log log″
           settled = s .goal f
 
           trail : Trail via″ from (z .nodes + 2) (z .start) (z .end) (e .node .0) (settled .steps)
@@ -181,7 +181,7 @@ module _ {z : Shape} {from to cost first row step lo hi byStage byNode : List �
           find-some {plan′} {r} x l = record {
             outcome = outcome-some C D (e .count) plan (e .cost) (settled .steps) plan′ r (settled .best) (settled .legal) (settled .costs) (short trail)
                 (x (settled .steps) trail .0) (x (settled .steps) trail .1) l;
-            logged = subst (λ (a : Answer). Logged (graphIn z from to cost) (automatonIn z from to cost step lo hi) (estimateIn z from to cost step lo hi) (cheapest C D) (a .count) log log″)
+            logged = subst (λ (a : Answer). Logged (graphIn z from to cost) (automatonIn z from to cost step lo hi) (estimateIn z from to cost step lo hi) 0 (cheapest C D) (a .count) log log″)
                 (sym (x (settled .steps) trail .0)) (settled .logged);
             past = past-more cleared-past (s .past);
           }

@@ -51,7 +51,7 @@ module _ {z : Shape} {from to cost step lo hi : List ℕ} (t : Tables z from to 
   run-nodes = (
     run-lo,
     hi-falls D step lo hi (t .held) (z .nodes + 1) (omega (arith, width)),
-    priced C D step lo hi cost (z .nodes) prices (t .held) (t .valid) (sound t) (omega (arith, width)),
+    priced C D step lo hi cost (z .nodes) prices (t .held) (t .valid) (t .small) (sound t) (omega (arith, width)),
   )
 
   pub run-sorted : SortedTable (z .steps) from × (z .stages ≤ 256)
@@ -77,7 +77,7 @@ module _ {z : Shape} {from to cost step lo hi : List ℕ} (t : Tables z from to 
       pub run-some : (rest ≡ unopened → ⊥) → estimateIn z from to cost step lo hi (z .start) (z .root) ≡ some rest
       run-some q =
           estimate-some (graphIn z from to cost) (automatonIn z from to cost step lo hi) (estimateIn z from to cost step lo hi) (t .valid) (lawful-in z from to cost step lo hi t)
-          (guide C D (t .valid) (sound t)) (z .start) (z .root) rest shown-is q
+          (guide C D (t .valid) (t .small) (sound t)) (z .start) (z .root) rest shown-is q
 
       -- the pair of start and root has no estimate: nothing is settled
       pub run-none : {keys via heap pos stack log plan : List ℕ} → rest ≡ unopened
@@ -88,11 +88,11 @@ module _ {z : Shape} {from to cost step lo hi : List ℕ} (t : Tables z from to 
         past = record { keys-past = refl; via-past = refl; heap-past = refl; pos-past = refl; stack-past = refl };
       }
         where
-          begun : NoneSettled C D 0 log log
+          begun : NoneSettled C D (estimateIn z from to cost step lo hi) 0 0 log log
           begun =
-              none-begun C D (t .valid) (sound t) log
+              none-begun C D (estimateIn z from to cost step lo hi) (t .valid) (sound t) (guide C D (t .valid) (t .small) (sound t)) log
               (estimate-none (graphIn z from to cost) (automatonIn z from to cost step lo hi) (estimateIn z from to cost step lo hi) (t .valid) (lawful-in z from to cost step lo hi t)
-              (guide C D (t .valid) (sound t)) (z .start) (z .root) rest (sound t .root-inside) shown-is q)
+              (guide C D (t .valid) (t .small) (sound t)) (z .start) (z .root) rest (sound t .root-inside) shown-is q)
 
     pub run-prepared : {first row : List ℕ} {yes-at : List Bool} → FirstTable (z .steps) (z .stages) from first → row ≡ rowStarts (z .stages) (z .nodes + 2)
         → Finishing lo (z .nodes) yes-at → Prepared z from to cost first row step lo hi byStage byNode yes-at

@@ -36,6 +36,6 @@ Traces z via from node cost count plan plan′ r =
 -- the answer and all slices are as promised
 pub record Promised (z : Shape) (from to cost step lo hi keys via heap pos stack log plan keys′ via′ heap′ pos′ stack′ log′ plan′ : List ℕ) (r : Answer) : Type 0 where
   pub outcome : Outcome (cheapest (chartIn z from to cost) (diagramIn z step lo hi)) (chartIn z from to cost) (diagramIn z step lo hi) (r .count) plan plan′ r
-  pub logged : Logged (graphIn z from to cost) (automatonIn z from to cost step lo hi) (estimateIn z from to cost step lo hi)
+  pub logged : Logged (graphIn z from to cost) (automatonIn z from to cost step lo hi) (estimateIn z from to cost step lo hi) 0
       (cheapest (chartIn z from to cost) (diagramIn z step lo hi)) (r .count) log log′
   pub past : Past (pairsIn z) keys via heap pos stack keys′ via′ heap′ pos′ stack′

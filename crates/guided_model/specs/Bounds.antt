@@ -16,7 +16,7 @@ use Rattle.theory.specs.Product.{Reaches, reach-way, estimateAt}
 use Rattle.guided_model.specs.State.{unopened, Guide, Row}
 
 -- an estimate as the tables have it: the mark where there is none
-shown-none : (o : Option ℕ) (r : ℕ) → r ≡ shown o → ((m : ℕ) → o ≡ some m → m ≤ 510000000) → r ≡ unopened → o ≡ none
+shown-none : (o : Option ℕ) (r : ℕ) → r ≡ shown o → ((m : ℕ) → o ≡ some m → m ≤ 1800000000) → r ≡ unopened → o ≡ none
 shown-none none r e b q = refl
 shown-none (some m) r e b q = absurd (omega (arith, b m refl))
 
@@ -45,13 +45,13 @@ module _ (g : Graph) (a : Automaton) (h : Estimate) where
         let w = reach-way g a l r in
         omega (arith, way-climbs g v (w .steps) (g .start) (w .way), w .ends)
 
-    pub reach-cheap : (p k : ℕ) → Reaches g a p k → k ≤ 255000000
+    pub reach-cheap : (p k : ℕ) → Reaches g a p k → k ≤ 510000000
     reach-cheap p k r = way-inside g a v l (stageOf a p) (nodeOf a p) k (reach-way g a l r) .2
 
     pub node-inside : (p : ℕ) → nodeOf a p < a .size
     node-inside p = nodeOf-inside a p (omega (arith, l .root-inside))
 
-    pub estimate-small : (p r : ℕ) → estimateAt a h p ≡ some r → r ≤ 510000000
+    pub estimate-small : (p r : ℕ) → estimateAt a h p ≡ some r → r ≤ 1800000000
     estimate-small p r e = u .bounded (stageOf a p) (nodeOf a p) r (node-inside p) e
 
     -- what the estimate is where the tables show r for it

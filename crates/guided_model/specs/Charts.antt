@@ -16,10 +16,10 @@ use Rattle.definitions.specs.Pairs.{Automaton, Estimate, pair, toEnd, goal, lea
 use Rattle.definitions.specs.Plans.{graph, automaton, Legal, cheapest, chartEstimate, estimate}
 use Rattle.definitions.specs.Limits.{Valid, Sound}
 use Rattle.definitions.specs.Answers.{workNeed}
-use Rattle.definitions.specs.Promises.{goalAt, Settled, Found, Ended, Logged}
+use Rattle.definitions.specs.Promises.{goalAt, Settled}
 use Rattle.theory.specs.Basics.{larger-parts, none-not-some}
 use Rattle.theory.specs.Ways.{way-climbs, leastWay-attained}
-use Rattle.theory.specs.Estimates.{pair-consistent, estimate-dead, estimate-bounded}
+use Rattle.theory.specs.Estimates.{Small, pair-consistent, estimate-dead, estimate-bounded}
 use Rattle.theory.specs.Pairs.{Lawful, lawful}
 use Rattle.theory.specs.Plans.{goal-legal, cheapest-some, cheapest-none}
 use Rattle.theory.specs.BestFirst.{Invariant}
@@ -35,11 +35,31 @@ use Rattle.guided_model.specs.Turns.{search-start, search-turn}
 use Rattle.guided_model.specs.Ends.{empty-complete, empty-no-goal, goal-taken, goal-least, goal-found}
 use Rattle.guided_model.specs.Traces.{traced}
 use Rattle.guided_model.specs.Settling.{Located}
+use Rattle.guided_model.specs.Based.{FoundFrom, EndedFrom, LoggedFrom}
 
-module _ (c : Chart) (d : Diagram) where
+-- only stages up to the end have an estimate
+pub estimate-until : (c : Chart) (d : Diagram) → Valid (graph c) → (t n m : ℕ) → estimate c d t n ≡ some m → t ≤ c .end
+unfolding estimate chartEstimate toEnd
+estimate-until c d v t n m e =
+    let x = larger-parts _ _ m e in
+    let w = leastWay-attained (graph c) t _ (x .0) (x .2) in
+    let q : endOf (graph c) t (w .0) ≡ c .end = eqb-true _ _ (w .2) in
+    omega (arith, way-climbs (graph c) v (w .0) t (w .1))
+
+-- the estimates of pairs guide the search
+abbrev pub guide : (c : Chart) (d : Diagram) → Valid (graph c) → Small c → Sound (length (c .steps)) d → Guide (graph c) (automaton c d) (estimate c d)
+guide c d v small s = record {
+  base = 0;
+  consistent = pair-consistent c d (s .ordered) v;
+  dead = λ t. estimate-dead c d (s .ordered) t;
+  until-end = λ t n m e. estimate-until c d v t n m e;
+  bounded = λ t n m i e. omega (arith, estimate-bounded c d v small s t n m i e);
+}
+
+module _ (c : Chart) (d : Diagram) (h : Estimate) (base : ℕ) where
   -- What holds at the loop's head: the first `count` entries of the log slice are the log, the others are as they were
   pub record Running (keys via log₀ log : List ℕ) (Open : ℕ → Type 0) (count floor : ℕ) : Type 0 where
-    pub searching : Searching (graph c) (automaton c d) (estimate c d) keys via (take count log) Open floor
+    pub searching : Searching (graph c) (automaton c d) h keys via (take count log) Open floor
     pub few : count ≤ workNeed c d
     pub fits : workNeed c d ≤ length log
     pub long : length log ≡ length log₀
@@ -48,7 +68,7 @@ module _ (c : Chart) (d : Diagram) where
   -- what the search leaves where it settled a goal pair, of the end stage and a node, at the cost m
   pub record GoalSettled (via from : List ℕ) (node m count : ℕ) (log log′ : List ℕ) : Type 0 where
     pub best : cheapest c d ≡ some m
-    pub logged : Logged (graph c) (automaton c d) (estimate c d) (cheapest c d) count log log′
+    pub logged : LoggedFrom (graph c) (automaton c d) h base (cheapest c d) count log log′
     pub inside : node < size d
     pub steps : List ℕ
     pub trail : Trail via from (size d) (c .start) (c .end) node steps
@@ -58,144 +78,127 @@ module _ (c : Chart) (d : Diagram) where
   -- what it leaves where it settled none
   pub record NoneSettled (count : ℕ) (log log′ : List ℕ) : Type 0 where
     pub best : cheapest c d ≡ none
-    pub logged : Logged (graph c) (automaton c d) (estimate c d) (cheapest c d) count log log′
+    pub logged : LoggedFrom (graph c) (automaton c d) h base (cheapest c d) count log log′
 
-  module _ (v : Valid (graph c)) (s : Sound (length (c .steps)) d) where
-    abbrev g : Graph
-    g = graph c
+module _ (c : Chart) (d : Diagram) (h : Estimate) (v : Valid (graph c)) (s : Sound (length (c .steps)) d) (guided : Guide (graph c) (automaton c d) h) where
+  abbrev g : Graph
+  g = graph c
 
-    abbrev a : Automaton
-    a = automaton c d
+  abbrev a : Automaton
+  a = automaton c d
 
-    abbrev h : Estimate
-    h = estimate c d
+  pub lawful-pairs : Lawful g a
+  lawful-pairs = lawful c d s
 
-    pub lawful-pairs : Lawful g a
-    lawful-pairs = lawful c d s
+  -- a log slice whose first `count` entries are the log
+  logged : (best : Option ℕ) (log log′ : List ℕ) (count : ℕ) → Settled g a h (take count log′) → EndedFrom g a h (guided .base) best (take count log′) → count ≤ length log
+      → length log′ ≡ length log → drop count log′ ≡ drop count log → LoggedFrom g a h (guided .base) best count log log′
+  logged best log log′ count x y i j k = record {
+    fits = i;
+    settled = x;
+    ended = y;
+    few = omega (arith, settled-few g a h (take count log′) x, length-take count log′);
+    long = j;
+    rest = k;
+  }
 
-    -- the estimates of pairs guide the search
-    pub guide : Guide g a h
-    unfolding estimate chartEstimate toEnd
-    guide = record {
-      consistent = pair-consistent c d (s .ordered) v;
-      dead = λ t. estimate-dead c d (s .ordered) t;
-      until-end = λ t n m e.
-          let x = larger-parts _ _ m e in
-          let w = leastWay-attained g t _ (x .0) (x .2) in
-          let q : endOf g t (w .0) ≡ c .end = eqb-true _ _ (w .2) in
-          omega (arith, way-climbs g v (w .0) t (w .1));
-      bounded = λ t n m i e. estimate-bounded c d v s t n m i e;
-    }
-
-    -- a log slice whose first `count` entries are the log
-    logged : (best : Option ℕ) (log log′ : List ℕ) (count : ℕ) → Settled g a h (take count log′) → Ended g a h best (take count log′) → count ≤ length log
-        → length log′ ≡ length log → drop count log′ ≡ drop count log → Logged g a h best count log log′
-    logged best log log′ count x y i j k = record {
-      fits = i;
-      settled = x;
-      ended = y;
-      few = omega (arith, settled-few g a h (take count log′) x, length-take count log′);
-      long = j;
-      rest = k;
-    }
-
-    -- nothing is open
-    ends-empty : (log₀ log : List ℕ) (count : ℕ) (Open : ℕ → Type 0) (cost : ℕ → ℕ)
-        → Invariant ℕ (Edge g a) (startPair g a) (estimateAt a h) (In (take count log)) Open cost → Settled g a h (take count log)
-        → ((p : ℕ) → In (take count log) p → goalAt g a h p ≡ false) → ((k : ℕ) → Open k → ⊥)
-        → count ≤ length log₀ → length log ≡ length log₀ → drop count log ≡ drop count log₀ → NoneSettled count log₀ log
-    ends-empty log₀ log count Open cost inv settled no-goal empty fits long past =
-        let best = cheapest-none c d v (s .ordered) (empty-no-goal g a h v lawful-pairs guide (take count log) Open cost inv empty no-goal) in
-        record {
-          best = best;
-          logged = logged (cheapest c d) log₀ log count settled
-              (subst (λ (o : Option ℕ). Ended g a h o (take count log)) (sym best) (empty-complete g a h v lawful-pairs guide (take count log) Open cost inv empty))
-              fits long past;
-        }
-
-    -- the start has no estimate: nothing is settled
-    pub none-begun : (log : List ℕ) → h (c .start) (d .root) ≡ none → NoneSettled 0 log log
-    none-begun log e =
-        ends-empty log log 0 (λ k. ⊥) (λ k. 0)
-        (record {
-          settled = λ p i. absurd (omega (arith, i .1));
-          opened = λ p o. absurd o;
-          begun = λ r q. absurd (none-not-some r (sym e ∙ ap₂ h (sym (stage-is a (c .start) (d .root) _ (s .root-inside) refl))
-              (sym (node-is a (c .start) (d .root) _ (s .root-inside) refl)) ∙ q));
-          follows = λ p q k i. absurd (omega (arith, i .1));
-        })
-        (nothing-settled g a h) (λ p i. absurd (omega (arith, i .1))) (λ k o. o) (omega arith) refl refl
-
-    pub running-start : (filled keys via log : List ℕ) (Open : ℕ → Type 0) (r : ℕ) → h (c .start) (d .root) ≡ some r
-        → ((p : ℕ) → Row g a p → getD filled p 0 ≡ unopened) → startPair g a < length filled → keys ≡ set filled (startPair g a) r
-        → Open (startPair g a) → ((k : ℕ) → Open k → k ≡ startPair g a) → workNeed c d ≤ length log → Running keys via log log Open 0 0
-    running-start filled keys via log Open r e clear fits stored here only room = record {
-      searching = search-start g a h v lawful-pairs guide filled keys via Open r e clear fits stored here only;
-      few = omega arith;
-      fits = room;
-      long = refl;
-      past = refl;
-    }
-
-    -- nothing is open any more
-    pub running-empty : (keys via log₀ log : List ℕ) (Open : ℕ → Type 0) (count floor : ℕ) → Running keys via log₀ log Open count floor
-        → ((k : ℕ) → Open k → ⊥) → NoneSettled count log₀ log
-    running-empty keys via log₀ log Open count floor r empty =
-        ends-empty log₀ log count Open (costSoFar g a h keys) (r .searching .best) (r .searching .settled) (r .searching .no-goal) empty
-        (omega (arith, r .few, r .fits, r .long)) (r .long) (r .past)
-
-    module _ (keys via log₀ log : List ℕ) (Open : ℕ → Type 0) (count floor : ℕ) (r : Running keys via log₀ log Open count floor)
-        (x : ℕ) (o : Open x) (small : (k : ℕ) → Open k → getD keys x 0 ≤ getD keys k 0) where
-      -- there is room for the next entry
-      pub running-room : count < workNeed c d
-      running-room =
-          omega (arith, chosen-room g a h v lawful-pairs guide keys via (take count log) Open floor (r .searching) x o small, length-take count log, r .few, r .fits)
-
-      next-log : take (count + 1) (set log count x) ≡ longer (take count log) x
-      next-log = take-next log count x (omega (arith, running-room, r .fits))
-
-      -- a turn
-      pub running-turn : (Open₁ : ℕ → Type 0) → ((k : ℕ) → Open k → (k ≡ x → ⊥) → Open₁ k) → ((k : ℕ) → Open₁ k → Open k) → (Open₁ x → ⊥)
-          → (t n base first until : ℕ) → Located g a x t n → base ≡ costSoFar g a h keys x
-          → ((e : ℕ) → e < g .count → g .from e ≡ t → (first ≤ e) × (e < until))
-          → (keys′ via′ : List ℕ) (Open′ : ℕ → Type 0) → Expanded g a h t n base first until keys via Open₁ keys′ via′ Open′
-          → goalAt g a h x ≡ false → Running keys′ via′ log₀ (set log count x) Open′ (count + 1) (getD keys x 0)
-      running-turn Open₁ kept only gone t n base first until p b all keys′ via′ Open′ m q = record {
-        searching = subst (λ (z : List ℕ). Searching g a h keys′ via′ z Open′ (getD keys x 0)) (sym next-log)
-            (search-turn g a h v lawful-pairs guide keys via (take count log) Open floor (r .searching) x o small Open₁ kept only gone t n base (p .node) (p .is) b
-            keys′ via′ Open′ (m .moved) (λ e i f. let w = all e i f in m .offered e (w .0) (w .1)) q);
-        few = omega (arith, running-room);
-        fits = omega (arith, r .fits, length-set log count x);
-        long = length-set log count x ∙ r .long;
-        past = drop-next log log₀ count x (r .past);
+  -- nothing is open
+  ends-empty : (log₀ log : List ℕ) (count : ℕ) (Open : ℕ → Type 0) (cost : ℕ → ℕ)
+      → Invariant ℕ (Edge g a) (startPair g a) (estimateAt a h) (In (take count log)) Open cost → Settled g a h (take count log)
+      → ((p : ℕ) → In (take count log) p → goalAt g a h p ≡ false) → ((k : ℕ) → Open k → ⊥)
+      → count ≤ length log₀ → length log ≡ length log₀ → drop count log ≡ drop count log₀ → NoneSettled c d h (guided .base) count log₀ log
+  ends-empty log₀ log count Open cost inv settled no-goal empty fits long past =
+      let best = cheapest-none c d v (s .ordered) (empty-no-goal g a h v lawful-pairs guided (take count log) Open cost inv empty no-goal) in
+      record {
+        best = best;
+        logged = logged (cheapest c d) log₀ log count settled
+            (subst (λ (o : Option ℕ). EndedFrom g a h (guided .base) o (take count log)) (sym best) (empty-complete g a h v lawful-pairs guided (take count log) Open cost inv empty))
+            fits long past;
       }
 
-      -- a goal pair
-      pub running-goal : (t n m : ℕ) (from : List ℕ) → ((e : ℕ) → e < g .count → getD from e 0 ≡ g .from e)
-          → Located g a x t n → t ≡ c .end → a .accepts n ≡ true → m ≡ costSoFar g a h keys x → GoalSettled via from n m (count + 1) log₀ (set log count x)
-      running-goal t n m from held p ends yes-at b =
-          let i = p .node in
-          let is : x ≡ pair a (c .end) n = p .is ∙ ap (λ (z : ℕ). pair a z n) ends in
-          let goal-x = goal-taken g a h v lawful-pairs guide keys via (take count log) Open floor (r .searching) x o small n i is yes-at in
-          let q = stage-is a (c .end) n x i is in
-          let w = node-is a (c .end) n x i is in
-          let least : leastCost g a (c .end) n ≡ some m
-          = sym (ap₂ (leastCost g a) q w) ∙ chosen-sum g a h v lawful-pairs guide keys via (take count log) Open floor (r .searching) x o small .0 ∙ ap (λ (z : ℕ). some z) (sym b) in
-          let best : cheapest c d ≡ some m
-          = cheapest-some c d v (s .ordered) n m (sym (ap₂ (goal g a) q w) ∙ goal-x) least
-          (λ k z. omega (arith, goal-least g a h v lawful-pairs guide keys via (take count log) Open floor (r .searching) x o small goal-x k z)) in
-          let tr = traced g a h v lawful-pairs guide keys via (take count log) Open floor (r .searching) from held (c .end) n i (inr (subst Open is o)) in
-          record {
-            best = best;
-            logged = logged (cheapest c d) log₀ (set log count x) (count + 1)
-                (subst (λ (z : List ℕ). Settled g a h z) (sym next-log) (chosen-log g a h v lawful-pairs guide keys via (take count log) Open floor (r .searching) x o small))
-                (subst₂ (λ (z : Option ℕ) (y : List ℕ). Ended g a h z y) (sym best) (sym next-log)
-                (subst (λ (z : ℕ). Found g a h z (longer (take count log) x)) (sym b)
-                (goal-found g a h v lawful-pairs guide keys via (take count log) Open floor (r .searching) x o small goal-x)))
-                (omega (arith, running-room, r .fits, r .long)) (length-set log count x ∙ r .long) (drop-next log log₀ count x (r .past));
-            inside = i;
-            steps = tr .0 .steps;
-            trail = tr .1;
-            legal = goal-legal c d v (s .ordered) n _ yes-at (tr .0);
-            costs = tr .0 .costs ∙ sym (b ∙ ap (λ (z : ℕ). costSoFar g a h keys z) is);
-          }
+  -- the start has no estimate: nothing is settled
+  pub none-begun : (log : List ℕ) → h (c .start) (d .root) ≡ none → NoneSettled c d h (guided .base) 0 log log
+  none-begun log e =
+      ends-empty log log 0 (λ k. ⊥) (λ k. 0)
+      (record {
+        settled = λ p i. absurd (omega (arith, i .1));
+        opened = λ p o. absurd o;
+        begun = λ r q. absurd (none-not-some r (sym e ∙ ap₂ h (sym (stage-is a (c .start) (d .root) _ (s .root-inside) refl))
+            (sym (node-is a (c .start) (d .root) _ (s .root-inside) refl)) ∙ q));
+        follows = λ p q k i. absurd (omega (arith, i .1));
+      })
+      (nothing-settled g a h) (λ p i. absurd (omega (arith, i .1))) (λ k o. o) (omega arith) refl refl
+
+  pub running-start : (filled keys via log : List ℕ) (Open : ℕ → Type 0) (r : ℕ) → h (c .start) (d .root) ≡ some r
+      → ((p : ℕ) → Row g a p → getD filled p 0 ≡ unopened) → startPair g a < length filled → keys ≡ set filled (startPair g a) r
+      → Open (startPair g a) → ((k : ℕ) → Open k → k ≡ startPair g a) → workNeed c d ≤ length log → Running c d h (guided .base) keys via log log Open 0 0
+  running-start filled keys via log Open r e clear fits stored here only room = record {
+    searching = search-start g a h v lawful-pairs guided filled keys via Open r e clear fits stored here only;
+    few = omega arith;
+    fits = room;
+    long = refl;
+    past = refl;
+  }
+
+  -- nothing is open any more
+  pub running-empty : (keys via log₀ log : List ℕ) (Open : ℕ → Type 0) (count floor : ℕ) → Running c d h (guided .base) keys via log₀ log Open count floor
+      → ((k : ℕ) → Open k → ⊥) → NoneSettled c d h (guided .base) count log₀ log
+  running-empty keys via log₀ log Open count floor r empty =
+      ends-empty log₀ log count Open (costSoFar g a h keys) (r .searching .best) (r .searching .settled) (r .searching .no-goal) empty
+      (omega (arith, r .few, r .fits, r .long)) (r .long) (r .past)
+
+  module _ (keys via log₀ log : List ℕ) (Open : ℕ → Type 0) (count floor : ℕ) (r : Running c d h (guided .base) keys via log₀ log Open count floor)
+      (x : ℕ) (o : Open x) (small : (k : ℕ) → Open k → getD keys x 0 ≤ getD keys k 0) where
+    -- there is room for the next entry
+    pub running-room : count < workNeed c d
+    running-room =
+        omega (arith, chosen-room g a h v lawful-pairs guided keys via (take count log) Open floor (r .searching) x o small, length-take count log, r .few, r .fits)
+
+    next-log : take (count + 1) (set log count x) ≡ longer (take count log) x
+    next-log = take-next log count x (omega (arith, running-room, r .fits))
+
+    -- a turn
+    pub running-turn : (Open₁ : ℕ → Type 0) → ((k : ℕ) → Open k → (k ≡ x → ⊥) → Open₁ k) → ((k : ℕ) → Open₁ k → Open k) → (Open₁ x → ⊥)
+        → (t n base first until : ℕ) → Located g a x t n → base ≡ costSoFar g a h keys x
+        → ((e : ℕ) → e < g .count → g .from e ≡ t → (first ≤ e) × (e < until))
+        → (keys′ via′ : List ℕ) (Open′ : ℕ → Type 0) → Expanded g a h t n base first until keys via Open₁ keys′ via′ Open′
+        → goalAt g a h x ≡ false → Running c d h (guided .base) keys′ via′ log₀ (set log count x) Open′ (count + 1) (getD keys x 0)
+    running-turn Open₁ kept only gone t n base first until p b all keys′ via′ Open′ m q = record {
+      searching = subst (λ (z : List ℕ). Searching g a h keys′ via′ z Open′ (getD keys x 0)) (sym next-log)
+          (search-turn g a h v lawful-pairs guided keys via (take count log) Open floor (r .searching) x o small Open₁ kept only gone t n base (p .node) (p .is) b
+          keys′ via′ Open′ (m .moved) (λ e i f. let w = all e i f in m .offered e (w .0) (w .1)) q);
+      few = omega (arith, running-room);
+      fits = omega (arith, r .fits, length-set log count x);
+      long = length-set log count x ∙ r .long;
+      past = drop-next log log₀ count x (r .past);
+    }
+
+    -- a goal pair
+    pub running-goal : (t n m : ℕ) (from : List ℕ) → ((e : ℕ) → e < g .count → getD from e 0 ≡ g .from e)
+        → Located g a x t n → t ≡ c .end → a .accepts n ≡ true → m ≡ costSoFar g a h keys x → GoalSettled c d h (guided .base) via from n m (count + 1) log₀ (set log count x)
+    running-goal t n m from held p ends yes-at b =
+        let i = p .node in
+        let is : x ≡ pair a (c .end) n = p .is ∙ ap (λ (z : ℕ). pair a z n) ends in
+        let goal-x = goal-taken g a h v lawful-pairs guided keys via (take count log) Open floor (r .searching) x o small n i is yes-at in
+        let q = stage-is a (c .end) n x i is in
+        let w = node-is a (c .end) n x i is in
+        let least : leastCost g a (c .end) n ≡ some m
+        = sym (ap₂ (leastCost g a) q w) ∙ chosen-sum g a h v lawful-pairs guided keys via (take count log) Open floor (r .searching) x o small .0 ∙ ap (λ (z : ℕ). some z) (sym b) in
+        let best : cheapest c d ≡ some m
+        = cheapest-some c d v (s .ordered) n m (sym (ap₂ (goal g a) q w) ∙ goal-x) least
+        (λ k z. omega (arith, goal-least g a h v lawful-pairs guided keys via (take count log) Open floor (r .searching) x o small goal-x k z)) in
+        let tr = traced g a h v lawful-pairs guided keys via (take count log) Open floor (r .searching) from held (c .end) n i (inr (subst Open is o)) in
+        record {
+          best = best;
+          logged = logged (cheapest c d) log₀ (set log count x) (count + 1)
+              (subst (λ (z : List ℕ). Settled g a h z) (sym next-log) (chosen-log g a h v lawful-pairs guided keys via (take count log) Open floor (r .searching) x o small))
+              (subst₂ (λ (z : Option ℕ) (y : List ℕ). EndedFrom g a h (guided .base) z y) (sym best) (sym next-log)
+              (subst (λ (z : ℕ). FoundFrom g a h (guided .base) z (longer (take count log) x)) (sym b)
+              (goal-found g a h v lawful-pairs guided keys via (take count log) Open floor (r .searching) x o small goal-x)))
+              (omega (arith, running-room, r .fits, r .long)) (length-set log count x ∙ r .long) (drop-next log log₀ count x (r .past));
+          inside = i;
+          steps = tr .0 .steps;
+          trail = tr .1;
+          legal = goal-legal c d v (s .ordered) n _ yes-at (tr .0);
+          costs = tr .0 .costs ∙ sym (b ∙ ap (λ (z : ℕ). costSoFar g a h keys z) is);
+        }

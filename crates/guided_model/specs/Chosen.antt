@@ -23,7 +23,7 @@ use Rattle.guided_model.specs.Moves.{Frontier}
 
 module _ (g : Graph) (a : Automaton) (h : Estimate) (v : Valid g) (l : Lawful g a) (u : Guide g a h) where
   pub consistent-pairs : Consistent ℕ (Edge g a) (estimateAt a h)
-  consistent-pairs = consistent g a l h (u .consistent)
+  consistent-pairs = consistent g a l (u .base) h (u .consistent)
 
   -- a pair of least cost m with an estimate: its sum
   pub least-sum : (p m r : ℕ) → LeastTo g a p m → estimateAt a h p ≡ some r → (leastCostAt g a h p ≡ some m) × (sumAt g a h p ≡ some (m + r))
@@ -76,7 +76,7 @@ module _ (g : Graph) (a : Automaton) (h : Estimate) (v : Valid g) (l : Lawful g 
       pub chosen-stage : g .start ≤ stageOf a x
       chosen-stage = reach-stage g a h v l u x (cost x) (chosen-least .attained)
 
-      pub chosen-cheap : cost x ≤ 255000000
+      pub chosen-cheap : cost x ≤ 510000000
       chosen-cheap = reach-cheap g a h v l u x (cost x) (chosen-least .attained)
 
       -- it is not in the log, so the log has fewer entries than there are pairs

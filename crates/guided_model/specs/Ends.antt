@@ -13,7 +13,7 @@ use borrow.Author.Tests.{eq-eqb, ne-eqb}
 use Rattle.definitions.specs.Ways.{Graph}
 use Rattle.definitions.specs.Pairs.{Automaton, Estimate, pair, stageOf, nodeOf, goal, leastCost}
 use Rattle.definitions.specs.Limits.{Valid}
-use Rattle.definitions.specs.Promises.{leastCostAt, sumAt, goalAt, Complete, Found}
+use Rattle.definitions.specs.Promises.{leastCostAt, sumAt, goalAt, Complete}
 use Rattle.theory.specs.Basics.{some-inj, true-not-false, at-member}
 use Rattle.theory.specs.BestFirst.{Invariant, exhausted, first-goal, below-settled}
 use Rattle.theory.specs.Pairs.{Lawful, way-inside, cost-attained, cost-reached, is-goal, sum-parts, stageOf-pair, nodeOf-pair}
@@ -24,6 +24,7 @@ use Rattle.guided_model.specs.State.{Guide, In, costSoFar, key-is, Searc
 use Rattle.guided_model.specs.Logs.{longer, longer-length, in-more, Place, earlier, last, place}
 use Rattle.guided_model.specs.Bounds.{stage-is, node-is}
 use Rattle.guided_model.specs.Chosen.{consistent-pairs, log-least, chosen-key, chosen-sum}
+use Rattle.guided_model.specs.Based.{FoundFrom}
 
 module _ (g : Graph) (a : Automaton) (h : Estimate) (v : Valid g) (l : Lawful g a) (u : Guide g a h) where
   member : (log : List ℕ) (p : ℕ) → In log p → List·Memᴰ p log
@@ -59,8 +60,8 @@ module _ (g : Graph) (a : Automaton) (h : Estimate) (v : Valid g) (l : Lawful g 
     pub empty-no-goal : ((p : ℕ) → In log p → goalAt g a h p ≡ false) → (k : ℕ) → GoalCost g a k → ⊥
     empty-no-goal f k t =
         let z = goal-pair k t in
-        true-not-false (sym (z .1) ∙ f (z .0) (all-settled (z .0) k 0 (cost-is-least g a l v (z .0) k (z .2) .attained)
-        (goal-estimate g a h (u .consistent) (stageOf a (z .0)) (nodeOf a (z .0)) (z .1))))
+        true-not-false (sym (z .1) ∙ f (z .0) (all-settled (z .0) k (u .base) (cost-is-least g a l v (z .0) k (z .2) .attained)
+        (goal-estimate (u .base) g a h (u .consistent) (stageOf a (z .0)) (nodeOf a (z .0)) (z .1))))
 
   -- ---- a goal pair is taken
 
@@ -78,13 +79,13 @@ module _ (g : Graph) (a : Automaton) (h : Estimate) (v : Valid g) (l : Lawful g 
         ap₂ (goal g a) q r ∙ is-goal g a n (cost-reached g a (g .end) n (cost x) (sym (ap₂ (leastCost g a) q r) ∙ c)) t
 
     module _ (x : ℕ) (o : Open x) (small : (k : ℕ) → Open k → getD keys x 0 ≤ getD keys k 0) (final : goalAt g a h x ≡ true) where
-      none-left : estimateAt a h x ≡ some 0
-      none-left = goal-estimate g a h (u .consistent) (stageOf a x) (nodeOf a x) final
+      none-left : estimateAt a h x ≡ some (u .base)
+      none-left = goal-estimate (u .base) g a h (u .consistent) (stageOf a x) (nodeOf a x) final
 
-      key-is-cost : getD keys x 0 ≡ cost x
-      key-is-cost = omega (arith, key-is g a h keys x 0 (chosen-key g a h v l u keys via log Open floor s x o small) none-left)
+      key-is-cost : getD keys x 0 ≡ cost x + u .base
+      key-is-cost = omega (arith, key-is g a h keys x (u .base) (chosen-key g a h v l u keys via log Open floor s x o small) none-left)
 
-      small′ : (y r : ℕ) → Open y → estimateAt a h y ≡ some r → cost x + 0 ≤ cost y + r
+      small′ : (y r : ℕ) → Open y → estimateAt a h y ≡ some r → cost x + u .base ≤ cost y + r
       small′ y r p e = omega (arith, small y p, key-is-cost, key-is g a h keys y r (s .has-key y (inr p)) e)
 
       -- no goal pair is cheaper
@@ -92,10 +93,10 @@ module _ (g : Graph) (a : Automaton) (h : Estimate) (v : Valid g) (l : Lawful g 
       goal-least k t =
           let z = goal-pair k t in
           first-goal ℕ (Edge g a) (startPair g a) (estimateAt a h) (consistent-pairs g a h v l u) (In log) Open (costSoFar g a h keys) (s .best)
-          x o none-left small′ (z .0) k (goal-estimate g a h (u .consistent) (stageOf a (z .0)) (nodeOf a (z .0)) (z .1))
+          (u .base) x o none-left small′ (z .0) k (goal-estimate (u .base) g a h (u .consistent) (stageOf a (z .0)) (nodeOf a (z .0)) (z .1))
           (λ i. true-not-false (sym (z .1) ∙ s .no-goal (z .0) i)) (cost-is-least g a l v (z .0) k (z .2) .attained)
 
-      pub goal-found : Found g a h (cost x) (longer log x)
+      pub goal-found : FoundFrom g a h (u .base) (cost x) (longer log x)
       goal-found = record {
         some-entry = omega (arith, longer-length log x);
         only-goal = λ i b. only-goal i (place log x i b);
@@ -103,7 +104,7 @@ module _ (g : Graph) (a : Automaton) (h : Estimate) (v : Valid g) (l : Lawful g 
         below = λ p i k e b. let t = sum-reach p k e in
             member (longer log x) p (in-more log x p
             (below-settled ℕ (Edge g a) (startPair g a) (estimateAt a h) (consistent-pairs g a h v l u) (In log) Open (costSoFar g a h keys) (s .best)
-            (cost x) (λ y r q f. omega (arith, small′ y r q f)) p (t .0) (t .1) (t .3) (t .2) (omega (arith, t .4))));
+            (cost x + u .base) (λ y r q f. omega (arith, small′ y r q f)) p (t .0) (t .1) (t .3) (t .2) (omega (arith, t .4))));
         none-above = λ i k b e. none-above i k e (place log x i b);
       }
         where
@@ -121,7 +122,7 @@ module _ (g : Graph) (a : Automaton) (h : Estimate) (v : Valid g) (l : Lawful g 
           only-goal i (last b q) =
               ap (λ (z : ℕ). goalAt g a h z) q ∙ final ∙ sym (eq-eqb (suc i) (length (longer log x)) (omega (arith, longer-length log x)))
 
-          none-above : (i k : ℕ) → sumAt g a h (getD (longer log x) i 0) ≡ some k → Place log x i → k ≤ cost x
+          none-above : (i k : ℕ) → sumAt g a h (getD (longer log x) i 0) ≡ some k → Place log x i → k ≤ cost x + u .base
           none-above i k e (earlier b q) =
               let p = getD log i 0 in
               omega (

@@ -1,6 +1,7 @@
 pub mod State
 pub mod Moves
 pub mod Logs
+pub mod Based
 pub mod Bounds
 pub mod Chosen
 pub mod Turns

@@ -12,6 +12,7 @@ use Rattle.definitions.specs.Ways.{Graph}
 use Rattle.definitions.specs.Pairs.{Automaton, Estimate, pair, pairs, stageOf, nodeOf}
 use Rattle.definitions.specs.Limits.{Valid}
 use Rattle.definitions.specs.Promises.{shown, goalAt}
+use Rattle.theory.specs.Ways.{step-cheap}
 use Rattle.theory.specs.Basics.{either, true-not-false}
 use Rattle.theory.specs.Pairs.{Lawful, pair-inside, pair-of, stageOf-inside, goal-parts}
 use Rattle.theory.specs.Product.{startPair}
@@ -34,7 +35,7 @@ pub record Settling (g : Graph) (a : Automaton) (h : Estimate) (t n base floor :
   pub rest : ℕ
   pub has : h t n ≡ some rest
   pub sums : floor ≡ base + rest
-  pub cheap : base ≤ 255000000
+  pub cheap : base ≤ 510000000
 
 -- a pair of another stage than the end, or of a node that does not accept, is no goal pair
 module _ (g : Graph) (a : Automaton) (h : Estimate) (x t n : ℕ) (p : Located g a x t n) where
@@ -68,7 +69,7 @@ module _ (g : Graph) (a : Automaton) (h : Estimate) (v : Valid g) (l : Lawful g 
         pair-inside = pair-inside g a (g .to e) (a .next e n) (v .inside e i) j;
         row = row-of g a h v l u (g .to e) (a .next e n) rest (omega (arith, v .forward e i, s .late)) j q;
         above = omega (arith, s .sums, step-rises g a h v l u e n rest (s .rest) i q (ap (λ (z : ℕ). h z n) f ∙ s .has));
-        low = omega (arith, s .cheap, v .cheap e i, u .bounded (g .to e) (a .next e n) rest j q);
+        low = omega (arith, s .cheap, step-cheap g v e i, u .bounded (g .to e) (a .next e n) rest j q);
       }
 
   module _ (keys via log : List ℕ) (Open : ℕ → Type 0) (floor : ℕ) (s : Searching g a h keys via log Open floor)

@@ -24,10 +24,11 @@ unopened = 4294967295
 
 -- what is asked of an estimate: it is consistent, none at node 0 and past the end stage, and small
 pub record Guide (g : Graph) (a : Automaton) (h : Estimate) : Type 0 where
-  pub consistent : ConsistentEstimate g a h
+  pub base : ℕ
+  pub consistent : ConsistentEstimate base g a h
   pub dead : (s : ℕ) → h s 0 ≡ none
   pub until-end : (s n m : ℕ) → h s n ≡ some m → s ≤ g .end
-  pub bounded : (s n m : ℕ) → n < a .size → h s n ≡ some m → m ≤ 510000000
+  pub bounded : (s n m : ℕ) → n < a .size → h s n ≡ some m → m ≤ 1800000000
 
 -- p is in the log
 abbrev pub In : List ℕ → ℕ → Type 0

@@ -13,6 +13,7 @@ use Rattle.definitions.specs.Ways.{Graph}
 use Rattle.definitions.specs.Pairs.{Automaton, Estimate, pair}
 use Rattle.definitions.specs.Limits.{Valid}
 use Rattle.definitions.specs.Promises.{goalAt}
+use Rattle.theory.specs.Ways.{step-cheap}
 use Rattle.theory.specs.Basics.{either, same-or-not}
 use Rattle.theory.specs.BestFirst.{here as begin-here, Turn, turn-keeps}
 use Rattle.theory.specs.Pairs.{Lawful}
@@ -174,7 +175,7 @@ module _ (g : Graph) (a : Automaton) (h : Estimate) (v : Valid g) (l : Lawful g 
               b,
               costs,
               w .4,
-              v .cheap (w .0) (w .1),
+              step-cheap g v (w .0) (w .1),
               u .bounded _ _ r j q,
               chosen-cheap g a h v l u keys via log Open floor s x o small,
             ) in

@@ -8,15 +8,16 @@ use Rattle.definitions.specs.Charts.{Chart}
 use Rattle.definitions.specs.Diagrams.{Diagram}
 use Rattle.definitions.specs.Limits.{Valid, Sound}
 use Rattle.definitions.specs.Plans.{graph}
+use Rattle.theory.specs.Estimates.{Small}
 use Rattle.diagram.specs.Tables.{Held}
 use Rattle.diagram.specs.Held.{held-step}
 use Rattle.nodes.specs.Estimates.{Priced, Costs}
 
-pub priced : (c : Chart) (d : Diagram) (step lo hi cost : List ℕ) (count : ℕ) → Costs c cost → Held d step lo hi → Valid (graph c) → Sound (length (c .steps)) d
+pub priced : (c : Chart) (d : Diagram) (step lo hi cost : List ℕ) (count : ℕ) → Costs c cost → Held d step lo hi → Valid (graph c) → Small c → Sound (length (c .steps)) d
     → count ≤ length (d .nodes) → Priced step cost count
-priced c d step lo hi cost count costs held v s few = record {
+priced c d step lo hi cost count costs held v small s few = record {
   inside = λ n g l. omega (arith, exists n g l, v .few);
-  cheap = λ n g l. omega (arith, costs (getD step n 0) (exists n g l), v .cheap (getD step n 0) (exists n g l));
+  cheap = λ n g l. omega (arith, costs (getD step n 0) (exists n g l), small (getD step n 0) (exists n g l));
 }
   where
     exists : (n : ℕ) → 2 ≤ n → n < count + 2 → getD step n 0 < length (c .steps)

@@ -45,7 +45,7 @@ module _ (s t : List ℕ) where
       -- 256 stages × 512 nodes and 255 steps
       most : spaceFits C D (131072 ∷ []) 255 ≡ true
       most =
-          let v : Valid (graph C) = chart-accepted s c in
+          let v : Valid (graph C) = chart-accepted s c .0 in
           let w : Sound (length (C .steps)) D = diagram-accepted t (length (C .steps)) d in
           let m = mul-le-mul-right (size D) (v .few-stages) in
           simp (le-leb (workNeed C D) 131072 (omega (arith, m, w .few)), le-leb (planNeed C) 255 (omega (arith, v .few-stages)))

@@ -7,6 +7,7 @@ use native.Mathlib.Omega.{arith}
 use lib.Dec.{eqb}
 use lib.ListN.{getD}
 use borrow.Author.Tests.{eq-eqb, ne-eqb}
+use Rattle.theory.specs.Ways.{step-cheap}
 use Rattle.definitions.specs.Basics.{pick}
 use Rattle.definitions.specs.Diagrams.{Diagram, size, advance}
 use Rattle.definitions.specs.Ways.{Graph}
@@ -165,7 +166,7 @@ module _ {z : Shape} {on : Walk} {s n v start until : ℕ} {r₀ r : Rows} {e m 
         exists = omega (arith, leaving .0, few-steps z (on .read) tables);
         inside = omega (arith, to-is, to-inside, few-stages z (on .read) tables);
         node = omega (arith, standing .node, narrow);
-        low = omega (arith, cost-is, standing .costs, entry-low g a (tables .valid) r (suc s) s n entry, tables .valid .cheap e exists);
+        low = omega (arith, cost-is, standing .costs, entry-low g a (tables .valid) r (suc s) s n entry, step-cheap g (tables .valid) e exists);
         takes = takes;
       }
 

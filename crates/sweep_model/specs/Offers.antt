@@ -14,6 +14,7 @@ use Rattle.definitions.specs.Basics.{pick}
 use Rattle.definitions.specs.Ways.{Graph}
 use Rattle.definitions.specs.Pairs.{Automaton, pair, pairs}
 use Rattle.definitions.specs.Limits.{Valid}
+use Rattle.theory.specs.Ways.{step-cheap}
 use Rattle.theory.specs.Basics.{either, same-or-not, pick-true, pick-false}
 use Rattle.theory.specs.Pairs.{Lawful, WayTo, way-next, pair-apart, pair-inside}
 use Rattle.theory.specs.Counting.{room}
@@ -65,7 +66,7 @@ module _ (g : Graph) (a : Automaton) (v : Valid g) (l : Lawful g a) (s n e x : �
   new-way = way-next g a s n x e (subst (WayTo g a s n) costs (source .way)) he hf
 
   y-low : y < unreached
-  y-low = omega (arith, entry-low g a v r (suc s) s n source, v .cheap e he)
+  y-low = omega (arith, entry-low g a v r (suc s) s n source, step-cheap g v e he)
 
   -- a table whose cost and via have the offer in them
   module _ (r′ : Rows) (ec : r′ .cost ≡ set (r .cost) q y) (ev : r′ .via ≡ set (r .via) q (packed e n)) where

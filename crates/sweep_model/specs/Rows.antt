@@ -128,7 +128,7 @@ module _ (g : Graph) (a : Automaton) where
   }
 
   -- a reached pair's cost is far below the mark
-  pub entry-low : Valid g → (r : Rows) (b s n : ℕ) → Entry r b s n → costAt (a .size) r s n ≤ 255000000
+  pub entry-low : Valid g → (r : Rows) (b s n : ℕ) → Entry r b s n → costAt (a .size) r s n ≤ 510000000
   entry-low v r b s n e = omega (arith, e .way .costs, way-bounded g v (e .way .steps) (g .start) (v .start-inside) (e .way .way))
 
   -- a row's list is no longer than a row

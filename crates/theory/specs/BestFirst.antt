@@ -66,11 +66,11 @@ module _ (S : Type 0) (Edge : S → S → ℕ → Type 0) (start : S) (h : S →
   pub exhausted : ((y : S) (hy : ℕ) → Open y → h y ≡ some hy → ⊥) → (x : S) (hx k : ℕ) → h x ≡ some hx → Reach S Edge start x k → Settled x
   exhausted empty x hx k e w = either (frontier w hx e) (λ s. s) (λ t. absurd (empty (t .0) (t .1) (t .2) (t .3)))
 
-  -- the first goal: x is open with a smallest key and estimate 0, and z is a goal that is not settled. No way to z is cheaper
-  pub first-goal : (x : S) → Open x → h x ≡ some 0 → ((y : S) (hy : ℕ) → Open y → h y ≡ some hy → g x + 0 ≤ g y + hy)
-      → (z : S) (k : ℕ) → h z ≡ some 0 → (Settled z → ⊥) → Reach S Edge start z k → g x ≤ k
-  first-goal x o e small z k ez fresh w =
-      either (frontier w 0 ez) (λ s. absurd (fresh s)) (λ t. omega (arith, small (t .0) (t .1) (t .2) (t .3)))
+  -- the first goal: x is open with a smallest key, z is a goal that is not settled, and the estimates of both are the same. No way to z is cheaper
+  pub first-goal : (base : ℕ) (x : S) → Open x → h x ≡ some base → ((y : S) (hy : ℕ) → Open y → h y ≡ some hy → g x + base ≤ g y + hy)
+      → (z : S) (k : ℕ) → h z ≡ some base → (Settled z → ⊥) → Reach S Edge start z k → g x ≤ k
+  first-goal base x o e small z k ez fresh w =
+      either (frontier w base ez) (λ s. absurd (fresh s)) (λ t. omega (arith, small (t .0) (t .1) (t .2) (t .3)))
 
   -- what has a smaller sum than every open state is settled
   pub below-settled : (key : ℕ) → ((y : S) (hy : ℕ) → Open y → h y ≡ some hy → key ≤ g y + hy)

@@ -1,7 +1,7 @@
 -- Laws of the estimates (heuristics): the chart estimate, the diagram estimate and the larger of both are consistent, 0 at goal pairs, admissible and bounded.
 -- Assumes nothing.
-use Prim.Native.Nat.{ℕ, zero, suc, _+_, _*_, _≤_, _<_}
-use mathlib.Core.Path.{_≡_, refl, sym, _∙_, ap}
+use Prim.Native.Nat.{ℕ, zero, suc, _+_, _*_, _≤_, _<_, max}
+use mathlib.Core.Path.{_≡_, refl, sym, _∙_, ap, ap₂}
 use mathlib.Core.Bool.{true}
 use mathlib.Core.List.{List, [], _∷_}
 use mathlib.Core.Option.{none, some}
@@ -24,29 +24,30 @@ use Rattle.theory.specs.Ways.{way-climbs, way-cheap, leastWay-lower, lea
 
 -- ---- any estimate
 
--- a step lowers the estimate by at most its cost, and the estimate is 0 where a way may end
-pub record ConsistentEstimate (g : Graph) (a : Automaton) (h : Estimate) : Type 0 where
+-- a step lowers the estimate by at most its cost, and the estimate is the same number, `base`, wherever a way may end
+pub record ConsistentEstimate (base : ℕ) (g : Graph) (a : Automaton) (h : Estimate) : Type 0 where
   pub step : (e n m : ℕ) → e < g .count → AtMost (h (g .to e) (a .next e n)) m → AtMost (h (g .from e) n) (g .cost e + m)
-  pub goal : (n : ℕ) → a .accepts n ≡ true → h (g .end) n ≡ some 0
+  pub goal : (n : ℕ) → a .accepts n ≡ true → h (g .end) n ≡ some base
 
--- then it is admissible: at most what any way costs that leads on to the end and to a node that accepts
-pub admissible : (g : Graph) (a : Automaton) (h : Estimate) → ConsistentEstimate g a h → (w : List ℕ) (s n : ℕ) → IsWay g s w → endOf g s w ≡ g .end
-    → a .accepts (stands a n w) ≡ true → AtMost (h s n) (wayCost g w)
+-- then it is admissible: above `base`, at most what any way costs that leads on to the end and to a node that accepts
+pub admissible : (base : ℕ) (g : Graph) (a : Automaton) (h : Estimate) → ConsistentEstimate base g a h → (w : List ℕ) (s n : ℕ) → IsWay g s w → endOf g s w ≡ g .end
+    → a .accepts (stands a n w) ≡ true → AtMost (h s n) (wayCost g w + base)
 unfolding stands
-admissible g a h c [] s n i q t = (0, rw q (c .goal n t), omega arith)
-admissible g a h c (e ∷ w) s n i q t =
-    rw (← (i .1)) (c .step e n (wayCost g w) (i .0) (admissible g a h c w (g .to e) (a .next e n) (i .2) q t))
+admissible base g a h c [] s n i q t = (base, rw q (c .goal n t), omega arith)
+admissible base g a h c (e ∷ w) s n i q t =
+    rw (← (i .1)) (weaken _ _ _ (c .step e n (wayCost g w + base) (i .0) (admissible base g a h c w (g .to e) (a .next e n) (i .2) q t)) (omega arith))
 
--- and it is 0 at every goal pair
-pub goal-estimate : (g : Graph) (a : Automaton) (h : Estimate) → ConsistentEstimate g a h → (s n : ℕ) → goal g a s n ≡ true → h s n ≡ some 0
-goal-estimate g a h c s n t = let p = goal-parts g a s n t in rw (p .1) (c .goal n (p .2))
+-- and it is `base` at every goal pair
+pub goal-estimate : (base : ℕ) (g : Graph) (a : Automaton) (h : Estimate) → ConsistentEstimate base g a h → (s n : ℕ) → goal g a s n ≡ true → h s n ≡ some base
+goal-estimate base g a h c s n t = let p = goal-parts g a s n t in rw (p .1) (c .goal n (p .2))
 
 -- the larger of two consistent estimates is consistent
-pub larger-consistent : (g : Graph) (a : Automaton) (h i : Estimate) → ConsistentEstimate g a h → ConsistentEstimate g a i
-    → ConsistentEstimate g a (λ s n. larger (h s n) (i s n))
-larger-consistent g a h i c b = record {
+pub larger-consistent : (base : ℕ) (g : Graph) (a : Automaton) (h i : Estimate) → ConsistentEstimate base g a h → ConsistentEstimate base g a i
+    → ConsistentEstimate base g a (λ s n. larger (h s n) (i s n))
+unfolding larger
+larger-consistent base g a h i c b = record {
   step = λ e n m l t. larger-at-most _ _ _ (c .step e n m l (larger-left _ _ m t)) (b .step e n m l (larger-right (h (g .to e) (a .next e n)) _ m t));
-  goal = λ n t. at-most-zero _ (larger-at-most _ _ _ (0, c .goal n t, omega arith) (0, b .goal n t, omega arith));
+  goal = λ n t. let q : max base base ≡ base = omega arith in ap₂ larger (c .goal n t) (b .goal n t) ∙ ap (λ (m : ℕ). some m) q;
 }
 
 -- ---- the chart estimate
@@ -64,14 +65,14 @@ module _ (g : Graph) (v : Valid g) where
   unfolding toEnd
   toEnd-end = at-most-zero _ (leastWay-lower g v (g .end) (v .end-inside) _ [] tt (eq-eqb (g .end) (g .end) refl))
 
-  pub toEnd-bounded : (s m : ℕ) → toEnd g s ≡ some m → m ≤ 255000000
+  pub toEnd-bounded : (s m : ℕ) → toEnd g s ≡ some m → m ≤ 510000000
   unfolding toEnd
   toEnd-bounded s m e =
       let u = leastWay-attained g s _ m e in
       let q : endOf g s (u .0) ≡ g .end = eqb-true _ _ (u .2) in
       omega (arith, way-climbs g v (u .0) s (u .1), way-cheap g v (u .0) s (u .1), v .end-inside, v .few-stages, u .3)
 
-pub chart-consistent : (c : Chart) (a : Automaton) → Valid (graph c) → ConsistentEstimate (graph c) a (λ s n. chartEstimate c s)
+pub chart-consistent : (c : Chart) (a : Automaton) → Valid (graph c) → ConsistentEstimate 0 (graph c) a (λ s n. chartEstimate c s)
 unfolding chartEstimate
 chart-consistent c a v = record { step = λ e n m h t. toEnd-step (graph c) v e m h t; goal = λ n t. toEnd-end (graph c) v }
 
@@ -81,7 +82,7 @@ unfolding chartEstimate toEnd
 chart-admissible c v w s i q =
     leastWay-lower (graph c) v s (omega (arith, way-climbs (graph c) v w s i, v .end-inside)) _ w i (eq-eqb _ _ q)
 
-pub chart-bounded : (c : Chart) → Valid (graph c) → (s m : ℕ) → chartEstimate c s ≡ some m → m ≤ 255000000
+pub chart-bounded : (c : Chart) → Valid (graph c) → (s m : ℕ) → chartEstimate c s ≡ some m → m ≤ 510000000
 unfolding chartEstimate
 chart-bounded c v s m e = toEnd-bounded (graph c) v s m e
 
@@ -91,8 +92,12 @@ chart-bounded c v s m e = toEnd-bounded (graph c) v s m e
 pub variableCost-at-most : (c : Chart) (e : ℕ) → e < graph c .count → variableCost c (variable c e) ≤ graph c .cost e
 variableCost-at-most c e h = omega arith
 
-pub variableCost-cheap : (c : Chart) → Valid (graph c) → (k : ℕ) → k < length (c .steps) → variableCost c k ≤ 1000000
-variableCost-cheap c v k h = v .cheap k h
+-- each step costs at most 1,000,000
+abbrev pub Small : Chart → Type 0
+Small c = (e : ℕ) → e < graph c .count → graph c .cost e ≤ 1000000
+
+pub variableCost-cheap : (c : Chart) → Small c → (k : ℕ) → k < length (c .steps) → variableCost c k ≤ 1000000
+variableCost-cheap c v k h = v k h
 
 module _ (c : Chart) (d : Diagram) (o : Ordered d) where
   pub diagramEstimate-leaf : (n : ℕ) → n < 2 → diagramEstimate c d n ≡ leafEstimate n
@@ -124,7 +129,7 @@ module _ (c : Chart) (d : Diagram) (o : Ordered d) where
       (λ n h e. let q : n ≡ 1 = sym (finish-leaf d o n h) ∙ e in rw q (0, diagramEstimate-leaf 1 (omega arith), omega arith))
       (λ n h l r e. rw (diagramEstimate-inner n h) (smaller-left _ _ _ (l (sym (finish-inner d o n h) ∙ e))))
 
-  pub diagram-consistent : ConsistentEstimate (graph c) (automaton c d) (λ s n. diagramEstimate c d n)
+  pub diagram-consistent : ConsistentEstimate 0 (graph c) (automaton c d) (λ s n. diagramEstimate c d n)
   diagram-consistent = record {
     step = λ e n m h t. weaken _ _ _ (diagram-step (variable c e) m n t) (omega (arith, variableCost-at-most c e h));
     goal = λ n t. at-most-zero _ (diagram-goal n (eqb-true _ _ t));
@@ -132,16 +137,16 @@ module _ (c : Chart) (d : Diagram) (o : Ordered d) where
 
   pub diagram-admissible : (w : List ℕ) (s n : ℕ) → IsWay (graph c) s w → endOf (graph c) s w ≡ c .end
       → automaton c d .accepts (stands (automaton c d) n w) ≡ true → AtMost (diagramEstimate c d n) (wayCost (graph c) w)
-  diagram-admissible = admissible (graph c) (automaton c d) (λ s n. diagramEstimate c d n) diagram-consistent
+  diagram-admissible w s n i q t = weaken _ _ _ (admissible 0 (graph c) (automaton c d) (λ s n. diagramEstimate c d n) diagram-consistent w s n i q t) (omega arith)
 
   -- the estimate of a pair
-  pub pair-consistent : Valid (graph c) → ConsistentEstimate (graph c) (automaton c d) (estimate c d)
+  pub pair-consistent : Valid (graph c) → ConsistentEstimate 0 (graph c) (automaton c d) (estimate c d)
   unfolding estimate
-  pair-consistent v = larger-consistent (graph c) (automaton c d) _ _ (chart-consistent c (automaton c d) v) diagram-consistent
+  pair-consistent v = larger-consistent 0 (graph c) (automaton c d) _ _ (chart-consistent c (automaton c d) v) diagram-consistent
 
   pub pair-admissible : Valid (graph c) → (w : List ℕ) (s n : ℕ) → IsWay (graph c) s w → endOf (graph c) s w ≡ c .end
       → automaton c d .accepts (stands (automaton c d) n w) ≡ true → AtMost (estimate c d s n) (wayCost (graph c) w)
-  pair-admissible v = admissible (graph c) (automaton c d) (estimate c d) (pair-consistent v)
+  pair-admissible v w s n i q t = weaken _ _ _ (admissible 0 (graph c) (automaton c d) (estimate c d) (pair-consistent v) w s n i q t) (omega arith)
 
   pub estimate-dead : (s : ℕ) → estimate c d s 0 ≡ none
   unfolding estimate
@@ -149,7 +154,7 @@ module _ (c : Chart) (d : Diagram) (o : Ordered d) where
 
 -- ---- bounds
 
-module _ (c : Chart) (d : Diagram) (v : Valid (graph c)) (s : Sound (length (c .steps)) d) where
+module _ (c : Chart) (d : Diagram) (v : Valid (graph c)) (small : Small c) (s : Sound (length (c .steps)) d) where
   -- each inner node below adds at most one step's cost
   abbrev Bounded : ℕ → Type 0
   Bounded n = n < size d → (m : ℕ) → diagramEstimate c d n ≡ some m → m + 1000000 ≤ n * 1000000
@@ -174,7 +179,7 @@ module _ (c : Chart) (d : Diagram) (v : Valid (graph c)) (s : Sound (length (c .
           go b t (inl q) = omega (arith, l (omega arith) m q)
           go b t (inr q) =
               let x = plus-parts _ _ m q in
-              omega (arith, r (omega arith) (x .0) (x .1), variableCost-cheap c v (inner d n .step) (s .exist n h i), x .2)
+              omega (arith, r (omega arith) (x .0) (x .1), variableCost-cheap c small (inner d n .step) (s .exist n h i), x .2)
 
   pub diagram-bounded : (n m : ℕ) → n < size d → diagramEstimate c d n ≡ some m → m ≤ 510000000
   diagram-bounded n m h e = omega (arith, by-depth n h m e, s .few)

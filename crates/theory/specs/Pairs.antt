@@ -109,7 +109,7 @@ module _ (g : Graph) (a : Automaton) where
   }
 
   -- where a way leads, and what it costs at most
-  pub way-inside : Valid g → Lawful g a → (s n k : ℕ) → WayTo g a s n k → (s < g .stages) × (n < a .size) × (k ≤ 255000000)
+  pub way-inside : Valid g → Lawful g a → (s n k : ℕ) → WayTo g a s n k → (s < g .stages) × (n < a .size) × (k ≤ 510000000)
   way-inside v l s n k w = (
     omega (arith, end-inside g v (w .steps) (g .start) (v .start-inside) (w .way), w .ends),
     omega (arith, stands-inside g a l (w .steps) (g .start) (a .root) (w .way) (l .root-inside), w .stand),

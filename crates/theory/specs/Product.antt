@@ -107,8 +107,8 @@ module _ (g : Graph) (a : Automaton) where
     }
 
     -- an estimate that is consistent on the steps is consistent on this graph
-    pub consistent : (h : Estimate) → ConsistentEstimate g a h → Consistent ℕ (Edge g a) (estimateAt a h)
-    consistent h c = record {
+    pub consistent : (base : ℕ) (h : Estimate) → ConsistentEstimate base g a h → Consistent ℕ (Edge g a) (estimateAt a h)
+    consistent base h c = record {
       step = λ p q k x hq eq.
           let e = x .step in
           let i = l .next-inside e (nodeOf a p) (x .exists) (nodeOf-inside a p (omega (arith, l .root-inside))) in

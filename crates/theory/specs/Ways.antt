@@ -1,7 +1,7 @@
--- Laws of the ways of a valid graph: their steps rise, they have fewer steps than there are stages and cost at most 255,000,000; the least cost over the ways
+-- Laws of the ways of a valid graph: their steps rise, they have fewer steps than there are stages and cost at most 510,000,000; the least cost over the ways
 -- that pass a test is at most the cost of each of them, and is the cost of one.
 -- Assumes nothing.
-use Prim.Native.Nat.{ℕ, zero, suc, _+_, _*_, _≤_, _<_}
+use Prim.Native.Nat.{ℕ, zero, suc, _+_, _-_, _*_, _≤_, _<_}
 use mathlib.Core.Path.{_≡_, refl}
 use mathlib.Core.Bool.{Bool, true, _&&_}
 use mathlib.Core.List.{List, [], _∷_, _++_, List·Memᴰ, List·Memᴰ·head, List·Memᴰ·tail, List·Memᴰ·not-nil, List·Memᴰ·cases-cons, Memᴰ·map, Memᴰ·of-map}
@@ -49,12 +49,15 @@ module _ (g : Graph) (v : Valid g) where
   pub way-length : (w : List ℕ) (a : ℕ) → a < g .stages → IsWay g a w → a + length w < g .stages
   way-length w a h i = omega (arith, way-climbs w a i, end-inside w a h i)
 
-  pub way-cheap : (w : List ℕ) (a : ℕ) → IsWay g a w → wayCost g w ≤ length w * 1000000
+  pub way-cheap : (w : List ℕ) (a : ℕ) → IsWay g a w → wayCost g w ≤ 2000000 * (endOf g a w - a)
   way-cheap [] a i = omega arith
-  way-cheap (e ∷ w) a i = omega (arith, v .cheap e (i .0), way-cheap w (g .to e) (i .2))
+  way-cheap (e ∷ w) a i = omega (arith, v .cheap e (i .0), v .forward e (i .0), way-climbs w (g .to e) (i .2), way-cheap w (g .to e) (i .2))
 
-  pub way-bounded : (w : List ℕ) (a : ℕ) → a < g .stages → IsWay g a w → wayCost g w ≤ 255000000
-  way-bounded w a h i = omega (arith, way-cheap w a i, way-length w a h i, v .few-stages)
+  pub step-cheap : (e : ℕ) → e < g .count → g .cost e ≤ 510000000
+  step-cheap e h = omega (arith, v .cheap e h, v .inside e h, v .few-stages)
+
+  pub way-bounded : (w : List ℕ) (a : ℕ) → a < g .stages → IsWay g a w → wayCost g w ≤ 510000000
+  way-bounded w a h i = omega (arith, way-cheap w a i, way-climbs w a i, end-inside w a h i, v .few-stages)
 
 -- ---- the test and the statement agree
 
