@@ -10,7 +10,7 @@ use native.Mathlib.Nat.{mul-le-mul-right}
 use Rattle.queue.specs.declared.Counts.{Counts}
 use Rattle.queue.specs.Queue.{Contains, Queue, Empty, Inserted}
 use Rattle.queue.proofs.Facts.{queue-empty, contains-none}
-use Rattle.definitions.specs.Limits.{Sound}
+use Rattle.theory.specs.Limits.{Sound}
 use Rattle.theory.specs.Basics.{either, same-or-not}
 use Rattle.theory.specs.Pairs.{pair-inside}
 use Rattle.checks.specs.declared.Shape.{Shape}

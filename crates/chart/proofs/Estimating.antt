@@ -9,7 +9,7 @@ use native.Mathlib.Omega.{arith}
 use mir.Val.{Fits}
 use mir.Syntax.{w32, w64}
 use Rattle.definitions.specs.Plans.{graph, chartEstimate}
-use Rattle.definitions.specs.Limits.{Valid}
+use Rattle.theory.specs.Limits.{Valid}
 use Rattle.chart.specs.Tables.{stepsIn, heldSteps, heldChart}
 use Rattle.chart.specs.Held.{held-count, held-from, held-to, held-cost}
 use Rattle.chart.specs.Estimates.{EstimateTable, Told, Lowered, told-start, told-fits, told-turn, told-done}

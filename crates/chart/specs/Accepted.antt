@@ -12,9 +12,8 @@ use native.Mathlib.Decide.{decLt}
 use borrow.Author.Tests.{eqb-true, eqb-false}
 use Rattle.definitions.specs.Basics.{pick}
 use Rattle.definitions.specs.Fields.{two, part, fieldAt, onField}
-use Rattle.theory.specs.Estimates.{Small}
 use Rattle.definitions.specs.Charts.{Chart, ChartStep, ChartRead, noStep, headFault, stepOf, lastFrom, stepFaultAfter, badHead, withSteps, scanSteps, readChart}
-use Rattle.definitions.specs.Limits.{Valid}
+use Rattle.theory.specs.Limits.{Small, Valid}
 use Rattle.definitions.specs.Plans.{graph}
 use Rattle.definitions.specs.declared.Field.{Field}
 use Rattle.definitions.specs.declared.Field.the-variants.{Absent, Faulty, Whole}

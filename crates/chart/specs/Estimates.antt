@@ -18,7 +18,7 @@ use Rattle.definitions.specs.Charts.{Chart}
 use Rattle.definitions.specs.Pairs.{toEnd}
 use Rattle.definitions.specs.Plans.{chartEstimate}
 use Rattle.definitions.specs.Promises.{shown}
-use Rattle.definitions.specs.Limits.{Valid}
+use Rattle.theory.specs.Limits.{Valid}
 use Rattle.theory.specs.Basics.{same-or-not}
 use Rattle.theory.specs.Least.{IsLeast, More, least-of, least-unique, least-same, least-either, least-more}
 use Rattle.theory.specs.Ways.{way-climbs, way-cheap, step-cheap, leastWay-lower, leastWay-attained}

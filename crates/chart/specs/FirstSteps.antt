@@ -10,7 +10,7 @@ use native.Mathlib.Decide.{decLt}
 use borrow.Author.Tests.{lt-ltb, le-ltb}
 use Rattle.definitions.specs.Basics.{keep, run, upto}
 use Rattle.definitions.specs.Ways.{Graph}
-use Rattle.definitions.specs.Limits.{Valid}
+use Rattle.theory.specs.Limits.{Valid}
 
 -- how many of `count` steps leave stages below s
 unfoldable pub leavingBelow : ℕ → (ℕ → ℕ) → ℕ → ℕ

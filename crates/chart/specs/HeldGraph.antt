@@ -6,7 +6,7 @@ use mathlib.Core.List.{List}
 use lib.ListN.{length, getD}
 use native.Mathlib.Omega.{arith}
 use Rattle.definitions.specs.Plans.{graph}
-use Rattle.definitions.specs.Limits.{Valid}
+use Rattle.theory.specs.Limits.{Valid}
 use Rattle.chart.specs.Tables.{Steps, heldSteps, heldChart}
 use Rattle.chart.specs.Held.{held-count, held-from}
 use Rattle.chart.specs.FirstSteps.{leavingBelow, firstStep, SortedTable, FirstTable, Firsts, Split, split-is, splits}

@@ -2,7 +2,7 @@
 ghost use mathlib.Core.Path.{_≡_};
 ghost use mathlib.Core.Logic.{_⊎_};
 ghost use Prim.Native.Nat.{_+_, _<_};
-ghost use Rattle.definitions.specs.Limits.{Valid};
+ghost use Rattle.theory.specs.Limits.{Valid};
 ghost use Rattle.definitions.specs.Plans.{graph};
 ghost use Rattle.chart.specs.Tables.{chartOf};
 ghost use Rattle.chart.specs.Estimates.{Lowered, EstimateTable};

@@ -13,11 +13,10 @@ use Rattle.definitions.specs.Charts as charts
 use Rattle.definitions.specs.Diagrams.{Diagram, InnerNode, readDiagram}
 use Rattle.definitions.specs.Diagrams as diagrams
 use Rattle.definitions.specs.Plans.{graph}
-use Rattle.definitions.specs.Limits.{Valid, Sound}
+use Rattle.theory.specs.Limits.{Small, Valid, Sound}
 use Rattle.definitions.specs.Answers.{load, spaceFits, workNeed}
 use Rattle.chart.specs.Tables as chart
 use Rattle.chart.specs.Accepted.{Within, chart-accepted}
-use Rattle.theory.specs.Estimates.{Small}
 use Rattle.chart.specs.declared.reader.ChartRead.{ChartRead}
 use Rattle.diagram.specs.Tables as diagram
 use Rattle.diagram.specs.Files as files

@@ -9,7 +9,7 @@ use Rattle.definitions.specs.Diagrams.{size}
 use Rattle.definitions.specs.Ways.{Graph}
 use Rattle.definitions.specs.Pairs.{Automaton}
 use Rattle.definitions.specs.Plans.{graph, automaton}
-use Rattle.definitions.specs.Limits.{Sound}
+use Rattle.theory.specs.Limits.{Sound}
 use Rattle.theory.specs.Pairs.{Lawful, lawful}
 use Rattle.chart.specs.Held.{held-count, held-from, held-to, held-cost}
 use Rattle.chart.specs.FirstSteps.{FirstTable, Firsts, first-leaves, leaves-first, first-inside, first-rises}

@@ -6,8 +6,7 @@ use mathlib.Core.List.{List}
 use Rattle.definitions.specs.Charts.{Chart}
 use Rattle.definitions.specs.Diagrams.{Diagram}
 use Rattle.definitions.specs.Plans.{graph}
-use Rattle.theory.specs.Estimates.{Small}
-use Rattle.definitions.specs.Limits.{Valid, Sound}
+use Rattle.theory.specs.Limits.{Small, Valid, Sound}
 use Rattle.definitions.specs.Answers.{Load, ready, refused}
 use Rattle.chart.specs.Tables as chart
 use Rattle.diagram.specs.Tables as diagram

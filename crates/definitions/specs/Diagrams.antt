@@ -46,8 +46,8 @@ nodeFault steps stepAt count b =
     (pick (not (childFits stepAt (count + 2) (two b 0) (two b 4))) 6 0)))
 
 -- a node's body: step, lo, hi
-abbrev pub nodeOf : List ℕ → InnerNode
-nodeOf b = record { step = two b 0; lo = two b 2; hi = two b 4 }
+abbrev pub innerNodeOf : List ℕ → InnerNode
+innerNodeOf b = record { step = two b 0; lo = two b 2; hi = two b 4 }
 
 abbrev pub nodeFaultAfter : ℕ → List InnerNode → List ℕ → ℕ
 nodeFaultAfter steps before b = nodeFault steps (λ r. getD before (r - 2) noNode .step) (length before) b
@@ -70,7 +70,7 @@ withNodes root x =
 
 -- the nodes of a diagram file over a chart of so many steps, from a place on
 abbrev pub scanNodes : List ℕ → ℕ → ℕ → Scan InnerNode
-scanNodes s steps at = scan s 18 6 (nodeFaultAfter steps) nodeOf (length s) at []
+scanNodes s steps at = scan s 18 6 (nodeFaultAfter steps) innerNodeOf (length s) at []
 
 -- the head first, once; then nodes to the file's end. An empty file is 2 at place 0
 unfoldable pub readDiagram : List ℕ → ℕ → DiagramRead

@@ -5,7 +5,6 @@ pub mod Diagrams
 pub mod Ways
 pub mod Pairs
 pub mod Plans
-pub mod Limits
 pub mod Answers
 pub mod Promises
 pub mod Examples

@@ -5,7 +5,7 @@
 use Prim.Native.Nat.{ℕ, suc, _+_, _-_, _≤_, _<_}
 use mathlib.Core.Path.{_≡_}
 use mathlib.Core.Bool.{Bool}
-use mathlib.Core.List.{List, _++_, map, List·Memᴰ}
+use mathlib.Core.List.{List, [], _∷_, _++_, map, List·Memᴰ}
 use mathlib.Core.Option.{Option, none, some}
 use lib.Dec.{eqb}
 use lib.ListN.{length, getD, take, drop}
@@ -15,7 +15,7 @@ use Rattle.definitions.specs.Diagrams.{Diagram}
 use Rattle.definitions.specs.Ways.{Graph, wayCost}
 use Rattle.definitions.specs.Pairs.{Automaton, Estimate, pair, pairs, stageOf, nodeOf, leastCost, goal, sum, reachedPairs}
 use Rattle.definitions.specs.Plans.{graph, automaton, Legal, cheapest, estimate}
-use Rattle.definitions.specs.Answers.{Load, ready, refused, workNeed, refusal, accepted}
+use Rattle.definitions.specs.Answers.{Load, ready, refused, load, workNeed, refusal, accepted}
 use Rattle.definitions.specs.declared.Answer.{Answer}
 
 -- ---- the plan slice, for both searches
@@ -125,3 +125,49 @@ Guided (refused number file place) plan plan′ log log′ r = (r ≡ refusal nu
 Guided (ready c d) plan plan′ log log′ r =
     Outcome (cheapest c d) c d (r .count) plan plan′ r
     × Logged (graph c) (automaton c d) (estimate c d) (cheapest c d) (r .count) log log′
+
+-- ---- whole calls: both files, every lent slice before and after, and the answer
+
+-- the slices that a sweep is lent
+pub record SweepSlices : Type 0 where
+  pub cost : List ℕ
+  pub via : List ℕ
+  pub nodes : List ℕ
+  pub plan : List ℕ
+
+abbrev pub sweepSlices : List ℕ → List ℕ → List ℕ → List ℕ → SweepSlices
+sweepSlices cost via nodes plan = record { cost = cost; via = via; nodes = nodes; plan = plan }
+
+-- what the checks on both files and on these slices give
+abbrev pub sweepLoad : List ℕ → List ℕ → SweepSlices → Load
+sweepLoad chart rules x = load chart rules (length (x .cost) ∷ length (x .via) ∷ length (x .nodes) ∷ []) (length (x .plan))
+
+pub record SweepCall (chart rules : List ℕ) (before after : SweepSlices) (r : Answer) : Type 0 where
+  pub swept : Swept (sweepLoad chart rules before) (before .plan) (after .plan) (before .cost) (after .cost) r
+  pub via : Scratch (sweepLoad chart rules before) (before .via) (after .via)
+  pub nodes : Scratch (sweepLoad chart rules before) (before .nodes) (after .nodes)
+
+-- the slices that a guided search is lent
+pub record GuidedSlices : Type 0 where
+  pub keys : List ℕ
+  pub via : List ℕ
+  pub heap : List ℕ
+  pub pos : List ℕ
+  pub stack : List ℕ
+  pub log : List ℕ
+  pub plan : List ℕ
+
+abbrev pub guidedSlices : List ℕ → List ℕ → List ℕ → List ℕ → List ℕ → List ℕ → List ℕ → GuidedSlices
+guidedSlices keys via heap pos stack log plan = record { keys = keys; via = via; heap = heap; pos = pos; stack = stack; log = log; plan = plan }
+
+abbrev pub guidedLoad : List ℕ → List ℕ → GuidedSlices → Load
+guidedLoad chart rules x =
+    load chart rules (length (x .keys) ∷ length (x .via) ∷ length (x .heap) ∷ length (x .pos) ∷ length (x .stack) ∷ length (x .log) ∷ []) (length (x .plan))
+
+pub record GuidedCall (chart rules : List ℕ) (before after : GuidedSlices) (r : Answer) : Type 0 where
+  pub guided : Guided (guidedLoad chart rules before) (before .plan) (after .plan) (before .log) (after .log) r
+  pub keys : Scratch (guidedLoad chart rules before) (before .keys) (after .keys)
+  pub via : Scratch (guidedLoad chart rules before) (before .via) (after .via)
+  pub heap : Scratch (guidedLoad chart rules before) (before .heap) (after .heap)
+  pub pos : Scratch (guidedLoad chart rules before) (before .pos) (after .pos)
+  pub stack : Scratch (guidedLoad chart rules before) (before .stack) (after .stack)

@@ -8,7 +8,7 @@ use native.Mathlib.Omega.{arith}
 use mir.Val.{Fits}
 use mir.Syntax.{w64}
 use Rattle.definitions.specs.Fields.{part, fieldAt, stopped}
-use Rattle.definitions.specs.Diagrams.{InnerNode, noNode, nodeFault, nodeOf, nodeFaultAfter, scanNodes}
+use Rattle.definitions.specs.Diagrams.{InnerNode, noNode, nodeFault, innerNodeOf, nodeFaultAfter, scanNodes}
 use Rattle.definitions.specs.declared.Field.{Field}
 use Rattle.definitions.specs.declared.Field.the-variants.{Absent, Faulty, Whole}
 use Rattle.fields.specs.Listed.{rest-kept}
@@ -62,7 +62,7 @@ filled-grown before x count packed₀ packed counted below now =
 -- what is read so far, and that the rest of the walk is still to come
 record Halfway (s : List ℕ) (first steps : ℕ) (packed₀ packed : List (List ℕ)) (at count : ℕ) : Type 0 where
   before : List InnerNode
-  reading : Reading s 18 6 (nodeFaultAfter steps) nodeOf first at before
+  reading : Reading s 18 6 (nodeFaultAfter steps) innerNodeOf first at before
   counted : length before ≡ count
   filled : Filled before packed₀ packed
 
@@ -78,7 +78,7 @@ module _ (s : List ℕ) (first steps : ℕ) (packed₀ : List (List ℕ)) where
     few = omega arith;
     halfway = λ room marked. record {
       before = [];
-      reading = reading-start s 18 6 (nodeFaultAfter steps) nodeOf first;
+      reading = reading-start s 18 6 (nodeFaultAfter steps) innerNodeOf first;
       counted = refl;
       filled = record {
         marked = marked;
@@ -106,10 +106,10 @@ module _ (s : List ℕ) (first steps : ℕ) (packed₀ : List (List ℕ)) where
     }
 
     pub nodes-done : r ≡ Absent → ReadsNodes s steps first packed₀ packed (record { number = 0; place = 0; nodes = count })
-    nodes-done found = ends 0 0 (λ h. reading-done s 18 6 (nodeFaultAfter steps) nodeOf first at (h .before) (h .reading) r given found)
+    nodes-done found = ends 0 0 (λ h. reading-done s 18 6 (nodeFaultAfter steps) innerNodeOf first at (h .before) (h .reading) r given found)
 
     pub nodes-faulty : (k : ℕ) → r ≡ Faulty k → ReadsNodes s steps first packed₀ packed (record { number = k; place = at; nodes = count })
-    nodes-faulty k found = ends k at (λ h. reading-faulty s 18 6 (nodeFaultAfter steps) nodeOf first at (h .before) (h .reading) r given k found)
+    nodes-faulty k found = ends k at (λ h. reading-faulty s 18 6 (nodeFaultAfter steps) innerNodeOf first at (h .before) (h .reading) r given k found)
 
     module _ (a e : ℕ) (found : r ≡ Whole a e) (v : ℕ) (judged : v ≡ nodeFault steps (λ k. getD (nodesIn packed .step) k 0) count (part s a e)) where
       -- the step table holds the steps of the nodes before
@@ -122,7 +122,7 @@ module _ (s : List ℕ) (first steps : ℕ) (packed₀ : List (List ℕ)) where
 
       pub nodes-bad : (v ≡ 0 → ⊥) → ReadsNodes s steps first packed₀ packed (record { number = v; place = at; nodes = count })
       nodes-bad fails =
-          ends v at (λ h. reading-bad s 18 6 (nodeFaultAfter steps) nodeOf first at (h .before) (h .reading) r given a e found v (same-fault h) fails)
+          ends v at (λ h. reading-bad s 18 6 (nodeFaultAfter steps) innerNodeOf first at (h .before) (h .reading) r given a e found v (same-fault h) fails)
 
       module _ (passes : v ≡ 0) where
         fits : NodeFits steps (λ k. getD (nodesIn packed .step) k 0) count (part s a e)
@@ -137,7 +137,7 @@ module _ (s : List ℕ) (first steps : ℕ) (packed₀ : List (List ℕ)) where
         pub nodes-below : count + 1 + 1 < 512
         nodes-below = omega (arith, fits .few)
 
-        pub nodes-step : (packed′ : List (List ℕ)) → packed′ ≡ stored packed (count + 1 + 1) (nodeOf (part s a e)) → SoFar s first steps packed₀ packed′ e (count + 1)
+        pub nodes-step : (packed′ : List (List ℕ)) → packed′ ≡ stored packed (count + 1 + 1) (innerNodeOf (part s a e)) → SoFar s first steps packed₀ packed′ e (count + 1)
         nodes-step packed′ is =
             let own : count + 1 + 1 ≡ count + 2 = omega arith in
             rw (is, own) (record {
@@ -145,10 +145,10 @@ module _ (s : List ℕ) (first steps : ℕ) (packed₀ : List (List ℕ)) where
               halfway = λ room marked.
                   let h = now .halfway room marked in
                   record {
-                    before = h .before ++ nodeOf (part s a e) ∷ [];
-                    reading = reading-step s 18 6 (nodeFaultAfter steps) nodeOf first at (h .before) (h .reading) r given a e found v (same-fault h) passes;
-                    counted = omega (arith, length-append (h .before) (nodeOf (part s a e) ∷ []), h .counted);
-                    filled = filled-grown (h .before) (nodeOf (part s a e)) count packed₀ packed (h .counted) (fits .few) (h .filled);
+                    before = h .before ++ innerNodeOf (part s a e) ∷ [];
+                    reading = reading-step s 18 6 (nodeFaultAfter steps) innerNodeOf first at (h .before) (h .reading) r given a e found v (same-fault h) passes;
+                    counted = omega (arith, length-append (h .before) (innerNodeOf (part s a e) ∷ []), h .counted);
+                    filled = filled-grown (h .before) (innerNodeOf (part s a e)) count packed₀ packed (h .counted) (fits .few) (h .filled);
                   };
             })
 

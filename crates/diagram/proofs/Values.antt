@@ -7,7 +7,7 @@ use lib.Dec.{ltb}
 use lib.ListN.{getD, set}
 use Rattle.definitions.specs.Basics.{pick}
 use Rattle.definitions.specs.Fields.{two}
-use Rattle.definitions.specs.Diagrams.{childFits, nodeFault, nodeOf}
+use Rattle.definitions.specs.Diagrams.{childFits, nodeFault, innerNodeOf}
 use Rattle.fields.specs.Choices.{tests}
 use Rattle.diagram.specs.Files.{stored}
 
@@ -51,5 +51,5 @@ module _ (b : List ℕ) (steps : ℕ) (stepAt : ℕ → ℕ) (count : ℕ) where
 pub ruleset node-value-laws = (node-full, node-step, node-lo, node-hi, node-good)
 
 pub storing : (b : List ℕ) (own key low high : ℕ) (packed : List (List ℕ)) → key ≡ two b 0 → low ≡ two b 2 → high ≡ two b 4
-    → stored packed own (record { step = key; lo = low; hi = high }) ≡ stored packed own (nodeOf b)
+    → stored packed own (record { step = key; lo = low; hi = high }) ≡ stored packed own (innerNodeOf b)
 storing b own key low high packed ek el eh = rw (ek, el, eh)

@@ -11,8 +11,8 @@ use native.Mathlib.Omega.{arith}
 use borrow.Author.Tests.{leb-false, eqb-false}
 use Rattle.definitions.specs.Basics.{pick}
 use Rattle.definitions.specs.Fields.{two, part, fieldAt, onField, Scan}
-use Rattle.definitions.specs.Diagrams.{Diagram, InnerNode, noNode, inner, nodeOf, nodeFaultAfter, DiagramRead, diagramRead, withNodes, scanNodes, readDiagram}
-use Rattle.definitions.specs.Limits.{Ordered, Sound}
+use Rattle.definitions.specs.Diagrams.{Diagram, InnerNode, noNode, inner, innerNodeOf, nodeFaultAfter, DiagramRead, diagramRead, withNodes, scanNodes, readDiagram}
+use Rattle.theory.specs.Limits.{Ordered, Sound}
 use Rattle.definitions.specs.declared.Field.{Field}
 use Rattle.definitions.specs.declared.Field.the-variants.{Absent, Faulty, Whole}
 use Rattle.fields.specs.Scans.{scan-keeps}
@@ -100,10 +100,10 @@ module _ (root steps : ℕ) where
 
   scanned : (s : List ℕ) (at : ℕ) → Limited root steps (scanNodes s steps at .passed)
   scanned s at =
-      scan-keeps s 18 6 (nodeFaultAfter steps) nodeOf (Limited root steps)
+      scan-keeps s 18 6 (nodeFaultAfter steps) innerNodeOf (Limited root steps)
       (λ at a e before w t was.
       let f = node-fits steps (λ r. getD before (r - 2) noNode .step) (length before) (part s a e) (sym t) in
-      node-added before (nodeOf (part s a e)) was (f .few) (f .exists) (f .lo) (f .hi))
+      node-added before (innerNodeOf (part s a e)) was (f .few) (f .exists) (f .lo) (f .hi))
       (length s) at [] none-limited
 
   -- where the nodes pass, the root is tested

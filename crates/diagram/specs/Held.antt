@@ -7,7 +7,7 @@ use lib.ListN.{length, getD, set}
 use lib.Seq.{getD-set-same, getD-set-other}
 use native.Mathlib.Omega.{arith}
 use Rattle.definitions.specs.Diagrams.{Diagram, InnerNode, noNode, size, inner}
-use Rattle.definitions.specs.Limits.{Ordered}
+use Rattle.theory.specs.Limits.{Ordered}
 use Rattle.fields.specs.Listed.{listed-length, listed-getD, grown}
 use Rattle.diagram.specs.Tables.{entry, heldNodes, heldDiagram, Marked, Held}
 

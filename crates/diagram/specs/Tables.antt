@@ -6,7 +6,7 @@ use mathlib.Core.List.{List, map}
 use lib.ListN.{length, getD}
 use Rattle.definitions.specs.Basics.{upto}
 use Rattle.definitions.specs.Diagrams.{Diagram, InnerNode}
-use Rattle.definitions.specs.Limits.{Ordered}
+use Rattle.theory.specs.Limits.{Ordered}
 
 -- the node that stands at a number
 abbrev pub entry : List ℕ → List ℕ → List ℕ → ℕ → InnerNode

@@ -3,7 +3,7 @@ ghost use mathlib.Core.Path.{_≡_};
 ghost use Prim.Native.Nat.{_≤_, _<_};
 ghost use lib.ListN.{length, getD};
 ghost use mathlib.Core.List.{[]};
-ghost use Rattle.definitions.specs.Diagrams.{childFits, nodeFault, nodeOf, diagramRead};
+ghost use Rattle.definitions.specs.Diagrams.{childFits, nodeFault, innerNodeOf, diagramRead};
 ghost use Rattle.diagram.specs.Files.{stored, ReadsNodes, Reads, diagramAnswer};
 use definitions::Field;
 use fields::field_at;
@@ -57,7 +57,7 @@ fn node_fault(b: &[u8], steps: usize, step: &[u16; 512], count: usize) -> u8
 // A node's body goes into the table at its number.
 fn store_node(b: &[u8], own: usize, inner: &mut [[u16; 512]; 3])
     requires { ⌜ (length (now b) ≡ 6) × (own < 512) ⌝ }
-    ensures { λ _. ⌜ now (inner .exit) ≡ stored (now (inner .entry)) own (nodeOf (now (b .entry))) ⌝ }
+    ensures { λ _. ⌜ now (inner .exit) ≡ stored (now (inner .entry)) own (innerNodeOf (now (b .entry))) ⌝ }
 {
     inner[STEP][own] = read_u16(b, 0);
     inner[LO][own] = read_u16(b, 2);

@@ -7,7 +7,7 @@ use native.Mathlib.Omega.{arith}
 use native.Mathlib.Nat.{mul-le-mul-right}
 use Rattle.definitions.specs.Ways.{Graph}
 use Rattle.definitions.specs.Pairs.{Automaton, Estimate, pair, stageOf, nodeOf}
-use Rattle.definitions.specs.Limits.{Valid}
+use Rattle.theory.specs.Limits.{Valid}
 use Rattle.definitions.specs.Promises.{shown}
 use Rattle.theory.specs.Basics.{at-most, none-not-some}
 use Rattle.theory.specs.Ways.{way-climbs}

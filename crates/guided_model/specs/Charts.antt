@@ -14,12 +14,12 @@ use Rattle.definitions.specs.Diagrams.{Diagram, size}
 use Rattle.definitions.specs.Ways.{Graph, endOf, wayCost}
 use Rattle.definitions.specs.Pairs.{Automaton, Estimate, pair, toEnd, goal, leastCost}
 use Rattle.definitions.specs.Plans.{graph, automaton, Legal, cheapest, chartEstimate, estimate}
-use Rattle.definitions.specs.Limits.{Valid, Sound}
+use Rattle.theory.specs.Limits.{Small, Valid, Sound}
 use Rattle.definitions.specs.Answers.{workNeed}
 use Rattle.definitions.specs.Promises.{goalAt, Settled}
 use Rattle.theory.specs.Basics.{larger-parts, none-not-some}
 use Rattle.theory.specs.Ways.{way-climbs, leastWay-attained}
-use Rattle.theory.specs.Estimates.{Small, pair-consistent, estimate-dead, estimate-bounded}
+use Rattle.theory.specs.Estimates.{pair-consistent, estimate-dead, estimate-bounded}
 use Rattle.theory.specs.Pairs.{Lawful, lawful}
 use Rattle.theory.specs.Plans.{goal-legal, cheapest-some, cheapest-none}
 use Rattle.theory.specs.BestFirst.{Invariant}

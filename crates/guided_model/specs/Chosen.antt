@@ -9,7 +9,7 @@ use native.Mathlib.Omega.{arith}
 use lib.ListN.{length, getD}
 use Rattle.definitions.specs.Ways.{Graph}
 use Rattle.definitions.specs.Pairs.{Automaton, Estimate, pair, pairs, stageOf, nodeOf}
-use Rattle.definitions.specs.Limits.{Valid}
+use Rattle.theory.specs.Limits.{Valid}
 use Rattle.definitions.specs.Promises.{leastCostAt, sumAt, Follows, Settled}
 use Rattle.theory.specs.Basics.{Order, less, same, more, order, either, same-or-not, some-inj}
 use Rattle.theory.specs.Counting.{room}

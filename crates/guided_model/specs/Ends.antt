@@ -12,7 +12,7 @@ use lib.ListN.{length, getD}
 use borrow.Author.Tests.{eq-eqb, ne-eqb}
 use Rattle.definitions.specs.Ways.{Graph}
 use Rattle.definitions.specs.Pairs.{Automaton, Estimate, pair, stageOf, nodeOf, goal, leastCost}
-use Rattle.definitions.specs.Limits.{Valid}
+use Rattle.theory.specs.Limits.{Valid}
 use Rattle.definitions.specs.Promises.{leastCostAt, sumAt, goalAt, Complete}
 use Rattle.theory.specs.Basics.{some-inj, true-not-false, at-member}
 use Rattle.theory.specs.BestFirst.{Invariant, exhausted, first-goal, below-settled}

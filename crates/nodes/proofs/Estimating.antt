@@ -13,7 +13,7 @@ use borrow.Author.Count.{below-more}
 use Rattle.definitions.specs.Basics.{smaller, plus}
 use Rattle.definitions.specs.Charts.{Chart}
 use Rattle.definitions.specs.Diagrams.{Diagram, size, inner}
-use Rattle.definitions.specs.Limits.{Ordered, Sound}
+use Rattle.theory.specs.Limits.{Ordered, Sound}
 use Rattle.definitions.specs.Plans.{diagramEstimate}
 use Rattle.definitions.specs.Promises.{shown}
 use Rattle.theory.specs.Basics.{either, lt-or-le}

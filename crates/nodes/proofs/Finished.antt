@@ -9,7 +9,7 @@ use lib.Seq.{getD-set-same, getD-set-other}
 use native.Mathlib.Omega.{arith}
 use borrow.Author.Count.{below-more}
 use Rattle.definitions.specs.Diagrams.{Diagram, size, inner, finish}
-use Rattle.definitions.specs.Limits.{Ordered}
+use Rattle.theory.specs.Limits.{Ordered}
 use Rattle.theory.specs.Diagrams.{finish-leaf, finish-inner}
 use Rattle.diagram.specs.Tables.{Held}
 use Rattle.diagram.specs.Held.{held-lo}

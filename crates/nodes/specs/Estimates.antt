@@ -6,7 +6,7 @@ use mathlib.Core.List.{List}
 use lib.ListN.{length, getD}
 use Rattle.definitions.specs.Charts.{Chart}
 use Rattle.definitions.specs.Diagrams.{Diagram, size}
-use Rattle.definitions.specs.Limits.{Sound}
+use Rattle.theory.specs.Limits.{Sound}
 use Rattle.definitions.specs.Plans.{variableCost, diagramEstimate}
 use Rattle.definitions.specs.Promises.{shown}
 use Rattle.diagram.specs.Tables.{Held}

@@ -6,7 +6,7 @@ use native.Mathlib.Omega.{arith}
 use borrow.Author.Tests.{lt-ltb, le-ltb}
 use Rattle.definitions.specs.Basics.{pick}
 use Rattle.definitions.specs.Diagrams.{Diagram, inner, advance}
-use Rattle.definitions.specs.Limits.{Ordered}
+use Rattle.theory.specs.Limits.{Ordered}
 use Rattle.theory.specs.Basics.{either, lt-or-le, Order, less, same, more, order}
 use Rattle.theory.specs.Diagrams.{descend-leaf, descend-inner, induction, advance-leaf, advance-below, advance-at, advance-above}
 use Rattle.nodes.specs.Walks.{lowered}

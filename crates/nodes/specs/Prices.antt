@@ -6,9 +6,8 @@ use lib.ListN.{length, getD}
 use native.Mathlib.Omega.{arith}
 use Rattle.definitions.specs.Charts.{Chart}
 use Rattle.definitions.specs.Diagrams.{Diagram}
-use Rattle.definitions.specs.Limits.{Valid, Sound}
+use Rattle.theory.specs.Limits.{Small, Valid, Sound}
 use Rattle.definitions.specs.Plans.{graph}
-use Rattle.theory.specs.Estimates.{Small}
 use Rattle.diagram.specs.Tables.{Held}
 use Rattle.diagram.specs.Held.{held-step}
 use Rattle.nodes.specs.Estimates.{Priced, Costs}

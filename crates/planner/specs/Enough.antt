@@ -12,7 +12,7 @@ use borrow.Author.Tests.{le-leb, eq-eqb, ne-eqb}
 use Rattle.definitions.specs.Charts.{Chart, readChart}
 use Rattle.definitions.specs.Diagrams.{Diagram, size, readDiagram}
 use Rattle.definitions.specs.Plans.{graph}
-use Rattle.definitions.specs.Limits.{Valid, Sound}
+use Rattle.theory.specs.Limits.{Valid, Sound}
 use Rattle.definitions.specs.Answers.{load, ready, refused, workNeed, planNeed, spaceFits}
 use Rattle.theory.specs.Basics.{pick-true, pick-false, either, same-or-not}
 use Rattle.chart.specs.Accepted.{chart-accepted}

@@ -13,7 +13,7 @@ use Rattle.definitions.specs.Diagrams.{Diagram, size}
 use Rattle.definitions.specs.Ways.{Graph, wayCost}
 use Rattle.definitions.specs.Pairs.{Automaton, pair, leastCost}
 use Rattle.definitions.specs.Plans.{graph, automaton, Legal, cheapest}
-use Rattle.definitions.specs.Limits.{Valid, Sound}
+use Rattle.theory.specs.Limits.{Valid, Sound}
 use Rattle.definitions.specs.Answers.{refusal, accepted}
 use Rattle.definitions.specs.Promises.{shown, Outcome}
 use Rattle.definitions.specs.declared.Answer.{Answer}

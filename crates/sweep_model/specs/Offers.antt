@@ -13,7 +13,7 @@ use borrow.Author.Tests.{leb-true, leb-false, eqb-true, eqb-false, lt-ltb, le-lt
 use Rattle.definitions.specs.Basics.{pick}
 use Rattle.definitions.specs.Ways.{Graph}
 use Rattle.definitions.specs.Pairs.{Automaton, pair, pairs}
-use Rattle.definitions.specs.Limits.{Valid}
+use Rattle.theory.specs.Limits.{Valid}
 use Rattle.theory.specs.Ways.{step-cheap}
 use Rattle.theory.specs.Basics.{either, same-or-not, pick-true, pick-false}
 use Rattle.theory.specs.Pairs.{Lawful, WayTo, way-next, pair-apart, pair-inside}

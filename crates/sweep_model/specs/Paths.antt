@@ -8,7 +8,7 @@ use native.Mathlib.Omega.{arith}
 use lib.ListN.{length, getD}
 use Rattle.definitions.specs.Ways.{Graph, wayCost}
 use Rattle.definitions.specs.Pairs.{Automaton}
-use Rattle.definitions.specs.Limits.{Valid}
+use Rattle.theory.specs.Limits.{Valid}
 use Rattle.theory.specs.Basics.{either}
 use Rattle.theory.specs.Ways.{way-climbs}
 use Rattle.theory.specs.Pairs.{WayTo, way-start, way-next}

@@ -14,7 +14,7 @@ use borrow.Author.Tests.{eqb-true, eqb-false, lt-ltb, le-ltb}
 use Rattle.definitions.specs.Basics.{pick, isSome, upto}
 use Rattle.definitions.specs.Ways.{Graph, IsWay, endOf, wayCost}
 use Rattle.definitions.specs.Pairs.{Automaton, stands, pair, pairs, stageOf, nodeOf, leastCost, reached, reachedPairs}
-use Rattle.definitions.specs.Limits.{Valid}
+use Rattle.theory.specs.Limits.{Valid}
 use Rattle.definitions.specs.Promises.{shown, leastCosts}
 use Rattle.theory.specs.Basics.{either, same-or-not, pick-true, pick-false, length-map-run, getD-map-upto}
 use Rattle.theory.specs.Least.{least-unique}

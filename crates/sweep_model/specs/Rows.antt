@@ -9,7 +9,7 @@ use lib.ListN.{length, getD, drop}
 use Rattle.definitions.specs.Basics.{pick}
 use Rattle.definitions.specs.Ways.{Graph}
 use Rattle.definitions.specs.Pairs.{Automaton, pair, pairs}
-use Rattle.definitions.specs.Limits.{Valid}
+use Rattle.theory.specs.Limits.{Valid}
 use Rattle.theory.specs.Basics.{either}
 use Rattle.theory.specs.Ways.{way-bounded}
 use Rattle.theory.specs.Pairs.{WayTo}

@@ -9,7 +9,7 @@ use native.Mathlib.Omega.{arith}
 use borrow.Author.Tests.{lt-ltb, le-ltb, eq-eqb, ne-eqb}
 use Rattle.definitions.specs.Basics.{pick, has}
 use Rattle.definitions.specs.Diagrams.{Diagram, InnerNode, inner, descendIn, descend, advance, finish, verdict}
-use Rattle.definitions.specs.Limits.{Ordered}
+use Rattle.theory.specs.Limits.{Ordered}
 use Rattle.theory.specs.Basics.{either, lt-or-le, Order, less, same, more, order}
 
 -- ---- recursion down the diagram

@@ -16,7 +16,7 @@ use Rattle.definitions.specs.Diagrams.{Diagram, size, inner, advance, finish}
 use Rattle.definitions.specs.Ways.{Graph, IsWay, endOf, wayCost}
 use Rattle.definitions.specs.Pairs.{Automaton, stands, goal, toEnd, Estimate}
 use Rattle.definitions.specs.Plans.{graph, automaton, variable, variableCost, chartEstimate, leafEstimate, diagramEstimate, estimate}
-use Rattle.definitions.specs.Limits.{Valid, Ordered, Sound}
+use Rattle.theory.specs.Limits.{Small, Valid, Ordered, Sound}
 use Rattle.theory.specs.Basics.{Order, less, same, more, order, AtMost, none-not-some, some-inj, at-most-zero, weaken, smaller-left, smaller-right, smaller-cases, plus-at-most, plus-parts, larger-at-most, larger-left, larger-right, larger-parts, larger-none-right}
 use Rattle.theory.specs.Diagrams.{induction, descend-leaf, descend-inner, advance-leaf, advance-below, advance-at, advance-above, finish-leaf, finish-inner}
 use Rattle.theory.specs.Pairs.{goal-parts}
@@ -91,10 +91,6 @@ chart-bounded c v s m e = toEnd-bounded (graph c) v s m e
 -- what a step costs is at least what setting its variable costs
 pub variableCost-at-most : (c : Chart) (e : ℕ) → e < graph c .count → variableCost c (variable c e) ≤ graph c .cost e
 variableCost-at-most c e h = omega arith
-
--- each step costs at most 1,000,000
-abbrev pub Small : Chart → Type 0
-Small c = (e : ℕ) → e < graph c .count → graph c .cost e ≤ 1000000
 
 pub variableCost-cheap : (c : Chart) → Small c → (k : ℕ) → k < length (c .steps) → variableCost c k ≤ 1000000
 variableCost-cheap c v k h = v k h

@@ -1,3 +1,4 @@
+pub mod Limits
 pub mod Basics
 pub mod Diagrams
 pub mod Least

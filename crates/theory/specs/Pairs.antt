@@ -17,7 +17,7 @@ use Rattle.definitions.specs.Diagrams.{Diagram, finish}
 use Rattle.definitions.specs.Ways.{Graph, IsWay, endOf, wayCost, leastWay}
 use Rattle.definitions.specs.Pairs.{Automaton, stands, leastCost, reached, goal, pair, stageOf, nodeOf, pairs, reachedPairs, Estimate, sum}
 use Rattle.definitions.specs.Plans.{graph, automaton, variable}
-use Rattle.definitions.specs.Limits.{Valid, Sound}
+use Rattle.theory.specs.Limits.{Valid, Sound}
 use Rattle.theory.specs.Basics.{both, pick-true, pick-false, AtMost, none-not-some, sumOf-some, sumOf-parts, keep-in, run-in}
 use Rattle.theory.specs.Least.{IsLeast, least-of}
 use Rattle.theory.specs.Diagrams.{advance-leaf, advance-le, finish-leaf}

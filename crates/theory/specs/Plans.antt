@@ -13,7 +13,7 @@ use Rattle.definitions.specs.Diagrams.{Diagram, advance, finish}
 use Rattle.definitions.specs.Ways.{Graph, IsWay, isWay, endOf, wayCost}
 use Rattle.definitions.specs.Pairs.{Automaton, stands, leastCost, goal}
 use Rattle.definitions.specs.Plans.{graph, variable, automaton, saysYes, Legal, legalWay, legal, cheapest}
-use Rattle.definitions.specs.Limits.{Valid, Ordered}
+use Rattle.theory.specs.Limits.{Valid, Ordered}
 use Rattle.theory.specs.Basics.{both}
 use Rattle.theory.specs.Least.{IsLeast, least-same, least-unique}
 use Rattle.theory.specs.Diagrams.{Sorted, advanceAll, finish-leaf, verdict-stands}

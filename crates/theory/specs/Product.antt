@@ -8,7 +8,7 @@ use mathlib.Core.Option.{Option, some}
 use native.Mathlib.Omega.{arith}
 use Rattle.definitions.specs.Ways.{Graph, IsWay, endOf, wayCost}
 use Rattle.definitions.specs.Pairs.{Automaton, stands, leastCost, pair, stageOf, nodeOf, pairs, Estimate}
-use Rattle.definitions.specs.Limits.{Valid}
+use Rattle.theory.specs.Limits.{Valid}
 use Rattle.theory.specs.Basics.{at-most}
 use Rattle.theory.specs.Pairs.{Lawful, WayTo, way-start, way-next, way-inside, stageOf-pair, nodeOf-pair, pair-of, pair-inside, nodeOf-inside, cost-alive, cost-attained, cost-lower}
 use Rattle.theory.specs.Estimates.{ConsistentEstimate}

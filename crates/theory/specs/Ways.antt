@@ -13,7 +13,7 @@ use borrow.Author.Tests.{ltb-true, eqb-true, lt-ltb, eq-eqb}
 use Rattle.definitions.specs.Basics.{keep, upto}
 use Rattle.definitions.specs.Ways.{Graph, IsWay, isWay, endOf, wayCost, leaving, waysIn, ways, leastWay}
 use Rattle.definitions.specs.Pairs.{Automaton, stands}
-use Rattle.definitions.specs.Limits.{Valid}
+use Rattle.theory.specs.Limits.{Valid}
 use Rattle.theory.specs.Least.{IsLeast, least-of}
 use Rattle.theory.specs.Basics.{both, either, lt-or-le, AtMost, keep-in, in-keep, each-in, in-each, run-in, in-run, least-lower, least-in}
 

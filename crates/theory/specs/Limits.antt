@@ -2,8 +2,10 @@
 -- Assumes nothing.
 use Prim.Native.Nat.{ℕ, _-_, _*_, _≤_, _<_}
 use lib.ListN.{length}
+use Rattle.definitions.specs.Charts.{Chart}
 use Rattle.definitions.specs.Diagrams.{Diagram, size, inner}
 use Rattle.definitions.specs.Ways.{GraphOf, Graph}
+use Rattle.definitions.specs.Plans.{graph}
 
 -- of a chart, as the graph that the searches walk; a step's cost is in the relation Cheap to the stages that it leaves and enters
 pub record ValidOf {C : Type 0} (Cheap : ℕ → ℕ → C → Type 0) (g : GraphOf C) : Type 0 where
@@ -20,6 +22,10 @@ pub record ValidOf {C : Type 0} (Cheap : ℕ → ℕ → C → Type 0) (g : Grap
 -- of the graph that the searches walk: for each stage that a step climbs, it costs at most 2,000,000
 abbrev pub Valid : Graph → Type 0
 Valid = ValidOf (λ from to cost. cost ≤ 2000000 * (to - from))
+
+-- of a chart: each step costs at most 1,000,000
+abbrev pub Small : Chart → Type 0
+Small c = (e : ℕ) → e < graph c .count → graph c .cost e ≤ 1000000
 
 -- of a diagram's nodes: children have lower numbers and, if inner, larger steps. Past the nodes it holds of `noNode`
 pub record Ordered (d : Diagram) : Type 0 where
