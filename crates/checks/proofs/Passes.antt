@@ -23,7 +23,7 @@ use Rattle.diagram.specs.Files as files
 use Rattle.diagram.specs.Held.{held-tables}
 use Rattle.diagram.specs.Accepted.{diagram-accepted}
 use Rattle.diagram.specs.declared.reader.DiagramRead.{DiagramRead}
-use Rattle.checks.specs.Tables.{Read, read, Tables, LoadsAs, chartIn, diagramIn}
+use Rattle.checks.specs.Tables.{Read, read, Tables, Refuses, LoadsAs, chartIn, diagramIn}
 use Rattle.checks.specs.Outcome.{chart-refuses, rules-refuse, space-refuses, all-ready}
 use Rattle.checks.specs.declared.Shape.{Shape}
 use Rattle.checks.specs.declared.Loaded.{Loaded}
@@ -33,10 +33,10 @@ module _ (s t : List ℕ) (work plan : ℕ) (x : ChartRead) (ex : x ≡ chart.ch
   number-is = ap (λ (y : ChartRead). y .number) ex
 
   pub chart-refused : (w : Read) (r : Loaded) → (x .number ≡ 0 → ⊥)
-      → (r .number ≡ x .number) × (r .file ≡ 1) × (r .place ≡ x .place) → LoadsAs (load s t (work ∷ []) plan) w r
+      → Refuses (x .number) 1 (x .place) r → LoadsAs (load s t (work ∷ []) plan) w r
   chart-refused w r h e =
       let n : readChart s .number ≡ 0 → ⊥ = λ q. h (number-is ∙ q) in
-      rw (chart-refuses s t (work ∷ []) plan n) (e .0 ∙ number-is, e .1, e .2 ∙ ap (λ (y : ChartRead). y .place) ex, n)
+      rw (chart-refuses s t (work ∷ []) plan n) ((e .0 ∙ number-is, e .1, e .2 ∙ ap (λ (y : ChartRead). y .place) ex, e .3), n)
 
   module _ (cx : x .number ≡ 0) where
     chart-passed : readChart s .number ≡ 0
@@ -65,11 +65,11 @@ module _ (s t : List ℕ) (work plan : ℕ) (x : ChartRead) (ex : x ≡ chart.ch
       rules-number = ap (λ (z : DiagramRead). z .number) ey ∙ ap (λ (z : diagrams.DiagramRead). z .number) same-file
 
       pub rules-refused : (w : Read) (r : Loaded) → (y .number ≡ 0 → ⊥)
-          → (r .number ≡ y .number) × (r .file ≡ 2) × (r .place ≡ y .place) → LoadsAs (load s t (work ∷ []) plan) w r
+          → Refuses (y .number) 2 (y .place) r → LoadsAs (load s t (work ∷ []) plan) w r
       rules-refused w r h e =
           let n : d .number ≡ 0 → ⊥ = λ q. h (rules-number ∙ q) in
           let p : y .place ≡ d .place = ap (λ (z : DiagramRead). z .place) ey ∙ ap (λ (z : diagrams.DiagramRead). z .place) same-file in
-          rw (rules-refuse s t (work ∷ []) plan chart-passed n) (e .0 ∙ rules-number, e .1, e .2 ∙ p, n)
+          rw (rules-refuse s t (work ∷ []) plan chart-passed n) ((e .0 ∙ rules-number, e .1, e .2 ∙ p, e .3), n)
 
       module _ (cy : y .number ≡ 0) where
         rules-passed : d .number ≡ 0
@@ -94,21 +94,21 @@ module _ (s t : List ℕ) (work plan : ℕ) (x : ChartRead) (ex : x ≡ chart.ch
         need-is = ap₂ (λ (i j : ℕ). i * (j + 2)) (sym stages-is) (sym nodes-is)
 
         pub work-refused : (w : Read) (r : Loaded) → work < x .stages * (y .nodes + 2)
-            → (r .number ≡ 7) × (r .file ≡ 0) × (r .place ≡ 0) → LoadsAs (load s t (work ∷ []) plan) w r
+            → Refuses 7 0 0 r → LoadsAs (load s t (work ∷ []) plan) w r
         work-refused w r h e =
             rw (space-refuses s t (work ∷ []) plan chart-passed rules-passed (simp (lt-leb (workNeed (readChart s .chart) (d .diagram)) work (omega (arith, need-is)))))
-            (e .0, e .1, e .2, λ q. omega arith)
+            (e, λ q. omega arith)
 
         pub plan-refused : (w : Read) (r : Loaded) → x .stages * (y .nodes + 2) ≤ work → plan < x .stages - 1
-            → (r .number ≡ 7) × (r .file ≡ 0) × (r .place ≡ 0) → LoadsAs (load s t (work ∷ []) plan) w r
+            → Refuses 7 0 0 r → LoadsAs (load s t (work ∷ []) plan) w r
         plan-refused w r h k e =
             rw (space-refuses s t (work ∷ []) plan chart-passed rules-passed
             (simp (le-leb (workNeed (readChart s .chart) (d .diagram)) work (omega (arith, need-is)), lt-leb (readChart s .chart .stages - 1) plan (omega (arith, stages-is)))))
-            (e .0, e .1, e .2, λ q. omega arith)
+            (e, λ q. omega arith)
 
         module _ (steps inner steps₀ inner₀ : List (List ℕ)) (fc : chart.Filled (readChart s .chart .steps) steps₀ steps)
             (fd : files.Filled (readDiagram t (x .steps) .diagram .nodes) inner₀ inner) (z : Shape)
-            (zs : z .stages ≡ x .stages) (zb : z .start ≡ x .start) (ze : z .end ≡ x .end) (zc : z .steps ≡ x .steps) (zr : z .root ≡ y .root) (zn : z .nodes ≡ y .nodes) where
+            (zs : z .stages ≡ x .stages) (zb : z .start .0 ≡ x .start) (ze : z .end .0 ≡ x .end) (zc : z .steps ≡ x .steps) (zr : z .root .0 ≡ y .root) (zn : z .nodes ≡ y .nodes) where
           abbrev w : Read
           w = read steps inner
 
@@ -128,9 +128,9 @@ module _ (s t : List ℕ) (work plan : ℕ) (x : ChartRead) (ex : x ≡ chart.ch
           same-chart : chartIn z w ≡ C
           unfolding mk
           same-chart =
-              ap (λ (l : List ChartStep). mk (z .stages) (z .start) (z .end) l) same-steps
-              ∙ ap (λ (k : ℕ). mk k (z .start) (z .end) (C .steps)) (zs ∙ stages-is)
-              ∙ ap (λ (k : ℕ). mk (C .stages) k (z .end) (C .steps)) (zb ∙ ap (λ (y : ChartRead). y .start) ex)
+              ap (λ (l : List ChartStep). mk (z .stages) (z .start .0) (z .end .0) l) same-steps
+              ∙ ap (λ (k : ℕ). mk k (z .start .0) (z .end .0) (C .steps)) (zs ∙ stages-is)
+              ∙ ap (λ (k : ℕ). mk (C .stages) k (z .end .0) (C .steps)) (zb ∙ ap (λ (y : ChartRead). y .start) ex)
               ∙ ap (λ (k : ℕ). mk (C .stages) (C .start) k (C .steps)) (ze ∙ ap (λ (y : ChartRead). y .end) ex)
 
           same-nodes : files.nodesHeld (z .nodes) inner ≡ D .nodes
@@ -138,7 +138,7 @@ module _ (s t : List ℕ) (work plan : ℕ) (x : ChartRead) (ex : x ≡ chart.ch
               let l : length (readDiagram t (x .steps) .diagram .nodes) ≡ length (D .nodes) = ap (λ (w : diagrams.DiagramRead). length (w .diagram .nodes)) same-file in
               ap (λ (k : ℕ). files.nodesHeld k inner) (zn ∙ nodes-is ∙ sym l) ∙ fd .held ∙ ap (λ (w : diagrams.DiagramRead). w .diagram .nodes) same-file
 
-          root-is : z .root ≡ D .root
+          root-is : z .root .0 ≡ D .root
           root-is = zr ∙ ap (λ (w : DiagramRead). w .root) ey ∙ ap (λ (w : diagrams.DiagramRead). w .diagram .root) same-file
 
           same-diagram : diagramIn z w ≡ D
@@ -154,11 +154,11 @@ module _ (s t : List ℕ) (work plan : ℕ) (x : ChartRead) (ex : x ≡ chart.ch
                 valid = subst (λ (c : Chart). Valid (graph c)) (sym same-chart) (accepted .0);
                 small = subst (λ (c : Chart). Small c) (sym same-chart) (accepted .1);
                 sound = so;
-                held = held-tables (z .nodes) (w .inner .step) (w .inner .lo) (w .inner .hi) (z .root) (so .ordered) (omega (arith, few-nodes)) (fd .marked);
+                held = held-tables (z .nodes) (w .inner .step) (w .inner .lo) (w .inner .hi) (z .root .0) (so .ordered) (omega (arith, few-nodes)) (fd .marked);
               }
 
-          pub loaded : (r : Loaded) → r .shape ≡ z → r .number ≡ 0 → x .stages * (y .nodes + 2) ≤ work → x .stages - 1 ≤ plan
+          pub loaded : (r : Loaded) → r .shape ≡ z → r .number ≡ 0 → r .file ≡ 0 → r .place ≡ 0 → x .stages * (y .nodes + 2) ≤ work → x .stages - 1 ≤ plan
               → LoadsAs (load s t (work ∷ []) plan) w r
-          loaded r e n h k =
+          loaded r e n f p h k =
               let fits : spaceFits C D (work ∷ []) plan ≡ true = simp (le-leb (workNeed C D) work (omega (arith, need-is)), le-leb (C .stages - 1) plan (omega (arith, stages-is))) in
-              rw (all-ready s t (work ∷ []) plan chart-passed rules-passed fits, e) (n, same-chart, same-diagram, in-tables)
+              rw (all-ready s t (work ∷ []) plan chart-passed rules-passed fits, e) (n, same-chart, same-diagram, in-tables, f, p)

@@ -46,9 +46,18 @@ shorter need a b works = go (leb need a) refl (leb need b) refl
     go true p false q = simp (p, q, lt-leb need (min a b) (omega (arith, leb-false need b q)))
     go false p y q = simp (p, lt-leb need (min a b) (omega (arith, leb-false need a p)))
 
-pub load-shorter : (s t : List ℕ) (a b : ℕ) (works : List ℕ) (plan : ℕ) → load s t (a ∷ b ∷ works) plan ≡ load s t (min a b ∷ works) plan
+load-shorter : (s t : List ℕ) (a b : ℕ) (works : List ℕ) (plan : ℕ) → load s t (a ∷ b ∷ works) plan ≡ load s t (min a b ∷ works) plan
 unfolding load
 load-shorter s t a b works plan = rw (shorter _ a b works)
+
+-- the shortest of some work slices decides
+abbrev pub shortest : ℕ → List ℕ → ℕ
+shortest a [] = a
+shortest a (b ∷ works) = shortest (min a b) works
+
+pub load-shortest : (s t : List ℕ) (a : ℕ) (works : List ℕ) (plan : ℕ) → load s t (a ∷ works) plan ≡ load s t (shortest a works ∷ []) plan
+load-shortest s t a [] plan = refl
+load-shortest s t a (b ∷ works) plan = load-shorter s t a b works plan ∙ load-shortest s t (min a b) works plan
 
 pub refused-not-ready : (number file place : ℕ) (c : Chart) (d : Diagram) → refused number file place ≡ ready c d → ⊥
 refused-not-ready number file place c d e = let z : _≡_ {A = ℕ} 0 1 = cc in omega arith

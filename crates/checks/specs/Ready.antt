@@ -77,7 +77,7 @@ module _ (z : Shape) (w : Walk) (r : Ready z w) where
   g = graphIn z (w .read)
 
   firsts-at : Firsts g (w .first)
-  firsts-at = held-firsts (z .stages) (z .start) (z .end) (z .steps) (w .read .steps) (r .tables .valid) (w .first) (r .firsts)
+  firsts-at = held-firsts (z .stages) (z .start .0) (z .end .0) (z .steps) (w .read .steps) (r .tables .valid) (w .first) (r .firsts)
 
   abbrev same-count : g .count ≡ z .steps
   same-count = count-is z (w .read) (r .tables)

@@ -24,10 +24,10 @@ read steps inner = record { steps = chart.stepsIn steps; inner = files.nodesIn i
 
 -- the chart and the diagram of some sizes that stand in tables
 abbrev pub chartIn : Shape → Read → Chart
-chartIn z t = chart.heldChart (z .stages) (z .start) (z .end) (z .steps) (t .steps)
+chartIn z t = chart.heldChart (z .stages) (z .start .0) (z .end .0) (z .steps) (t .steps)
 
 abbrev pub diagramIn : Shape → Read → Diagram
-diagramIn z t = diagram.heldDiagram (z .root) (z .nodes) (t .inner .step) (t .inner .lo) (t .inner .hi)
+diagramIn z t = diagram.heldDiagram (z .root .0) (z .nodes) (t .inner .step) (t .inner .lo) (t .inner .hi)
 
 -- each table has as many entries as its type says. (Behind a reference to an array a proof does not know the length.)
 pub record Room (steps inner : List (List ℕ)) : Type 0 where
@@ -41,7 +41,16 @@ pub record Tables (z : Shape) (t : Read) : Type 0 where
   pub sound : Sound (z .steps) (diagramIn z t)
   pub held : diagram.Held (diagramIn z t) (t .inner .step) (t .inner .lo) (t .inner .hi)
 
+-- nothing was read
+abbrev pub Empty : Shape → Type 0
+Empty z = (z .stages ≡ 0) × (z .start .0 ≡ 0) × (z .end .0 ≡ 0) × (z .steps ≡ 0) × (z .root .0 ≡ 0) × (z .nodes ≡ 0)
+
+-- a check failed: the refusal's number, file and place, and no sizes
+abbrev pub Refuses : ℕ → ℕ → ℕ → Loaded → Type 0
+Refuses number file place r = (r .number ≡ number) × (r .file ≡ file) × (r .place ≡ place) × Empty (r .shape)
+
 -- what the answer says, by the outcome of the checks
 abbrev pub LoadsAs : Load → Read → Loaded → Type 0
-LoadsAs (refused number file place) t r = (r .number ≡ number) × (r .file ≡ file) × (r .place ≡ place) × (number ≡ 0 → ⊥)
-LoadsAs (ready c d) t r = (r .number ≡ 0) × (chartIn (r .shape) t ≡ c) × (diagramIn (r .shape) t ≡ d) × Tables (r .shape) t
+LoadsAs (refused number file place) t r = Refuses number file place r × (number ≡ 0 → ⊥)
+LoadsAs (ready c d) t r =
+    (r .number ≡ 0) × (chartIn (r .shape) t ≡ c) × (diagramIn (r .shape) t ≡ d) × Tables (r .shape) t × (r .file ≡ 0) × (r .place ≡ 0)

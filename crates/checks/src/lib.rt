@@ -1,19 +1,22 @@
 // What every search checks first, in this order: the chart, the diagram, the space. What passes stands in tables.
 ghost use mathlib.Core.Path.{_≡_};
 ghost use mathlib.Core.List.{[], _∷_};
-ghost use Rattle.definitions.specs.Answers.{load as outcome};
-ghost use Rattle.checks.specs.Tables.{Room, read, LoadsAs};
+ghost use Rattle.definitions.specs.Answers.{load as outcome, refusal as refusalOf, accepted as acceptedOf};
+ghost use Rattle.checks.specs.Tables.{Refuses, Room, read, LoadsAs};
 use chart::read_chart;
+use definitions::Answer;
+use definitions::Node;
+use definitions::Stage;
 use diagram::read_diagram;
 
 // The sizes of a chart and a diagram that stand in tables.
 pub struct Shape {
     pub stages: u16,
-    pub start: u16,
-    pub end: u16,
+    pub start: Stage,
+    pub end: Stage,
     // how many steps there are
     pub steps: usize,
-    pub root: u16,
+    pub root: Node,
     // how many inner nodes there are
     pub nodes: usize,
 }
@@ -26,9 +29,37 @@ pub struct Loaded {
     pub shape: Shape,
 }
 
-// The answer where a check fails.
+// An answer that refuses: it has cost 0 and length 0.
+pub fn refusal(number: u32, file: u32, place: usize, count: usize) -> Answer
+    ensures { λ r. ⌜ r ≡ refusalOf number file place count ⌝ }
+{
+    Answer {
+        number,
+        file,
+        place,
+        cost: 0,
+        length: 0,
+        count,
+    }
+}
+
+// An answer that accepts: it has number, file and place 0.
+pub fn accepted(cost: u32, length: usize, count: usize) -> Answer
+    ensures { λ r. ⌜ r ≡ acceptedOf cost length count ⌝ }
+{
+    Answer {
+        number: 0,
+        file: 0,
+        place: 0,
+        cost,
+        length,
+        count,
+    }
+}
+
+// A check fails: nothing is read.
 fn refused(number: u32, file: u32, place: usize) -> Loaded
-    ensures { λ r. ⌜ (r .number ≡ number) × (r .file ≡ file) × (r .place ≡ place) ⌝ }
+    ensures { λ r. ⌜ Refuses number file place r ⌝ }
 {
     Loaded {
         number,
@@ -36,10 +67,10 @@ fn refused(number: u32, file: u32, place: usize) -> Loaded
         place,
         shape: Shape {
             stages: 0,
-            start: 0,
-            end: 0,
+            start: Stage(0),
+            end: Stage(0),
             steps: 0,
-            root: 0,
+            root: Node(0),
             nodes: 0,
         },
     }
@@ -82,10 +113,10 @@ pub fn load(
         place: 0,
         shape: Shape {
             stages: c.stages,
-            start: c.start,
-            end: c.end,
+            start: Stage(c.start),
+            end: Stage(c.end),
             steps: c.steps,
-            root: d.root,
+            root: Node(d.root),
             nodes: d.nodes,
         },
     }

@@ -204,17 +204,17 @@ pub fn relax_rows<'a>(
 )
     requires { ⌜
         (let on = walk (read (now steps) (now inner)) (now first) (now row) in
-        Row z on (z .start) (rows (now costs) (now via) (now nodes) (now counts)))
+        Row z on (z .start .0) (rows (now costs) (now via) (now nodes) (now counts)))
         ⌝ }
     ensures { λ _. ⌜
         (let before = rows (now (costs .entry)) (now (via .entry)) (now (nodes .entry)) (now (counts .entry)) in
         let after = rows (now (costs .exit)) (now (via .exit)) (now (nodes .exit)) (now (counts .exit)) in
         let t = read (now (steps .entry)) (now (inner .entry)) in
-        after ≡ relaxRows (graphIn z t) (automatonIn z t) (at (now (first .entry))) (z .start) (z .stages - z .start) before)
+        after ≡ relaxRows (graphIn z t) (automatonIn z t) (at (now (first .entry))) (z .start .0) (z .stages - z .start .0) before)
         ⌝ }
 {
     let stages = z.stages;
-    let mut s = z.start;
+    let mut s = z.start.0;
     while s < stages {
         relax_row(
             costs,

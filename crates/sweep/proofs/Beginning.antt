@@ -59,49 +59,49 @@ module _ {z : Shape} {on : Walk} (y : Ready z on) where
       no-node = λ s h. bl .none s (omega (arith, few-stages z (on .read) (y .tables)));
     }
 
-    module _ {costs₁ : List ℕ} (e₁ : costs₁ ≡ replicate (pairsIn z) unreached ++ drop (pairsIn z) costs) {base : ℕ} (eb : base ≡ getD (on .row) (z .start) 0) where
-      base-is : base ≡ z .start * a .size
+    module _ {costs₁ : List ℕ} (e₁ : costs₁ ≡ replicate (pairsIn z) unreached ++ drop (pairsIn z) costs) {base : ℕ} (eb : base ≡ getD (on .row) (z .start .0) 0) where
+      base-is : base ≡ z .start .0 * a .size
       base-is =
-          eb ∙ row-start z on y (z .start) (y .tables .valid .start-inside)
-          ∙ ap (λ (k : ℕ). z .start * k) (sym (width-is z (on .read) (y .tables)))
+          eb ∙ row-start z on y (z .start .0) (y .tables .valid .start-inside)
+          ∙ ap (λ (k : ℕ). z .start .0 * k) (sym (width-is z (on .read) (y .tables)))
 
-      pub begin-fits : (z .start < 256) × (base + z .root < length costs₁) × (base < length nodes)
+      pub begin-fits : (z .start .0 < 256) × (base + z .root .0 < length costs₁) × (base < length nodes)
       begin-fits =
-          let p = pair-inside g a (z .start) (z .root) (y .tables .valid .start-inside) (y .tables .sound .root-inside) in
+          let p = pair-inside g a (z .start .0) (z .root .0) (y .tables .valid .start-inside) (y .tables .sound .root-inside) in
           let s = y .tables .valid .start-inside in (
             omega (arith, few-stages z (on .read) (y .tables)),
             omega (arith, base-is, pairs-is, ap length e₁, filled-long, sp .cost-fits),
             omega (arith, base-is, pairs-is, sp .nodes-fits),
           )
 
-      pub begun-is : {costs₂ nodes₂ counts₂ : List ℕ} → Begun base (z .start) (z .root) costs₁ nodes counts costs₂ nodes₂ counts₂
+      pub begun-is : {costs₂ nodes₂ counts₂ : List ℕ} → Begun base (z .start .0) (z .root .0) costs₁ nodes counts costs₂ nodes₂ counts₂
           → rows costs₂ via nodes₂ counts₂ ≡ begun g a (cleared z w counts)
       unfolding begun pick
-      begun-is {costs₂} {nodes₂} {counts₂} b = go (eqb (z .root) 0) (b .cost) (b .node) (b .count)
+      begun-is {costs₂} {nodes₂} {counts₂} b = go (eqb (z .root .0) 0) (b .cost) (b .node) (b .count)
         where
-          zero-place : base ≡ pair a (z .start) 0
+          zero-place : base ≡ pair a (z .start .0) 0
           zero-place = omega (arith, base-is)
 
-          go : (t : Bool) → costs₂ ≡ pick t costs₁ (set costs₁ (base + z .root) 0) → nodes₂ ≡ pick t nodes (set nodes base (z .root)) → counts₂ ≡ pick t counts (set counts (z .start) 1)
+          go : (t : Bool) → costs₂ ≡ pick t costs₁ (set costs₁ (base + z .root .0) 0) → nodes₂ ≡ pick t nodes (set nodes base (z .root .0)) → counts₂ ≡ pick t counts (set counts (z .start .0) 1)
               → rows costs₂ via nodes₂ counts₂ ≡ pick t (cleared z w counts)
-              (rows (set (replicate (pairsIn z) unreached ++ drop (pairsIn z) costs) (pair a (z .start) (z .root)) 0) via (set nodes (pair a (z .start) 0) (z .root)) (set counts (z .start) 1))
+              (rows (set (replicate (pairsIn z) unreached ++ drop (pairsIn z) costs) (pair a (z .start .0) (z .root .0)) 0) via (set nodes (pair a (z .start .0) 0) (z .root .0)) (set counts (z .start .0) 1))
           go true p q r =
               ap (λ (l : List ℕ). rows l via nodes₂ counts₂) (p ∙ e₁) ∙ ap₂ (λ (m l : List ℕ). rows (replicate (pairsIn z) unreached ++ drop (pairsIn z) costs) via m l) q r
           go false p q r =
-              ap (λ (l : List ℕ). rows l via nodes₂ counts₂) (p ∙ ap₂ (λ (l : List ℕ) (i : ℕ). set l (i + z .root) 0) e₁ base-is)
-              ∙ ap₂ (λ (m l : List ℕ). rows (set (replicate (pairsIn z) unreached ++ drop (pairsIn z) costs) (pair a (z .start) (z .root)) 0) via m l) (q ∙ ap (λ (i : ℕ). set nodes i (z .root)) zero-place) r
+              ap (λ (l : List ℕ). rows l via nodes₂ counts₂) (p ∙ ap₂ (λ (l : List ℕ) (i : ℕ). set l (i + z .root .0) 0) e₁ base-is)
+              ∙ ap₂ (λ (m l : List ℕ). rows (set (replicate (pairsIn z) unreached ++ drop (pairsIn z) costs) (pair a (z .start .0) (z .root .0)) 0) via m l) (q ∙ ap (λ (i : ℕ). set nodes i (z .root .0)) zero-place) r
 
-      pub begun-row : {costs₂ nodes₂ counts₂ : List ℕ} → Begun base (z .start) (z .root) costs₁ nodes counts costs₂ nodes₂ counts₂
-          → Row z on (z .start) (rows costs₂ via nodes₂ counts₂)
+      pub begun-row : {costs₂ nodes₂ counts₂ : List ℕ} → Begun base (z .start .0) (z .root .0) costs₁ nodes counts costs₂ nodes₂ counts₂
+          → Row z on (z .start .0) (rows costs₂ via nodes₂ counts₂)
       begun-row b = record {
         ready = y;
-        table = subst (Table g a (z .start)) (sym (begun-is b))
+        table = subst (Table g a (z .start .0)) (sym (begun-is b))
             (begun-table g a (y .tables .valid) (lawful-in z (on .read) (y .tables)) (cleared z w counts) cleared-fresh (at (on .first)) (first-steps z on y));
         stage = omega (arith, y .tables .valid .start-inside);
       }
 
-      pub swept-is : {costs₂ nodes₂ counts₂ : List ℕ} → Begun base (z .start) (z .root) costs₁ nodes counts costs₂ nodes₂ counts₂ → {r : Rows}
-          → r ≡ relaxRows g a (at (on .first)) (z .start) (z .stages - z .start) (rows costs₂ via nodes₂ counts₂)
+      pub swept-is : {costs₂ nodes₂ counts₂ : List ℕ} → Begun base (z .start .0) (z .root .0) costs₁ nodes counts costs₂ nodes₂ counts₂ → {r : Rows}
+          → r ≡ relaxRows g a (at (on .first)) (z .start .0) (z .stages - z .start .0) (rows costs₂ via nodes₂ counts₂)
           → r ≡ swept g a (at (on .first)) (cleared z w counts)
       unfolding swept
-      swept-is b e = e ∙ ap (relaxRows g a (at (on .first)) (z .start) (z .stages - z .start)) (begun-is b)
+      swept-is b e = e ∙ ap (relaxRows g a (at (on .first)) (z .start .0) (z .stages - z .start .0)) (begun-is b)

@@ -77,12 +77,12 @@ module _ {z : Shape} {t : Read} {row : List ℕ} {o : Rows} (f : Final z t row o
   pub end-falls : Falls (t .inner .lo) (z .nodes + 1)
   end-falls = lo-falls d (t .inner .step) (t .inner .lo) (t .inner .hi) (tb .held) (z .nodes + 1) (omega (arith, length-held (z .nodes) (t .inner .step) (t .inner .lo) (t .inner .hi)))
 
-  module _ {base listed : ℕ} (eb : base ≡ getD row (z .end) 0) (el : listed ≡ getD (o .counts) (z .end) 0) where
-    base-is : base ≡ z .end * a .size
-    base-is = eb ∙ row-start z on y (z .end) (tb .valid .end-inside) ∙ ap (λ (w : ℕ). z .end * w) (sym (width-is z t tb))
+  module _ {base listed : ℕ} (eb : base ≡ getD row (z .end .0) 0) (el : listed ≡ getD (o .counts) (z .end .0) 0) where
+    base-is : base ≡ z .end .0 * a .size
+    base-is = eb ∙ row-start z on y (z .end .0) (tb .valid .end-inside) ∙ ap (λ (w : ℕ). z .end .0 * w) (sym (width-is z t tb))
 
-    listed-is : listed ≡ countAt r (z .end)
-    listed-is = el ∙ ap (λ (l : List ℕ). getD l (z .end) 0) counts-is
+    listed-is : listed ≡ countAt r (z .end .0)
+    listed-is = el ∙ ap (λ (l : List ℕ). getD l (z .end .0) 0) counts-is
 
     pub end-listed : Listed base listed (o .cost) (o .nodes)
     end-listed = subst₂ (λ (x w : List ℕ). Listed base listed x w) (sym costs-is) (sym nodes-is) (goals-listed c d (tb .valid) (sound-in z t tb) (at (f .first)) F (f .before) (f .fresh) base listed base-is listed-is)
@@ -115,16 +115,16 @@ module _ {z : Shape} {t : Read} {row : List ℕ} {o : Rows} (f : Final z t row o
         steps : List ℕ
         steps = best-steps c d (tb .valid) (sound-in z t tb) (at (f .first)) F (f .before) (f .fresh) base listed base-is listed-is goals accepted-is best chosen h from froms
 
-        trail : Trail (o .via) from (z .nodes + 2) (z .start) (z .end) (best .node .0) steps
+        trail : Trail (o .via) from (z .nodes + 2) (z .start .0) (z .end .0) (best .node .0) steps
         unfolding steps
         trail =
-            subst₂ (λ (x : List ℕ) (w : ℕ). Trail x from w (z .start) (z .end) (best .node .0) steps) (sym via-is) (width-is z t tb)
+            subst₂ (λ (x : List ℕ) (w : ℕ). Trail x from w (z .start .0) (z .end .0) (best .node .0) steps) (sym via-is) (width-is z t tb)
             (best-trail c d (tb .valid) (sound-in z t tb) (at (f .first)) F (f .before) (f .fresh) base listed base-is listed-is goals accepted-is best chosen h from froms)
 
         fits : pairs g a ≤ length (o .via)
         fits = omega (arith, final-table g a (tb .valid) (lawful-in z t tb) (f .before) (f .fresh) (at (f .first)) F .via-fits, ap length via-is)
 
-        pub end-traceable : Traceable (o .via) from row (z .start) (z .end) (best .node .0)
+        pub end-traceable : Traceable (o .via) from row (z .start .0) (z .end .0) (best .node .0)
         end-traceable = record {
           stages = z .stages;
           width = z .nodes + 2;

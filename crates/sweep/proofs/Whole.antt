@@ -35,7 +35,7 @@ blank = record { long = length-replicate {A = ℕ} 256 0; none = λ s h. getD-re
 
 module _ {z : Shape} {t : Read} (in-tables : Tables z t) where
   pub run-sorted : SortedTable (z .steps) (t .steps .from) × (z .stages ≤ 256)
-  run-sorted = (held-sorted (z .stages) (z .start) (z .end) (z .steps) (t .steps) (in-tables .valid), few-stages z t in-tables)
+  run-sorted = (held-sorted (z .stages) (z .start .0) (z .end .0) (z .steps) (t .steps) (in-tables .valid), few-stages z t in-tables)
 
   pub run-narrow : (z .stages ≤ 256) × (z .nodes + 2 ≤ 512)
   run-narrow = (few-stages z t in-tables, omega (arith, few-nodes z t in-tables))

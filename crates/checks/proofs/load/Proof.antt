@@ -105,7 +105,7 @@ returns-5 c =
     let s : tie.Start = search in
     let fc = x .read-chart .ensures .1 (s .pre .of-steps) in
     let fd = y .read-diagram .ensures .filled (s .pre .of-nodes) in
-    loaded (s .args .chart .now) (s .args .rules .now) (s .args .work) (s .args .plan) _ (x .read-chart .ensures .0) (p .if1 .left) _ (y .read-diagram .ensures .answer (s .pre .of-nodes)) (q .if2 .left) _ _ _ _ fc fd _ refl refl refl refl refl refl _ refl refl (f .if3 .left) (c .if4 .left)
+    loaded (s .args .chart .now) (s .args .rules .now) (s .args .work) (s .args .plan) _ (x .read-chart .ensures .0) (p .if1 .left) _ (y .read-diagram .ensures .answer (s .pre .of-nodes)) (q .if2 .left) _ _ _ _ fc fd _ refl refl refl refl refl refl _ refl refl refl refl (f .if3 .left) (c .if4 .left)
 
 pub load-spec : {M : Type 1} → statement M
 load-spec =
