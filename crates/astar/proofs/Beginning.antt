@@ -13,7 +13,7 @@ use Rattle.queue.proofs.Facts.{queue-empty, contains-none}
 use Rattle.theory.specs.Limits.{Sound}
 use Rattle.theory.specs.Basics.{either, same-or-not}
 use Rattle.theory.specs.Pairs.{pair-inside}
-use Rattle.checks.specs.declared.Shape.{Shape}
+use Rattle.definitions.specs.declared.Shape.{Shape}
 use Rattle.checks.specs.Tables.{chartIn, diagramIn, Tables}
 use Rattle.checks.specs.Ready.{graphIn, automatonIn, width-is, sound-in, few-stages, few-nodes}
 use Rattle.guided_model.specs.Charts.{Running, NoneSettled, guide, running-start, running-empty}

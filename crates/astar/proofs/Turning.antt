@@ -18,7 +18,7 @@ use Rattle.definitions.specs.Promises.{goalAt}
 use Rattle.theory.specs.Basics.{either, same-or-not, both, true-not-false}
 use Rattle.theory.specs.Pairs.{Lawful}
 use Rattle.theory.specs.Product.{startPair}
-use Rattle.checks.specs.declared.Shape.{Shape}
+use Rattle.definitions.specs.declared.Shape.{Shape}
 use Rattle.checks.specs.Tables.{chartIn, diagramIn}
 use Rattle.checks.specs.Ready.{graphIn, automatonIn, count-is, width-is, lawful-in, few-stages, few-nodes, from-at, to-at, first-leave, first-all, first-order, row-start}
 use Rattle.guided_model.specs.State.{Guide, costSoFar}

@@ -2,8 +2,8 @@
 ghost use Rattle.astar.specs.Search.{Prepared, Begun, Searched};
 use crate::places::is_goal;
 use crate::places::place_of;
-use checks::Shape;
 use definitions::Node;
+use definitions::Shape;
 use definitions::Stage;
 use expand::pair_estimate;
 use expand::settle;

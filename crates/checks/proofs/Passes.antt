@@ -25,7 +25,7 @@ use Rattle.diagram.specs.Accepted.{diagram-accepted}
 use Rattle.diagram.specs.declared.reader.DiagramRead.{DiagramRead}
 use Rattle.checks.specs.Tables.{Read, read, Tables, Refuses, LoadsAs, chartIn, diagramIn}
 use Rattle.checks.specs.Outcome.{chart-refuses, rules-refuse, space-refuses, all-ready}
-use Rattle.checks.specs.declared.Shape.{Shape}
+use Rattle.definitions.specs.declared.Shape.{Shape}
 use Rattle.checks.specs.declared.Loaded.{Loaded}
 
 module _ (s t : List ℕ) (work plan : ℕ) (x : ChartRead) (ex : x ≡ chart.chartAnswer (readChart s)) where

@@ -17,7 +17,7 @@ use Rattle.chart.specs.HeldGraph.{held-firsts}
 use Rattle.diagram.specs.Held.{length-held}
 use Rattle.rows.specs.Rows.{rowStarts, row-at}
 use Rattle.checks.specs.Tables.{Read, Tables, chartIn, diagramIn}
-use Rattle.checks.specs.declared.Shape.{Shape}
+use Rattle.definitions.specs.declared.Shape.{Shape}
 
 -- all tables that a search walks: what the files are read into, the first step of each stage, the start of each stage's row
 pub record Walk : Type 0 where

@@ -11,7 +11,7 @@ use Rattle.definitions.specs.Answers.{Load, ready, refused}
 use Rattle.chart.specs.Tables as chart
 use Rattle.diagram.specs.Tables as diagram
 use Rattle.diagram.specs.Files as files
-use Rattle.checks.specs.declared.Shape.{Shape}
+use Rattle.definitions.specs.declared.Shape.{Shape}
 use Rattle.checks.specs.declared.Loaded.{Loaded}
 
 -- what the two files are read into: the table of steps and the table of inner nodes

@@ -6,20 +6,9 @@ ghost use Rattle.checks.specs.Tables.{Refuses, Room, read, LoadsAs};
 use chart::read_chart;
 use definitions::Answer;
 use definitions::Node;
+use definitions::Shape;
 use definitions::Stage;
 use diagram::read_diagram;
-
-// The sizes of a chart and a diagram that stand in tables.
-pub struct Shape {
-    pub stages: u16,
-    pub start: Stage,
-    pub end: Stage,
-    // how many steps there are
-    pub steps: usize,
-    pub root: Node,
-    // how many inner nodes there are
-    pub nodes: usize,
-}
 
 // A refusal's number, file and place, 0 where all checks pass; and what was read.
 pub struct Loaded {

@@ -9,6 +9,18 @@ pub struct Step(pub u16);
 // A node of the rule diagram: 0 is "no", 1 is "yes", the inner nodes are 2, 3, 4 .. in file order.
 pub struct Node(pub u16);
 
+// The sizes of a chart and a diagram that stand in tables.
+pub struct Shape {
+    pub stages: u16,
+    pub start: Stage,
+    pub end: Stage,
+    // how many steps there are
+    pub steps: usize,
+    pub root: Node,
+    // how many inner nodes there are
+    pub nodes: usize,
+}
+
 // The cost of a pair that is not reached, and the estimate where there is none: above every cost.
 pub const NONE: u32 = 4294967295;
 

@@ -19,7 +19,7 @@ use Rattle.diagram.specs.Tables.{Marked}
 use Rattle.nodes.specs.Walks.{Falls, Lowers, BranchesTo}
 use Rattle.nodes.specs.Falling.{lo-falls}
 use Rattle.nodes.specs.Advancing.{advancing-dead}
-use Rattle.checks.specs.declared.Shape.{Shape}
+use Rattle.definitions.specs.declared.Shape.{Shape}
 use Rattle.checks.specs.Tables.{chartIn, diagramIn}
 use Rattle.checks.specs.Ready.{graphIn, automatonIn, count-is, width-is, sound-in, lawful-in, few-stages, few-nodes, few-steps, to-at, cost-at}
 use Rattle.guided_model.specs.State.{unopened, Guide}

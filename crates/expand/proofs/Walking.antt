@@ -9,7 +9,7 @@ use Rattle.queue.specs.declared.Counts.{Counts}
 use Rattle.diagram.specs.Tables.{Marked}
 use Rattle.nodes.specs.Walks.{Falls, Lowers}
 use Rattle.nodes.specs.Advancing.{lowers-zero, lowers-on}
-use Rattle.checks.specs.declared.Shape.{Shape}
+use Rattle.definitions.specs.declared.Shape.{Shape}
 use Rattle.expand.specs.Opening.{Opening, Opened, opening-on, opened-more}
 use Rattle.expand.proofs.Stepping.{marked, falls-from, opened-none, opened-dead}
 

@@ -7,7 +7,7 @@ use native.Mathlib.Omega.{arith}
 use lib.ListN.{length}
 use Rattle.queue.specs.declared.Counts.{Counts}
 use Rattle.queue.specs.Queue.{Contains, Queue}
-use Rattle.checks.specs.declared.Shape.{Shape}
+use Rattle.definitions.specs.declared.Shape.{Shape}
 use Rattle.checks.specs.Ready.{graphIn, automatonIn}
 use Rattle.guided_model.specs.Moves.{Frontier, frontier-moved, Expanded, expanded-more}
 use Rattle.guided_model.specs.Settling.{Settling}

@@ -6,7 +6,7 @@ use mathlib.Core.List.{List}
 use Rattle.definitions.specs.Pairs.{Estimate}
 use Rattle.definitions.specs.Plans.{estimate}
 use Rattle.rows.specs.Rows.{rowStarts}
-use Rattle.checks.specs.declared.Shape.{Shape}
+use Rattle.definitions.specs.declared.Shape.{Shape}
 use Rattle.checks.specs.Tables.{chartIn, diagramIn, Tables}
 use Rattle.expand.specs.Estimates.{Estimates}
 

@@ -17,7 +17,7 @@ use Rattle.definitions.specs.Answers.{refusal, accepted}
 use Rattle.definitions.specs.Promises.{Outcome, Logged}
 use Rattle.definitions.specs.declared.Answer.{Answer}
 use Rattle.trace.specs.Trails.{Trail, begin, more, Traceable, LongAs, Written}
-use Rattle.checks.specs.declared.Shape.{Shape}
+use Rattle.definitions.specs.declared.Shape.{Shape}
 use Rattle.checks.specs.Tables.{chartIn, diagramIn}
 use Rattle.checks.specs.Ready.{graphIn, automatonIn, width-is, few-stages, few-nodes, row-start}
 use Rattle.guided_model.specs.Charts.{GoalSettled, guide}

@@ -18,7 +18,7 @@ use Rattle.nodes.specs.Falling.{lo-falls, hi-falls}
 use Rattle.nodes.specs.Estimates.{Priced, Costs, Estimated}
 use Rattle.nodes.specs.Prices.{priced}
 use Rattle.rows.specs.Rows.{rowStarts}
-use Rattle.checks.specs.declared.Shape.{Shape}
+use Rattle.definitions.specs.declared.Shape.{Shape}
 use Rattle.checks.specs.Tables.{chartIn, diagramIn, Tables}
 use Rattle.checks.specs.Ready.{graphIn, automatonIn, count-is, width-is, lawful-in, few-stages, few-nodes, cost-at}
 use Rattle.guided_model.specs.State.{unopened}

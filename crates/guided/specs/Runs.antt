@@ -9,7 +9,7 @@ use Rattle.definitions.specs.Answers.{accepted}
 use Rattle.definitions.specs.Promises.{Outcome, Logged}
 use Rattle.definitions.specs.declared.Answer.{Answer}
 use Rattle.trace.specs.Trails.{Trail}
-use Rattle.checks.specs.declared.Shape.{Shape}
+use Rattle.definitions.specs.declared.Shape.{Shape}
 use Rattle.checks.specs.Tables.{chartIn, diagramIn}
 use Rattle.checks.specs.Ready.{graphIn, automatonIn}
 use Rattle.expand.specs.Tables.{estimateIn, pairsIn}

@@ -12,7 +12,7 @@ use Rattle.sweep_model.specs.Model.{unreached, Rows, costAt, nodeAt, countAt, r
 use Rattle.sweep_model.specs.Rows.{Table, table-more, count-fits}
 use Rattle.sweep_model.specs.Sweeps.{steps-made, nodes-made}
 use Rattle.checks.specs.Ready.{Walk, Ready, graphIn, automatonIn, width-is, lawful-in, few-stages, few-nodes, row-start}
-use Rattle.checks.specs.declared.Shape.{Shape}
+use Rattle.definitions.specs.declared.Shape.{Shape}
 use Rattle.relax.specs.Standing.{Standing, Stands, Row, at}
 use Rattle.relax.specs.Leaving.{first-steps}
 

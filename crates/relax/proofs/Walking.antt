@@ -26,7 +26,7 @@ use Rattle.sweep_model.specs.Sweeps.{step-made}
 use Rattle.checks.specs.Ready.{Walk, walk, graphIn, automatonIn, count-is, width-is, lawful-in, few-stages, few-nodes, few-steps, to-at, cost-at, first-leave, row-start}
 use Rattle.chart.specs.Tables.{Steps}
 use Rattle.checks.specs.Tables.{Read, Tables, diagramIn}
-use Rattle.checks.specs.declared.Shape.{Shape}
+use Rattle.definitions.specs.declared.Shape.{Shape}
 use Rattle.relax.specs.Standing.{Open, Offering, stepped, Standing, Stands}
 
 -- what `relax_step` asks is what `offer` asks

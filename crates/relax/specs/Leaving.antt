@@ -5,7 +5,7 @@ use mathlib.Core.Path.{_≡_, ap}
 use native.Mathlib.Omega.{arith}
 use Rattle.sweep_model.specs.Sweeps.{FirstSteps}
 use Rattle.checks.specs.Ready.{Walk, Ready, graphIn, count-is, first-leave, first-all}
-use Rattle.checks.specs.declared.Shape.{Shape}
+use Rattle.definitions.specs.declared.Shape.{Shape}
 use Rattle.relax.specs.Standing.{at}
 
 pub first-steps : (z : Shape) (on : Walk) → Ready z on → FirstSteps (graphIn z (on .read)) (at (on .first))

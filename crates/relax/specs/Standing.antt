@@ -12,7 +12,7 @@ use Rattle.sweep_model.specs.Rows.{Table}
 use Rattle.chart.specs.Tables.{Steps}
 use Rattle.checks.specs.Tables.{Read}
 use Rattle.checks.specs.Ready.{Walk, walk, Ready, graphIn, automatonIn}
-use Rattle.checks.specs.declared.Shape.{Shape}
+use Rattle.definitions.specs.declared.Shape.{Shape}
 
 -- the pair of stage s, whose row starts at `base`, and node t can take an offer: it stands in the slices, and if it is new its row's list has room
 pub record Open (base s t : ℕ) (r : Rows) : Type 0 where

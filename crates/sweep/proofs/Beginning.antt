@@ -15,7 +15,7 @@ use Rattle.sweep_model.specs.Model.{unreached, Rows, rows, begun, swept, relaxR
 use Rattle.sweep_model.specs.Rows.{Table}
 use Rattle.sweep_model.specs.Result.{Fresh, begun-table}
 use Rattle.checks.specs.Ready.{Walk, Ready, graphIn, automatonIn, width-is, lawful-in, few-stages, row-start}
-use Rattle.checks.specs.declared.Shape.{Shape}
+use Rattle.definitions.specs.declared.Shape.{Shape}
 use Rattle.relax.specs.Standing.{Row, at}
 use Rattle.relax.specs.Leaving.{first-steps}
 use Rattle.sweep.specs.Begin.{Begun}

@@ -23,7 +23,7 @@ use Rattle.sweep_model.specs.Sweeps.{FirstSteps}
 use Rattle.sweep_model.specs.Result.{final-table, final-count}
 use Rattle.checks.specs.Tables.{Read, Tables, chartIn, diagramIn}
 use Rattle.checks.specs.Ready.{Walk, walk, Ready, graphIn, automatonIn, count-is, width-is, sound-in, few-stages, few-nodes, from-at, row-start, lawful-in}
-use Rattle.checks.specs.declared.Shape.{Shape}
+use Rattle.definitions.specs.declared.Shape.{Shape}
 use Rattle.sweep.specs.Goals.{Listed, Chosen}
 use Rattle.sweep.specs.Conclusion.{goals-listed, best-inside, best-steps, best-trail, best-short, best-planned, none-planned}
 use Rattle.sweep.specs.Runs.{Final, Concludes}

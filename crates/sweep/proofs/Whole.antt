@@ -23,7 +23,7 @@ use Rattle.sweep_model.specs.Result.{Fresh, final-past, final-costs}
 use Rattle.checks.specs.Outcome.{load-shorter, ready-space}
 use Rattle.checks.specs.Tables.{Read, Tables, LoadsAs, chartIn, diagramIn}
 use Rattle.checks.specs.Ready.{walk, Ready, graphIn, automatonIn, lawful-in, few-stages, few-nodes}
-use Rattle.checks.specs.declared.Shape.{Shape}
+use Rattle.definitions.specs.declared.Shape.{Shape}
 use Rattle.checks.specs.declared.Loaded.{Loaded}
 use Rattle.relax.specs.Standing.{at}
 use Rattle.relax.specs.Leaving.{first-steps}

@@ -12,7 +12,7 @@ use Rattle.sweep_model.specs.Model.{unreached, Rows, rows, swept}
 use Rattle.sweep_model.specs.Result.{Fresh}
 use Rattle.checks.specs.Tables.{Read, chartIn, diagramIn}
 use Rattle.checks.specs.Ready.{walk, Ready, graphIn, automatonIn}
-use Rattle.checks.specs.declared.Shape.{Shape}
+use Rattle.definitions.specs.declared.Shape.{Shape}
 use Rattle.relax.specs.Standing.{at}
 
 -- how many pairs there are

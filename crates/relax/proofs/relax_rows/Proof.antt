@@ -5,7 +5,7 @@ use native.Mathlib.Omega.{arith}
 use lib.ListN.{length}
 use Rattle.checks.specs.Tables.{read}
 use Rattle.checks.specs.Ready.{walk}
-use Rattle.checks.specs.declared.Shape.{Shape}
+use Rattle.definitions.specs.declared.Shape.{Shape}
 use Rattle.sweep_model.specs.Model.{rows}
 use Rattle.relax.specs.Standing.{Row}
 use Rattle.relax.proofs.Rowing.{Sweeping, sweep-begins, sweep-more, sweep-done}
