@@ -21,12 +21,12 @@ use Rattle.definitions.specs.declared.Shape.{Shape}
 use Rattle.checks.specs.Tables.{chartIn, diagramIn}
 use Rattle.checks.specs.Ready.{graphIn, automatonIn, width-is, few-stages, few-nodes, row-start}
 use Rattle.guided_model.specs.Charts.{GoalSettled, guide}
-use Rattle.expand.specs.Tables.{estimateIn, pairsIn}
-use Rattle.astar.specs.declared.turns.Ended.{Ended}
+use Rattle.guided_expand.specs.Tables.{estimateIn, pairsIn}
+use Rattle.guided_loop.specs.declared.turns.Ended.{Ended}
 use Rattle.guided.specs.Clears.{Cleared}
-use Rattle.astar.specs.Search.{Prepared, Begun, Past, Searched}
+use Rattle.guided_loop.specs.Search.{Prepared, Begun, Past, Searched}
 use Rattle.guided.specs.Runs.{Space, Fits, Traces, Promised}
-use Rattle.astar.proofs.Beginning.{past-more, sound}
+use Rattle.guided_loop.proofs.Beginning.{past-more, sound}
 
 -- ---- the plan
 

@@ -14,7 +14,7 @@ use Rattle.checks.specs.declared.Loaded.{Loaded}
 use Rattle.checks.specs.Tables.{chartIn, diagramIn, Tables, LoadsAs}
 use Rattle.checks.specs.Ready.{width-is}
 use Rattle.checks.specs.Outcome.{load-shorter, ready-space}
-use Rattle.expand.specs.Tables.{pairsIn}
+use Rattle.guided_expand.specs.Tables.{pairsIn}
 use Rattle.guided.specs.Runs.{Promised}
 
 -- ---- six work slices are judged by the shortest

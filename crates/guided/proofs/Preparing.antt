@@ -24,11 +24,11 @@ use Rattle.checks.specs.Ready.{graphIn, automatonIn, count-is, width-is, lawful
 use Rattle.guided_model.specs.State.{unopened}
 use Rattle.guided_model.specs.Bounds.{estimate-none, estimate-some}
 use Rattle.guided_model.specs.Charts.{NoneSettled, guide, none-begun}
-use Rattle.expand.specs.Estimates.{Estimates, PairEstimate}
-use Rattle.expand.specs.Tables.{estimateIn}
-use Rattle.astar.specs.Search.{Prepared}
+use Rattle.guided_expand.specs.Estimates.{Estimates, PairEstimate}
+use Rattle.guided_expand.specs.Tables.{estimateIn}
+use Rattle.guided_loop.specs.Search.{Prepared}
 use Rattle.guided.specs.Runs.{Promised}
-use Rattle.astar.proofs.Beginning.{sound}
+use Rattle.guided_loop.proofs.Beginning.{sound}
 use Rattle.guided.proofs.Finding.{outcome-none}
 
 module _ {z : Shape} {from to cost step lo hi : List ℕ} (t : Tables z from to cost step lo hi) where

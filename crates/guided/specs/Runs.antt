@@ -12,8 +12,8 @@ use Rattle.trace.specs.Trails.{Trail}
 use Rattle.definitions.specs.declared.Shape.{Shape}
 use Rattle.checks.specs.Tables.{chartIn, diagramIn}
 use Rattle.checks.specs.Ready.{graphIn, automatonIn}
-use Rattle.expand.specs.Tables.{estimateIn, pairsIn}
-use Rattle.astar.specs.Search.{Past}
+use Rattle.guided_expand.specs.Tables.{estimateIn, pairsIn}
+use Rattle.guided_loop.specs.Search.{Past}
 
 -- each work slice has an entry for each pair
 pub record Space (z : Shape) (keys via heap pos stack log : List ℕ) : Type 0 where

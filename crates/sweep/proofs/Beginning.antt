@@ -16,8 +16,8 @@ use Rattle.sweep_model.specs.Rows.{Table}
 use Rattle.sweep_model.specs.Result.{Fresh, begun-table}
 use Rattle.checks.specs.Ready.{Walk, Ready, graphIn, automatonIn, width-is, lawful-in, few-stages, row-start}
 use Rattle.definitions.specs.declared.Shape.{Shape}
-use Rattle.relax.specs.Standing.{Row, at}
-use Rattle.relax.specs.Leaving.{first-steps}
+use Rattle.sweep_rows.specs.Standing.{Row, at}
+use Rattle.sweep_rows.specs.Leaving.{first-steps}
 use Rattle.sweep.specs.Begin.{Begun}
 use Rattle.sweep.specs.Runs.{pairsIn, Work, Space, Blank, cleared}
 

@@ -28,8 +28,8 @@ use Rattle.sweep.specs.Goals.{Listed, Chosen}
 use Rattle.sweep.specs.Conclusion.{goals-listed, best-inside, best-steps, best-trail, best-short, best-planned, none-planned}
 use Rattle.sweep.specs.Runs.{Final, Concludes}
 use Rattle.sweep.specs.declared.goals.Best.{Best}
-use Rattle.relax.specs.Standing.{at}
-use Rattle.relax.specs.Leaving.{first-steps}
+use Rattle.sweep_rows.specs.Standing.{at}
+use Rattle.sweep_rows.specs.Leaving.{first-steps}
 
 module _ {z : Shape} {t : Read} {row : List ℕ} {o : Rows} (f : Final z t row o) where
   abbrev on : Walk

@@ -25,8 +25,8 @@ use Rattle.checks.specs.Tables.{Read, Tables, LoadsAs, chartIn, diagramIn}
 use Rattle.checks.specs.Ready.{walk, Ready, graphIn, automatonIn, lawful-in, few-stages, few-nodes}
 use Rattle.definitions.specs.declared.Shape.{Shape}
 use Rattle.checks.specs.declared.Loaded.{Loaded}
-use Rattle.relax.specs.Standing.{at}
-use Rattle.relax.specs.Leaving.{first-steps}
+use Rattle.sweep_rows.specs.Standing.{at}
+use Rattle.sweep_rows.specs.Leaving.{first-steps}
 use Rattle.sweep.specs.Runs.{pairsIn, Work, work, Space, Blank, cleared, Final, Concludes, Runs}
 use Rattle.sweep.proofs.Beginning.{pairs-is, cleared-fresh}
 

@@ -13,7 +13,7 @@ use Rattle.sweep_model.specs.Result.{Fresh}
 use Rattle.checks.specs.Tables.{Read, chartIn, diagramIn}
 use Rattle.checks.specs.Ready.{walk, Ready, graphIn, automatonIn}
 use Rattle.definitions.specs.declared.Shape.{Shape}
-use Rattle.relax.specs.Standing.{at}
+use Rattle.sweep_rows.specs.Standing.{at}
 
 -- how many pairs there are
 abbrev pub pairsIn : Shape → ℕ

@@ -8,7 +8,7 @@ ghost use Rattle.definitions.specs.Promises.{Swept, Scratch};
 ghost use Rattle.sweep_model.specs.Model.{rows, swept};
 ghost use Rattle.checks.specs.Tables.{read, Tables};
 ghost use Rattle.checks.specs.Ready.{walk, Ready, graphIn, automatonIn};
-ghost use Rattle.relax.specs.Standing.{at};
+ghost use Rattle.sweep_rows.specs.Standing.{at};
 ghost use Rattle.sweep.specs.Runs.{work, Space, Blank, cleared, Final, Concludes, Runs};
 use crate::begin::begin;
 use crate::begin::clear;
@@ -26,8 +26,8 @@ use definitions::Shape;
 use definitions::Stage;
 use diagram::LO;
 use nodes::finishing;
-use relax::relax_rows;
 use rows::row_starts;
+use sweep_rows::relax_rows;
 use trace::trail_length;
 use trace::write_trail;
 

@@ -8,7 +8,7 @@ use Rattle.guided.proofs.run.find.Reads as reads
 use Rattle.guided.proofs.run.find.Lts as lts
 use Rattle.guided.proofs.clear.clear_keys.Reads as clear-keys-reads
 use Rattle.guided.proofs.run.trace_plan.Reads as trace-plan-reads
-use Rattle.astar.proofs.search.Reads as search-reads
+use Rattle.guided_loop.proofs.search.Reads as search-reads
 use Rattle.trace.proofs.pair_at.Reads as pair-at-reads
 
 add-width : tie.Need-add-width

@@ -8,7 +8,7 @@ use Rattle.guided.proofs.run.run.Reads as reads
 use Rattle.guided.proofs.run.run.Lts as lts
 use Rattle.chart.proofs.chart_estimates.Reads as chart-estimates-reads
 use Rattle.chart.proofs.first_steps.Reads as first-steps-reads
-use Rattle.expand.proofs.pair_estimate.Reads as pair-estimate-reads
+use Rattle.guided_expand.proofs.pair_estimate.Reads as pair-estimate-reads
 use Rattle.guided.proofs.run.find.Reads as find-reads
 use Rattle.nodes.proofs.diagram_estimates.Reads as diagram-estimates-reads
 use Rattle.nodes.proofs.finishing.Reads as finishing-reads

@@ -4,7 +4,7 @@ use mathlib.Core.Path.{_≡_, _∙_, ap}
 use native.Mathlib.Omega.{arith}
 use borrow.Author.Needs.{needs}
 use Rattle.sweep_model.specs.Totals.{total}
-use Rattle.relax.specs.Standing.{at}
+use Rattle.sweep_rows.specs.Standing.{at}
 use Rattle.sweep.proofs.Leaves.{total-none, total-more}
 use Rattle.sweep.proofs.goals.total_count.Statement.{statement}
 use Rattle.sweep.proofs.goals.total_count.Tie as tie

@@ -1,0 +1,234 @@
+-- A node's steps in turn: what the loop of `relax_node` keeps, with the node carried down to lo from step to step.
+-- Assumes nothing.
+use Prim.Native.Nat.{ℕ, zero, suc, _+_, _-_, _*_, _≤_, _<_}
+use mathlib.Core.Path.{_≡_, refl, sym, _∙_, ap, ap₂, subst}
+use mathlib.Core.List.{List}
+use native.Mathlib.Omega.{arith}
+use lib.Dec.{eqb}
+use lib.ListN.{getD}
+use borrow.Author.Tests.{eq-eqb, ne-eqb}
+use Rattle.theory.specs.Ways.{step-cheap}
+use Rattle.definitions.specs.Basics.{pick}
+use Rattle.definitions.specs.Diagrams.{Diagram, size, advance}
+use Rattle.definitions.specs.Ways.{Graph}
+use Rattle.definitions.specs.Pairs.{Automaton}
+use Rattle.theory.specs.Basics.{pick-true, pick-false, either}
+use Rattle.theory.specs.Diagrams.{advance-leaf}
+use Rattle.trace.specs.Trails.{packed}
+use Rattle.diagram.specs.Tables.{Marked}
+use Rattle.nodes.specs.Falling.{lo-falls}
+use Rattle.nodes.specs.Walks.{lowered, Falls, Lowers, BranchesTo}
+use Rattle.nodes.specs.Lowered.{advance-lowered}
+use Rattle.sweep_model.specs.Model.{unreached, Rows, costAt, countAt, offer, relaxStep, relaxSteps}
+use Rattle.sweep_model.specs.Rows.{Entry, entry-low}
+use Rattle.sweep_model.specs.Offers.{pair-fits, roomy, place-fits}
+use Rattle.sweep_model.specs.Sweeps.{step-made}
+use Rattle.checks.specs.Ready.{Walk, walk, graphIn, automatonIn, count-is, width-is, lawful-in, few-stages, few-nodes, few-steps, to-at, cost-at, first-leave, row-start}
+use Rattle.chart.specs.Tables.{Steps}
+use Rattle.checks.specs.Tables.{Read, Tables, diagramIn}
+use Rattle.definitions.specs.declared.Shape.{Shape}
+use Rattle.sweep_rows.specs.Standing.{Open, Offering, stepped, Standing, Stands}
+
+-- what `relax_step` asks is what `offer` asks
+pub offers : {c : Steps} {row : List ℕ} {e n v t : ℕ} {r : Rows} → Offering c row e n v t r → (t ≡ 0 → ⊥)
+    → (base : ℕ) → base ≡ getD row (getD (c .to) e 0) 0 → Open base (getD (c .to) e 0) t r
+offers {c} {row} {e} {n} {v} {t} {r} o h base q = subst (λ (b : ℕ). Open b (getD (c .to) e 0) t r) (sym q) (o .takes h)
+
+-- the ways out of `relax_step`
+module _ (c : Steps) (row : List ℕ) (e n v t : ℕ) (r : Rows) where
+  pub stepped-none : t ≡ 0 → r ≡ stepped c row e n v t r
+  unfolding stepped
+  stepped-none h = sym (pick-true _ _ _ (eq-eqb t 0 h))
+
+  pub stepped-offer : (base : ℕ) (r′ : Rows) → (t ≡ 0 → ⊥) → base ≡ getD row (getD (c .to) e 0) 0
+      → r′ ≡ offer base (getD (c .to) e 0) t (v + getD (c .cost) e 0) (e * 512 + n) r → r′ ≡ stepped c row e n v t r
+  unfolding stepped
+  stepped-offer base r′ h b q =
+      q ∙ ap (λ (i : ℕ). offer i (getD (c .to) e 0) t (v + getD (c .cost) e 0) (e * 512 + n) r) b ∙ sym (pick-false _ _ _ (ne-eqb t 0 h))
+
+-- The loop of `relax_node` before step e, with the node carried down to m: what is left to do comes to the same as the whole
+pub record Walking (z : Shape) (on : Walk) (s n v start until : ℕ) (r₀ r : Rows) (e m : ℕ) : Type 0 where
+  pub begins : start ≡ getD (on .first) s 0
+  pub ends : until ≡ getD (on .first) (s + 1) 0
+  pub standing : Standing z on s n v r
+  pub same : relaxSteps (graphIn z (on .read)) (automatonIn z (on .read)) n v start (until - start) r₀
+      ≡ relaxSteps (graphIn z (on .read)) (automatonIn z (on .read)) n v e (until - e) r
+  pub later : start ≤ e
+  pub carried : (f : ℕ) → e ≤ f → advance (diagramIn z (on .read)) f m ≡ advance (diagramIn z (on .read)) f n
+  pub down : m ≤ n
+
+module _ {z : Shape} {on : Walk} {s n v start until : ℕ} {r₀ r : Rows} {e m : ℕ} (w : Walking z on s n v start until r₀ r e m) where
+  abbrev g : Graph
+  g = graphIn z (on .read)
+
+  abbrev a : Automaton
+  a = automatonIn z (on .read)
+
+  abbrev d : Diagram
+  d = diagramIn z (on .read)
+
+  abbrev to : List ℕ
+  to = on .read .steps .to
+
+  abbrev cost : List ℕ
+  cost = on .read .steps .cost
+
+  abbrev row : List ℕ
+  row = on .row
+
+  abbrev standing : Standing z on s n v r
+  standing = w .standing
+
+  abbrev tables : Tables z (on .read)
+  tables = standing .ready .tables
+
+  small : m < size d
+  small = omega (arith, w .down, standing .node)
+
+  -- what the walk down to lo asks
+  pub walk-marked : Marked (on .read .inner .step)
+  walk-marked = standing .ready .tables .held .marked
+
+  pub walk-falls : (k : ℕ) → k ≤ m → Falls (on .read .inner .lo) k
+  walk-falls k h = lo-falls d (on .read .inner .step) (on .read .inner .lo) (on .read .inner .hi) (standing .ready .tables .held) k (omega (arith, small))
+
+  module _ (more : e < until) where
+    leaving : (e < z .steps) × (g .from e ≡ s)
+    leaving = first-leave z on (standing .ready) s e (standing .stage) (omega (arith, w .later, w .begins)) (omega (arith, w .ends))
+
+    pub walk-step : e < 1024
+    walk-step = omega (arith, leaving .0, few-steps z (on .read) (standing .ready .tables))
+
+    -- one step e out of the stage, to node t
+    module _ (t : ℕ) (et : t ≡ advance d e n) where
+      exists : e < g .count
+      exists = omega (arith, leaving .0, count-is z (on .read) tables)
+
+      to-is : getD to e 0 ≡ g .to e
+      to-is = to-at z (on .read) tables e (leaving .0)
+
+      to-inside : g .to e < z .stages
+      to-inside = tables .valid .inside e exists
+
+      base-is : getD row (getD to e 0) 0 ≡ g .to e * a .size
+      base-is =
+          ap (λ (i : ℕ). getD row i 0) to-is ∙ row-start z on (standing .ready) (g .to e) to-inside
+          ∙ ap (λ (w : ℕ). g .to e * w) (sym (width-is z (on .read) tables))
+
+      cost-is : getD cost e 0 ≡ g .cost e
+      cost-is = cost-at z (on .read) tables e (leaving .0)
+
+      -- what the code does is the model's step
+      pub stepped-is : stepped (on .read .steps) row e n v t r ≡ relaxStep g a n v e r
+      unfolding stepped relaxStep
+      stepped-is =
+          ap (λ (i : ℕ). pick (eqb i 0) r (offer (getD row (getD to e 0) 0) (getD to e 0) i (v + getD cost e 0) (packed e n) r)) et
+          ∙ ap (λ (i : ℕ). pick (eqb (a .next e n) 0) r (offer i (getD to e 0) (a .next e n) (v + getD cost e 0) (packed e n) r)) base-is
+          ∙ ap₂ (λ (i j : ℕ). pick (eqb (a .next e n) 0) r (offer (g .to e * a .size) i (a .next e n) (v + j) (packed e n) r)) to-is cost-is
+
+      entry : Entry g a r (suc s) s n
+      entry = either (standing .table .cell s n (standing .stage) (standing .node)) (λ u. absurd (omega (arith, standing .costs, standing .low))) (λ x. x)
+
+      narrow : a .size ≤ 512
+      narrow = omega (arith, width-is z (on .read) tables, few-nodes z (on .read) tables)
+
+      -- the pair that the step leads to can take the offer
+      takes : (t ≡ 0 → ⊥) → Open (getD row (getD to e 0) 0) (getD to e 0) t r
+      takes nt =
+          let nz : a .next e n ≡ 0 → ⊥ = λ q. nt (et ∙ q) in
+          let l = lawful-in z (on .read) tables in
+          let fits = pair-fits g a (tables .valid) l s n e v r (standing .table) (standing .stage) (standing .node) (standing .costs) (standing .low) exists (leaving .1) nz in
+          let is-new : getD (r .cost) (getD row (getD to e 0) 0 + t) 0 ≡ unreached → costAt (a .size) r (g .to e) (a .next e n) ≡ unreached =
+          λ q. ap₂ (λ (i j : ℕ). getD (r .cost) (i + j) 0) (sym base-is) (sym et) ∙ q in
+          let count-is′ : getD (r .counts) (getD to e 0) 0 ≡ countAt r (g .to e) = ap (λ (i : ℕ). getD (r .counts) i 0) to-is in
+          record {
+            stage = omega (arith, to-is, to-inside, few-stages z (on .read) tables);
+            node = omega (arith, l .next-inside e n exists (standing .node), narrow);
+            cost-fits = omega (arith, base-is, fits, standing .table .cost-fits);
+            via-fits = omega (arith, base-is, fits, standing .table .via-fits);
+            list-fits = λ q. omega (
+              arith,
+              base-is,
+              standing .table .nodes-fits,
+              count-is′,
+              place-fits g a (tables .valid) l s n e v r (standing .table) (standing .stage) (standing .node) (standing .costs) (standing .low) exists (leaving .1) nz (is-new q),
+            );
+            count-small = λ q. omega (
+              arith,
+              narrow,
+              count-is′,
+              roomy g a (tables .valid) l s n e v r (standing .table) (standing .stage) (standing .node) (standing .costs) (standing .low) exists (leaving .1) nz (is-new q),
+            );
+          }
+
+      pub offering : Offering (on .read .steps) row e n v t r
+      offering = record {
+        exists = omega (arith, leaving .0, few-steps z (on .read) tables);
+        inside = omega (arith, to-is, to-inside, few-stages z (on .read) tables);
+        node = omega (arith, standing .node, narrow);
+        low = omega (arith, cost-is, standing .costs, entry-low g a (tables .valid) r (suc s) s n entry, step-cheap g (tables .valid) e exists);
+        takes = takes;
+      }
+
+      -- afterwards the node stands as before
+      pub stands-on : Standing z on s n v (relaxStep g a n v e r)
+      stands-on =
+          let m = step-made g a (tables .valid) (lawful-in z (on .read) tables) s n v (standing .stage) (standing .node) (standing .low) e r (standing .table) (standing .costs) exists (leaving .1) in
+          record {
+            ready = standing .ready;
+            table = m .table;
+            stage = standing .stage;
+            node = standing .node;
+            costs = m .later .cost-same s n (omega arith) (standing .node) ∙ standing .costs;
+            low = standing .low;
+          }
+
+    module _ {m′ : ℕ} (x : Lowers (on .read .inner .step) (on .read .inner .lo) e m m′) where
+      lowered-is : m′ ≡ lowered d e m
+      lowered-is = x .is d (on .read .inner .hi) (standing .ready .tables .held) small
+
+      carried-on : (f : ℕ) → e ≤ f → advance d f m′ ≡ advance d f n
+      carried-on f h = ap (advance d f) lowered-is ∙ advance-lowered d (standing .ready .tables .held .ordered) e f m h ∙ w .carried f h
+
+      -- node 0 offers nothing, by no step
+      dead : (k f : ℕ) → e ≤ f → m′ ≡ 0 → (r : Rows) → relaxSteps g a n v f k r ≡ r
+      unfolding relaxSteps relaxStep
+      dead zero f h q r = refl
+      dead (suc k) f h q r =
+          let none : a .next f n ≡ 0 = sym (carried-on f h) ∙ ap (advance d f) q ∙ advance-leaf d (standing .ready .tables .held .ordered) f 0 (omega arith) in
+          ap (relaxSteps g a n v (suc f) k) (pick-true _ _ _ (eq-eqb _ 0 none)) ∙ dead k (suc f) (omega arith) q r
+
+      pub walk-dead : m′ ≡ 0 → r ≡ relaxSteps g a n v start (until - start) r₀
+      walk-dead q = sym (w .same ∙ dead (until - e) e (omega arith) q r)
+
+      module _ {t : ℕ} (y : BranchesTo (on .read .inner .step) (on .read .inner .hi) e m′ t) where
+        advanced-is : t ≡ advance d e n
+        advanced-is = y (on .read .inner .lo) m x .is d (standing .ready .tables .held) small ∙ w .carried e (omega arith)
+
+        pub walk-offering : Offering (on .read .steps) row e n v t r
+        walk-offering = offering t advanced-is
+
+        pub walk-more : (r′ : Rows) → r′ ≡ stepped (on .read .steps) row e n v t r → Walking z on s n v start until r₀ r′ (e + 1) m′
+        unfolding relaxSteps
+        walk-more r′ q =
+            let p = q ∙ stepped-is t advanced-is in
+            let k : until - e ≡ suc (until - (e + 1)) = omega arith in
+            let j : suc e ≡ e + 1 = omega arith in
+            record {
+              begins = w .begins;
+              ends = w .ends;
+              standing = subst (Standing z on s n v) (sym p) (stands-on t advanced-is);
+              same = w .same ∙ ap (λ (i : ℕ). relaxSteps g a n v e i r) k
+                  ∙ ap₂ (λ (i : ℕ) (l : Rows). relaxSteps g a n v i (until - (e + 1)) l) j (sym p);
+              later = omega (arith, w .later);
+              carried = λ f h. carried-on f (omega arith);
+              down = omega (arith, w .down, x .below);
+            }
+
+  pub walk-done : until ≤ e → r ≡ relaxSteps g a n v start (until - start) r₀
+  unfolding relaxSteps
+  walk-done h = let k : until - e ≡ 0 = omega arith in sym (w .same ∙ ap (λ (i : ℕ). relaxSteps g a n v e i r) k)
+
+pub walk-start : {t : Read} {row : List ℕ} {n v start until : ℕ} {r : Rows} (x : Stands t row n v start until r)
+    → Walking (x .z) (walk t (x .first) row) (x .s) n v start until r r start n
+walk-start x = record { begins = x .begins; ends = x .ends; standing = x .standing; same = refl; later = omega arith; carried = λ f h. refl; down = omega arith }

@@ -1,0 +1,232 @@
+// The rows of the sweep, relaxed in turn: from each reached pair every step offers its cost to the pair that it leads to.
+ghost use mathlib.Core.Path.{_≡_};
+ghost use Prim.Native.Nat.{_-_};
+ghost use Rattle.sweep_model.specs.Model.{rows, offer as offered, relaxSteps, relaxNodes, relaxRows};
+ghost use Rattle.chart.specs.Tables.{stepsIn};
+ghost use Rattle.checks.specs.Tables.{read};
+ghost use Rattle.checks.specs.Ready.{walk, graphIn, automatonIn};
+ghost use Rattle.sweep_rows.specs.Standing.{Open, Offering, stepped, Stands, Row, InRow, at};
+use chart::COST;
+use chart::TO;
+use convert::index;
+use convert::wide;
+use definitions::NONE;
+use definitions::Node;
+use definitions::Shape;
+use definitions::Stage;
+use definitions::Step;
+use diagram::HI;
+use diagram::LO;
+use diagram::STEP;
+use nodes::branch;
+use nodes::descend_to;
+
+// The pair of stage s, whose row starts at `base`, and node t is offered the cost v. `mark` has the step and the node
+// that offer it.
+fn offer(
+    costs: &mut [u32],
+    via: &mut [u32],
+    nodes: &mut [u32],
+    counts: &mut [u32; 256],
+    base: usize,
+    s: usize,
+    t: usize,
+    v: u32,
+    mark: u32,
+)
+    requires { ⌜ Open base s t (rows (now costs) (now via) (now nodes) (now counts)) ⌝ }
+    ensures { λ _. ⌜
+        (let before = rows (now (costs .entry)) (now (via .entry)) (now (nodes .entry)) (now (counts .entry)) in
+        let after = rows (now (costs .exit)) (now (via .exit)) (now (nodes .exit)) (now (counts .exit)) in
+        after ≡ offered base s t v mark before)
+        ⌝ }
+{
+    let q = base + t;
+    let old = costs[q];
+    if old <= v {
+        return;
+    }
+    if old == NONE {
+        let k = counts[s];
+        nodes[base + wide(k)] = t as u32;
+        counts[s] = k + 1;
+        costs[q] = v;
+        via[q] = mark;
+        return;
+    }
+    costs[q] = v;
+    via[q] = mark;
+}
+
+// Node n at cost v offers by step e, which leads to node t; to node 0 it offers nothing.
+fn relax_step<'a>(
+    costs: &mut [u32],
+    via: &mut [u32],
+    nodes: &mut [u32],
+    counts: &mut [u32; 256],
+    steps: &'a [[u32; 1024]; 3],
+    row: &'a [u32; 256],
+    e: usize,
+    n: Node,
+    v: u32,
+    t: Node,
+)
+    requires { ⌜
+        Offering (stepsIn (now steps)) (now row) e (n .0) v (t .0) (rows (now costs) (now via) (now nodes) (now counts))
+        ⌝ }
+    ensures { λ _. ⌜
+        (let before = rows (now (costs .entry)) (now (via .entry)) (now (nodes .entry)) (now (counts .entry)) in
+        let after = rows (now (costs .exit)) (now (via .exit)) (now (nodes .exit)) (now (counts .exit)) in
+        after ≡ stepped (stepsIn (now (steps .entry))) (now (row .entry)) e (n .0) v (t .0) before)
+        ⌝ }
+{
+    if t.0 == 0 {
+        return;
+    }
+    let s = steps[TO][e] as usize;
+    let base = wide(row[s]);
+    let mark = e as u32 * 512 + n.0 as u32;
+    offer(
+        costs,
+        via,
+        nodes,
+        counts,
+        base,
+        s,
+        t.0 as usize,
+        v + steps[COST][e],
+        mark,
+    );
+}
+
+// Node n, at cost v, offers by the steps from `start` to before `until`, which leave its stage.
+fn relax_node<'a>(
+    costs: &mut [u32],
+    via: &mut [u32],
+    nodes: &mut [u32],
+    counts: &mut [u32; 256],
+    steps: &'a [[u32; 1024]; 3],
+    row: &'a [u32; 256],
+    inner: &'a [[u16; 512]; 3],
+    n: Node,
+    v: u32,
+    start: usize,
+    until: usize,
+)
+    requires { ⌜
+        (let t = read (now steps) (now inner) in
+        Stands t (now row) (n .0) v start until (rows (now costs) (now via) (now nodes) (now counts)))
+        ⌝ }
+    ensures { λ _. ⌜
+        (let before = rows (now (costs .entry)) (now (via .entry)) (now (nodes .entry)) (now (counts .entry)) in
+        let after = rows (now (costs .exit)) (now (via .exit)) (now (nodes .exit)) (now (counts .exit)) in
+        let t = read (now (steps .entry)) (now (inner .entry)) in
+        (x : Stands t (now (row .entry)) (n .0) v start until before)
+        → after ≡ relaxSteps (graphIn (x .z) t) (automatonIn (x .z) t) (n .0) v start (until - start) before)
+        ⌝ }
+{
+    let mut m = n;
+    let mut e = start;
+    while e < until {
+        let key = Step(e as u16);
+        m = descend_to(&inner[STEP], &inner[LO], key, m);
+        if m.0 == 0 {
+            return;
+        }
+        let t = branch(&inner[STEP], &inner[HI], key, m);
+        relax_step(costs, via, nodes, counts, steps, row, e, n, v, t);
+        e += 1;
+    }
+}
+
+// The reached nodes of row s offer in turn, in the order of the row's list.
+fn relax_row<'a>(
+    costs: &mut [u32],
+    via: &mut [u32],
+    nodes: &mut [u32],
+    counts: &mut [u32; 256],
+    steps: &'a [[u32; 1024]; 3],
+    first: &'a [u16; 257],
+    row: &'a [u32; 256],
+    inner: &'a [[u16; 512]; 3],
+    s: Stage,
+)
+    requires { ⌜
+        (let on = walk (read (now steps) (now inner)) (now first) (now row) in
+        InRow on (s .0) (rows (now costs) (now via) (now nodes) (now counts)))
+        ⌝ }
+    ensures { λ _. ⌜
+        (let before = rows (now (costs .entry)) (now (via .entry)) (now (nodes .entry)) (now (counts .entry)) in
+        let after = rows (now (costs .exit)) (now (via .exit)) (now (nodes .exit)) (now (counts .exit)) in
+        let t = read (now (steps .entry)) (now (inner .entry)) in
+        let first = now (first .entry) in
+        (x : InRow (walk t first (now (row .entry))) (s .0) before)
+        → after ≡ relaxNodes (graphIn (x .z) t) (automatonIn (x .z) t) (at first) (s .0) 0 (at (before .counts) (s .0)) before)
+        ⌝ }
+{
+    let at = s.0 as usize;
+    let base = wide(row[at]);
+    let start = index(first[at]);
+    let until = index(first[at + 1]);
+    let count = wide(counts[at]);
+    let mut k: usize = 0;
+    while k < count {
+        let n = nodes[base + k];
+        let v = costs[base + wide(n)];
+        relax_node(
+            costs,
+            via,
+            nodes,
+            counts,
+            steps,
+            row,
+            inner,
+            Node(n as u16),
+            v,
+            start,
+            until,
+        );
+        k += 1;
+    }
+}
+
+// All rows from the start's on, in the order of the stages.
+pub fn relax_rows<'a>(
+    costs: &mut [u32],
+    via: &mut [u32],
+    nodes: &mut [u32],
+    counts: &mut [u32; 256],
+    z: Shape,
+    steps: &'a [[u32; 1024]; 3],
+    first: &'a [u16; 257],
+    row: &'a [u32; 256],
+    inner: &'a [[u16; 512]; 3],
+)
+    requires { ⌜
+        (let on = walk (read (now steps) (now inner)) (now first) (now row) in
+        Row z on (z .start .0) (rows (now costs) (now via) (now nodes) (now counts)))
+        ⌝ }
+    ensures { λ _. ⌜
+        (let before = rows (now (costs .entry)) (now (via .entry)) (now (nodes .entry)) (now (counts .entry)) in
+        let after = rows (now (costs .exit)) (now (via .exit)) (now (nodes .exit)) (now (counts .exit)) in
+        let t = read (now (steps .entry)) (now (inner .entry)) in
+        after ≡ relaxRows (graphIn z t) (automatonIn z t) (at (now (first .entry))) (z .start .0) (z .stages - z .start .0) before)
+        ⌝ }
+{
+    let stages = z.stages;
+    let mut s = z.start.0;
+    while s < stages {
+        relax_row(
+            costs,
+            via,
+            nodes,
+            counts,
+            steps,
+            first,
+            row,
+            inner,
+            Stage(s),
+        );
+        s += 1;
+    }
+}
