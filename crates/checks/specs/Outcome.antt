@@ -10,32 +10,52 @@ use lib.ListN.{length}
 use borrow.Author.Tests.{le-leb, lt-leb, eq-eqb, ne-eqb, leb-true, leb-false, not-false}
 use Rattle.definitions.specs.Basics.{every}
 use Rattle.definitions.specs.Charts.{Chart, readChart}
-use Rattle.definitions.specs.Diagrams.{Diagram, readDiagram}
-use Rattle.definitions.specs.Answers.{ready, refused, load, workNeed, planNeed, spaceFits}
+use Rattle.definitions.specs.Diagrams.{Diagram, DiagramRead, readDiagram}
+use Rattle.definitions.specs.Answers.{Load, ready, refused, readFiles, withSpace, load, workNeed, planNeed, spaceFits}
 use Rattle.theory.specs.Basics.{pick-true, pick-false, pick-cases, either, both}
 
-module _ (s t : List ℕ) (works : List ℕ) (plan : ℕ) where
-  abbrev stepCount : ℕ
-  stepCount = length (readChart s .chart .steps)
+-- ---- the files
 
-  pub chart-refuses : (readChart s .number ≡ 0 → ⊥) → load s t works plan ≡ refused (readChart s .number) 1 (readChart s .place)
-  unfolding load
-  chart-refuses h = pick-true _ _ _ (ap not (ne-eqb (readChart s .number) 0 h))
+module _ (s t : List ℕ) where
+  abbrev chartIs : Chart
+  chartIs = readChart s .chart
+
+  abbrev rulesRead : DiagramRead
+  rulesRead = readDiagram t (length (chartIs .steps))
+
+  pub chart-refused : (readChart s .number ≡ 0 → ⊥) → readFiles s t ≡ refused (readChart s .number) 1 (readChart s .place)
+  unfolding readFiles
+  chart-refused h = pick-true _ _ _ (ap not (ne-eqb (readChart s .number) 0 h))
 
   module _ (c : readChart s .number ≡ 0) where
-    pub rules-refuse : (readDiagram t stepCount .number ≡ 0 → ⊥) → load s t works plan ≡ refused (readDiagram t stepCount .number) 2 (readDiagram t stepCount .place)
+    pub rules-refused : (rulesRead .number ≡ 0 → ⊥) → readFiles s t ≡ refused (rulesRead .number) 2 (rulesRead .place)
+    unfolding readFiles
+    rules-refused h = pick-false _ _ _ (ap not (eq-eqb _ 0 c)) ∙ pick-true _ _ _ (ap not (ne-eqb (rulesRead .number) 0 h))
+
+    pub files-passed : rulesRead .number ≡ 0 → readFiles s t ≡ ready chartIs (rulesRead .diagram)
+    unfolding readFiles
+    files-passed d = pick-false _ _ _ (ap not (eq-eqb _ 0 c)) ∙ pick-false _ _ _ (ap not (eq-eqb _ 0 d))
+
+-- ---- all checks of a search
+
+module _ (s t : List ℕ) (works : List ℕ) (plan : ℕ) where
+  pub chart-refuses : (readChart s .number ≡ 0 → ⊥) → load s t works plan ≡ refused (readChart s .number) 1 (readChart s .place)
+  unfolding load
+  chart-refuses h = ap (withSpace works plan) (chart-refused s t h)
+
+  module _ (c : readChart s .number ≡ 0) where
+    pub rules-refuse : (rulesRead s t .number ≡ 0 → ⊥) → load s t works plan ≡ refused (rulesRead s t .number) 2 (rulesRead s t .place)
     unfolding load
-    rules-refuse h = pick-false _ _ _ (ap not (eq-eqb _ 0 c)) ∙ pick-true _ _ _ (ap not (ne-eqb (readDiagram t stepCount .number) 0 h))
+    rules-refuse h = ap (withSpace works plan) (rules-refused s t c h)
 
-    module _ (d : readDiagram t stepCount .number ≡ 0) where
-      pub space-refuses : spaceFits (readChart s .chart) (readDiagram t stepCount .diagram) works plan ≡ false → load s t works plan ≡ refused 7 0 0
+    module _ (d : rulesRead s t .number ≡ 0) where
+      pub space-refuses : spaceFits (chartIs s t) (rulesRead s t .diagram) works plan ≡ false → load s t works plan ≡ refused 7 0 0
       unfolding load
-      space-refuses h = pick-false _ _ _ (ap not (eq-eqb _ 0 c)) ∙ pick-false _ _ _ (ap not (eq-eqb _ 0 d)) ∙ pick-true _ _ _ (ap not h)
+      space-refuses h = ap (withSpace works plan) (files-passed s t c d) ∙ pick-false _ _ _ h
 
-      pub all-ready : spaceFits (readChart s .chart) (readDiagram t stepCount .diagram) works plan ≡ true
-          → load s t works plan ≡ ready (readChart s .chart) (readDiagram t stepCount .diagram)
+      pub all-ready : spaceFits (chartIs s t) (rulesRead s t .diagram) works plan ≡ true → load s t works plan ≡ ready (chartIs s t) (rulesRead s t .diagram)
       unfolding load
-      all-ready h = pick-false _ _ _ (ap not (eq-eqb _ 0 c)) ∙ pick-false _ _ _ (ap not (eq-eqb _ 0 d)) ∙ pick-false _ _ _ (ap not h)
+      all-ready h = ap (withSpace works plan) (files-passed s t c d) ∙ pick-true _ _ _ h
 
 -- two work slices are long enough where the shorter is
 shorter : (need a b : ℕ) (works : List ℕ) → every (leb need) (a ∷ b ∷ works) ≡ every (leb need) (min a b ∷ works)
@@ -48,7 +68,11 @@ shorter need a b works = go (leb need a) refl (leb need b) refl
 
 load-shorter : (s t : List ℕ) (a b : ℕ) (works : List ℕ) (plan : ℕ) → load s t (a ∷ b ∷ works) plan ≡ load s t (min a b ∷ works) plan
 unfolding load
-load-shorter s t a b works plan = rw (shorter _ a b works)
+load-shorter s t a b works plan = go (readFiles s t)
+  where
+    go : (o : Load) → withSpace (a ∷ b ∷ works) plan o ≡ withSpace (min a b ∷ works) plan o
+    go (refused number file place) = refl
+    go (ready c d) = rw (shorter (workNeed c d) a b works)
 
 -- the shortest of some work slices decides
 abbrev pub shortest : ℕ → List ℕ → ℕ
@@ -72,26 +96,35 @@ one-of : (b : Bool) → cond b true false ≡ true → b ≡ true
 one-of true e = refl
 one-of false e = e
 
--- where all checks pass, the chart and the diagram are those of the files, and the space is enough
-ready-parts : (s t works : List ℕ) (plan : ℕ) (c : Chart) (d : Diagram) → load s t works plan ≡ ready c d
-    → (readChart s .chart ≡ c) × (readDiagram t (length (readChart s .chart .steps)) .diagram ≡ d)
-    × (spaceFits (readChart s .chart) (readDiagram t (length (readChart s .chart .steps)) .diagram) works plan ≡ true)
-unfolding load
-ready-parts s t works plan c d e =
+-- the files of a load whose checks pass
+space-passed : (works : List ℕ) (plan : ℕ) (o : Load) (c : Chart) (d : Diagram) → withSpace works plan o ≡ ready c d → (o ≡ ready c d) × (spaceFits c d works plan ≡ true)
+space-passed works plan (refused number file place) c d e = absurd (refused-not-ready number file place c d e)
+space-passed works plan (ready c′ d′) c d e =
+    either (pick-cases _ _ _ _ e)
+    (λ x. (x .1, ap₂ (λ (i : Chart) (j : Diagram). spaceFits i j works plan) (sym (ready-left c′ d′ c d (x .1))) (sym (ready-right c′ d′ c d (x .1))) ∙ x .0))
+    (λ x. absurd (refused-not-ready 7 0 0 c d (x .1)))
+
+files-are : (s t : List ℕ) (c : Chart) (d : Diagram) → readFiles s t ≡ ready c d → (readChart s .chart ≡ c) × (rulesRead s t .diagram ≡ d)
+unfolding readFiles
+files-are s t c d e =
     either (pick-cases _ _ _ _ e) (λ x. absurd (refused-not-ready _ _ _ c d (x .1)))
     (λ x. either (pick-cases _ _ _ _ (x .1)) (λ y. absurd (refused-not-ready _ _ _ c d (y .1)))
-    (λ y. either (pick-cases _ _ _ _ (y .1)) (λ w. absurd (refused-not-ready _ _ _ c d (w .1)))
-    (λ w. (ready-left _ _ c d (w .1), ready-right _ _ c d (w .1), not-false _ (w .0)))))
+    (λ y. (ready-left _ _ c d (y .1), ready-right _ _ c d (y .1))))
+
+-- where all checks pass, the chart and the diagram are those of the files, and the space is enough
+ready-parts : (s t works : List ℕ) (plan : ℕ) (c : Chart) (d : Diagram) → load s t works plan ≡ ready c d
+    → (readChart s .chart ≡ c) × (rulesRead s t .diagram ≡ d) × (spaceFits c d works plan ≡ true)
+unfolding load
+ready-parts s t works plan c d e =
+    let x = space-passed works plan (readFiles s t) c d e in
+    let y = files-are s t c d (x .0) in
+    (y .0, y .1, x .1)
 
 pub ready-files : (s t works : List ℕ) (plan : ℕ) (c : Chart) (d : Diagram) → load s t works plan ≡ ready c d
     → (c ≡ readChart s .chart) × (d ≡ readDiagram t (length (readChart s .chart .steps)) .diagram)
 ready-files s t works plan c d e = let x = ready-parts s t works plan c d e in (sym (x .0), sym (x .1))
 
 pub ready-space : (s t : List ℕ) (work plan : ℕ) (c : Chart) (d : Diagram) → load s t (work ∷ []) plan ≡ ready c d → (workNeed c d ≤ work) × (planNeed c ≤ plan)
-ready-space s t work plan c d e = let x = ready-parts s t (work ∷ []) plan c d e in fits _ _ (x .2) (x .0) (x .1)
-  where
-    fits : (c′ : Chart) (d′ : Diagram) → spaceFits c′ d′ (work ∷ []) plan ≡ true → c′ ≡ c → d′ ≡ d → (workNeed c d ≤ work) × (planNeed c ≤ plan)
-    fits c′ d′ h p q =
-        let x = both (every (leb (workNeed c′ d′)) (work ∷ [])) (leb (planNeed c′) plan) h in
-        let y : leb (workNeed c′ d′) work ≡ true = one-of (leb (workNeed c′ d′) work) (x .0) in
-        (omega (arith, leb-true (workNeed c′ d′) work y, ap₂ (λ (i : Chart) (j : Diagram). workNeed i j) p q), omega (arith, leb-true (planNeed c′) plan (x .1), ap (λ (i : Chart). planNeed i) p))
+ready-space s t work plan c d e =
+    let x = both (every (leb (workNeed c d)) (work ∷ [])) (leb (planNeed c) plan) (ready-parts s t (work ∷ []) plan c d e .2) in
+    (leb-true (workNeed c d) work (one-of (leb (workNeed c d) work) (x .0)), leb-true (planNeed c) plan (x .1))

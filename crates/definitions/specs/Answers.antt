@@ -26,15 +26,23 @@ planNeed c = c .stages - 1
 abbrev pub spaceFits : Chart → Diagram → List ℕ → ℕ → Bool
 spaceFits c d works plan = every (leb (workNeed c d)) works && leb (planNeed c) plan
 
--- the chart (file 1), then the diagram (file 2), then the space (7)
-unfoldable pub load : List ℕ → List ℕ → List ℕ → ℕ → Load
-load chart rules works plan =
+-- the chart (file 1), then the diagram (file 2)
+unfoldable pub readFiles : List ℕ → List ℕ → Load
+readFiles chart rules =
     let c = readChart chart in
     let d = readDiagram rules (length (c .chart .steps)) in
     pick (not (eqb (c .number) 0)) (refused (c .number) 1 (c .place))
     (pick (not (eqb (d .number) 0)) (refused (d .number) 2 (d .place))
-    (pick (not (spaceFits (c .chart) (d .diagram) works plan)) (refused 7 0 0)
-    (ready (c .chart) (d .diagram))))
+    (ready (c .chart) (d .diagram)))
+
+-- then the space (7), by the lengths of the lent slices
+abbrev pub withSpace : List ℕ → ℕ → Load → Load
+withSpace works plan (refused number file place) = refused number file place
+withSpace works plan (ready c d) = pick (spaceFits c d works plan) (ready c d) (refused 7 0 0)
+
+-- all checks of a search
+unfoldable pub load : List ℕ → List ℕ → List ℕ → ℕ → Load
+load chart rules works plan = withSpace works plan (readFiles chart rules)
 
 -- a refusal has cost 0 and length 0
 abbrev pub refusal : ℕ → ℕ → ℕ → ℕ → Answer

@@ -8,7 +8,7 @@ use Rattle.definitions.specs.Basics.{pick, each}
 use Rattle.definitions.specs.Fields.{fieldAt, onField, scan, fieldBytes, refusedField}
 use Rattle.definitions.specs.Charts.{Chart, ChartStep, headFault, stepFault, readChart}
 use Rattle.definitions.specs.Diagrams.{InnerNode, nodeFault, readDiagram}
-use Rattle.definitions.specs.Answers.{Load, ready, refused, load}
+use Rattle.definitions.specs.Answers.{Load, ready, refused, readFiles, load}
 use Rattle.definitions.specs.Marked.{st, nd, chart, rules}
 
 abbrev le2 : ℕ → List ℕ
@@ -127,5 +127,5 @@ loads =
     ∷ []
 
 pub loads-hold : loads ≡ [] ∷ (7 ∷ 0 ∷ 0 ∷ []) ∷ (7 ∷ 0 ∷ 0 ∷ []) ∷ (6 ∷ 2 ∷ 0 ∷ []) ∷ (1 ∷ 1 ∷ 0 ∷ []) ∷ []
-unfolding loads pick fieldAt onField scan headFault stepFault readChart nodeFault readDiagram load
+unfolding loads pick fieldAt onField scan headFault stepFault readChart nodeFault readDiagram readFiles load
 loads-hold = refl
