@@ -38,7 +38,8 @@ loop-less c = search needs
 
 loop-again : tie.Need-loop-again Inv-loop μ-loop
 loop-again c =
-    let w = c .before .before in
+    let got-write-step : tie.After-write-step Inv-loop μ-loop = search in
+    let w = got-write-step in
     let head = w .before .before .before .before in
     (search needs, steps-more (head .before .before .before .before .pre) (head .loop .inv .1) (search needs) (w .write-step .ensures))
 

@@ -1,6 +1,7 @@
 // How much space the searches need for two files.
 ghost use mathlib.Core.Path.{_≡_};
-ghost use Rattle.planner.specs.Space.{filesOnly, spaceNeeded};
+ghost use Rattle.definitions.specs.Answers.{readFiles};
+ghost use Rattle.space.specs.Space.{spaceNeeded};
 use checks::load;
 
 // The refusal's number, file and place, or 0; and the entries that each work slice and the plan slice need, 0 where the
@@ -20,26 +21,11 @@ const MOST_STEPS: usize = 255;
 
 // Checks both files and says how much space the searches need for them.
 pub fn space_needed(chart: &[u8], rules: &[u8]) -> Space
-    ensures { λ r. ⌜ r ≡ spaceNeeded (filesOnly (now (chart .entry)) (now (rules .entry))) ⌝ }
+    ensures { λ r. ⌜ r ≡ spaceNeeded (readFiles (now (chart .entry)) (now (rules .entry))) ⌝ }
 {
-    let mut from = [0u16; 1024];
-    let mut to = [0u16; 1024];
-    let mut cost = [0u32; 1024];
-    let mut step = [0u16; 512];
-    let mut lo = [0u16; 512];
-    let mut hi = [0u16; 512];
-    let got = load(
-        chart,
-        rules,
-        MOST_PAIRS,
-        MOST_STEPS,
-        &mut from,
-        &mut to,
-        &mut cost,
-        &mut step,
-        &mut lo,
-        &mut hi,
-    );
+    let mut steps = [[0u32; 1024]; 3];
+    let mut inner = [[0u16; 512]; 3];
+    let got = load(chart, rules, MOST_PAIRS, MOST_STEPS, &mut steps, &mut inner);
     if got.number != 0 {
         return Space {
             number: got.number,
