@@ -108,9 +108,9 @@ def spec_files(stem):
 
 @cache
 def sections():
-    """The numbers of the sections of docs/REFERENCE.md."""
+    """The numbers of the sections and rows of docs/REFERENCE.md, by their anchors."""
     page = ROOT / "docs/REFERENCE.md"
-    return set(re.findall(r"^#+ (\d+(?:\.\d+)*)\b", page.read_text(), re.MULTILINE)) if page.exists() else set()
+    return set(re.findall(r'<a id="s([\d.]+)">', page.read_text())) if page.exists() else set()
 
 
 # ---- what is wrong with a name, or None
@@ -197,7 +197,7 @@ def owned(line, tokens):
             owner = tokens[i - 1][1]
         elif not re.fullmatch(r"(,\s+|\s+\(|,?\s+and\s+)", before):
             owner = None
-        if owner:
+        if owner and not line[token.end():].startswith(": `"):
             yield owner, token[1]
 
 
