@@ -28,7 +28,10 @@ extern "C" {
 #endif
 
 /* Numbers of an answer: accepted, or the cause of the refusal. The chart is looked at before the diagram, each from
- * its front; then the space; then whether there is a plan. */
+ * its front; then the space; then whether there is a plan.
+ *
+ * Numbers from 9 on are coming: every number but PLANNER_ACCEPTED is a refusal, and a switch over them needs a default
+ * branch. */
 enum {
     PLANNER_ACCEPTED = 0,
     PLANNER_CUT = 1,     /* the file ends inside a field */
@@ -41,7 +44,7 @@ enum {
     PLANNER_NO_PLAN = 8  /* no legal plan exists */
 };
 
-/* Marks of a file. Where no field is at fault, file and place are 0. */
+/* Marks of a file. Where no field is at fault, file and place are 0. Marks from 3 on are coming with the numbers. */
 enum {
     PLANNER_FILE_NONE = 0,
     PLANNER_FILE_CHART = 1,

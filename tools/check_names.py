@@ -25,10 +25,10 @@ ROOT = Path(__file__).resolve().parent.parent
 
 # the first words of commands that are no file of the tree
 COMMANDS = {"rt", "cargo", "rustc", "cc", "ulimit", "printf", "python3"}
-# names of the language, the machine and the C library
+# words of the languages, of the machine and of the C library
 OUTSIDE = {
-    "requires", "ensures", "now", "entry", "exit", "memcpy", "memset", "main", "PATH", "SIGPIPE", "SIGXFSZ", "errno", "Vec", "None", "Ok", "Err",
-    "chart.bin", "rules.bin", "field_len",
+    "requires", "ensures", "now", "entry", "exit", "main", "match", "switch", "default", "non_exhaustive", "Vec", "Ok", "Err", "None",
+    "memcpy", "memset", "errno", "PATH", "SIGPIPE", "SIGSEGV",
 }
 CODE = {".rt", ".antt", ".rs", ".py", ".h", ".c", ".toml", ".bash", ""}
 COMMENT = {".antt": r"--.*", ".py": r"#.*|\"{3}[\s\S]*?\"{3}", ".toml": r"#.*", ".bash": r"#.*", "": r"#.*"}
