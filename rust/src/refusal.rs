@@ -35,11 +35,11 @@ pub enum Refusal {
     Tag { file: File, place: usize },
     /// 3: the length isn't that of the tag.
     Length { file: File, place: usize },
-    /// 4: a chart head beyond a limit.
+    /// 4: the chart's head breaks a limit.
     Head { file: File, place: usize },
-    /// 5: a step beyond a limit, the 1,025th included.
+    /// 5: a step breaks a limit, or there is a 1,025th step.
     Step { file: File, place: usize },
-    /// 6: a node beyond a limit, the 511th included; or a root that is no node.
+    /// 6: an inner node breaks a limit, there is a 511th, or the root is no node.
     Node { file: File, place: usize },
     /// 7: a work slice or the plan slice is too short.
     Space,
@@ -114,8 +114,8 @@ impl Refusal {
     }
 }
 
-/// The field at a place of a file: three header bytes and the body by its length, cut at the file's
-/// end. A place at or past the end gives an empty part of the chart.
+/// The field at a place of a file: its header and its body, or what the file has of them. A place at
+/// or past the end gives an empty part of the chart.
 pub fn refused_field<'a>(chart: &'a [u8], rules: &'a [u8], file: File, place: usize) -> &'a [u8] {
     let length = lent::refused_field(chart, rules, file as u32, place, &mut []);
     let bytes = match file {
