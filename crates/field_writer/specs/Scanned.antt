@@ -43,25 +43,33 @@ module _ (before body behind : List ℕ) (tag : ℕ) where
 -- ---- fields of one kind to the file's end
 
 module _ {A : Type 0} (tag len : ℕ) (fault : List A → List ℕ → ℕ) (holds : List ℕ → A) (body : A → List ℕ) where
-  -- each body has the due length, passes after the fields before it, and holds what it was made of
-  abbrev pub Readable : List A → List A → Type 0
-  Readable before [] = Unit {0}
-  Readable before (x ∷ xs) = (length (body x) ≡ len) × (fault before (body x) ≡ 0) × (holds (body x) ≡ x) × Readable (before ++ x ∷ []) xs
+  -- the body of a member has the due length, passes after the members before it, and holds the member
+  pub record Reads (before : List A) (x : A) : Type 0 where
+    pub long : length (body x) ≡ len
+    pub passes : fault before (body x) ≡ 0
+    pub same : holds (body x) ≡ x
 
-  pub scan-written : (xs before : List A) (s front : List ℕ) (turns : ℕ) → s ≡ front ++ each (λ x. field tag (body x)) xs → length s ≤ length front + turns
-      → Readable before xs → scan s tag len fault holds turns (length front) before ≡ stopped (before ++ xs) 0 0
-  scan-written [] before s front turns e h r =
-      let l : length s ≤ length front = omega (arith, ap length (e ∙ append-nil front)) in
-      scan-absent s tag len fault holds turns (length front) before (field-absent s (length front) tag len l)
-      ∙ ap (λ (l : List A). stopped l 0 0) (sym (append-nil before))
-  scan-written (x ∷ xs) before s front turns e h r =
-      let behind = each (λ x. field tag (body x)) xs in
-      let n = r .0 in
-      let here : Whole (length front + 3) (length front + 3 + len) ≡ fieldAt s (length front) tag len = rw (e, ← n) (fieldAt-written front (body x) behind tag) in
-      let got : part s (length front + 3) (length front + 3 + len) ≡ body x = rw (e, ← n) (part-written front (body x) behind tag) in
-      let next : length (front ++ field tag (body x)) ≡ length front + 3 + len = omega (arith, length-append front (field tag (body x))) in
-      let held : holds (part s (length front + 3) (length front + 3 + len)) ≡ x = ap holds got ∙ r .2 in
-      scan-step s tag len fault holds turns (length front) before (length front + 3) (length front + 3 + len) h here (ap (fault before) got ∙ r .1)
-      ∙ ap₂ (λ (k : ℕ) (y : A). scan s tag len fault holds (pred turns) k (before ++ y ∷ [])) (sym next) held
-      ∙ scan-written xs (before ++ x ∷ []) s (front ++ field tag (body x)) (pred turns) (e ∙ sym (append-assoc front (field tag (body x)) behind)) (omega (arith, next)) (r .3)
-      ∙ ap (λ (l : List A). stopped l 0 0) (append-assoc before (x ∷ []) xs)
+  abbrev written : List A → List ℕ
+  written xs = each (λ x. field tag (body x)) xs
+
+  module _ (all : List A) (reads : (before : List A) (x : A) (rest : List A) → all ≡ before ++ x ∷ rest → Reads before x) (s : List ℕ) where
+    -- from any member on
+    rest-written : (rest before : List A) (front : List ℕ) (turns : ℕ) → all ≡ before ++ rest → s ≡ front ++ written rest → length s ≤ length front + turns
+        → scan s tag len fault holds turns (length front) before ≡ stopped all 0 0
+    rest-written [] before front turns split e h =
+        let l : length s ≤ length front = omega (arith, ap length (e ∙ append-nil front)) in
+        scan-absent s tag len fault holds turns (length front) before (field-absent s (length front) tag len l)
+        ∙ ap (λ (l : List A). stopped l 0 0) (sym (split ∙ append-nil before))
+    rest-written (x ∷ rest) before front turns split e h =
+        let r = reads before x rest split in
+        let n = r .long in
+        let here : Whole (length front + 3) (length front + 3 + len) ≡ fieldAt s (length front) tag len = rw (e, ← n) (fieldAt-written front (body x) (written rest) tag) in
+        let got : part s (length front + 3) (length front + 3 + len) ≡ body x = rw (e, ← n) (part-written front (body x) (written rest) tag) in
+        let next : length (front ++ field tag (body x)) ≡ length front + 3 + len = omega (arith, length-append front (field tag (body x))) in
+        scan-step s tag len fault holds turns (length front) before (length front + 3) (length front + 3 + len) h here (ap (fault before) got ∙ r .passes)
+        ∙ ap₂ (λ (k : ℕ) (y : A). scan s tag len fault holds (pred turns) k (before ++ y ∷ [])) (sym next) (ap holds got ∙ r .same)
+        ∙ rest-written rest (before ++ x ∷ []) (front ++ field tag (body x)) (pred turns) (split ∙ sym (append-assoc before (x ∷ []) rest))
+        (e ∙ sym (append-assoc front (field tag (body x)) (written rest))) (omega (arith, next))
+
+    pub scan-written : (front : List ℕ) → s ≡ front ++ written all → scan s tag len fault holds (length s) (length front) [] ≡ stopped all 0 0
+    scan-written front e = rest-written all [] front (length s) refl e (omega arith)

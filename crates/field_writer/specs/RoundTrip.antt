@@ -1,0 +1,148 @@
+-- Every chart and every diagram within the limits is read back from its file.
+-- Assumes nothing.
+use Prim.Native.Nat.{ℕ, _+_, _-_, _*_, _/_, _%_, _≤_, _<_}
+use mathlib.Core.Path.{_≡_, refl, sym, _∙_, ap, ap₂}
+use mathlib.Core.Bool.{true, not}
+use mathlib.Core.List.{List, [], _∷_, _++_}
+use native.Mathlib.Omega.{arith}
+use lib.ListN.{length, getD, length-append, List·getD-append, List·getD-eq-default}
+use lib.Seq.{getD-at}
+use lib.Dec.{leb, ltb, eqb}
+use borrow.Author.Tests.{lt-ltb, le-ltb, lt-leb}
+use Rattle.definitions.specs.Basics.{pick, each}
+use Rattle.definitions.specs.Fields.{two, four, fieldAt, onField, stopped}
+use Rattle.definitions.specs.Charts.{Chart, ChartStep, noStep, headFault, stepFault, stepOf, stepFaultAfter, lastFrom, scanSteps, readChart}
+use Rattle.definitions.specs.Diagrams.{InnerNode, Diagram, noNode, inner, childFits, nodeFault, nodeOf, nodeFaultAfter, scanNodes, readDiagram}
+use Rattle.definitions.specs.Limits.{Valid, Sound}
+use Rattle.definitions.specs.Marked.{st, nd}
+use Rattle.definitions.specs.Plans.{graph}
+use Rattle.definitions.specs.declared.Field.{Field}
+use Rattle.definitions.specs.declared.Field.the-variants.{Whole}
+use Rattle.theory.specs.Basics.{pick-false, either, lt-or-le}
+use Rattle.fields.specs.Choices.{tests}
+use Rattle.field_writer.specs.Bytes.{le2, field, headBody, stepBody, stepBytes, chartBytes, headBytes, nodeBody, nodeBytes, rootBytes, diagramBytes}
+use Rattle.field_writer.specs.Scanned.{fieldAt-written, Reads, scan-written}
+
+-- ---- numbers, and a member of a list with those before and behind it
+
+le2-back : (n : ℕ) → n % 256 + 256 * (n / 256) ≡ n
+le2-back n = omega arith
+
+le4-back : (n : ℕ) → n % 65536 % 256 + 256 * (n % 65536 / 256) + 65536 * (n / 65536 % 256 + 256 * (n / 65536 / 256)) ≡ n
+le4-back n = omega arith
+
+module _ {A : Type 0} {all : List A} (before : List A) (x : A) (rest : List A) (split : all ≡ before ++ x ∷ rest) (d : A) where
+  count : length before < length all
+  count = omega (arith, ap length split, length-append before (x ∷ rest))
+
+  own : (k : ℕ) → length before ≡ k → getD all k d ≡ x
+  own k e = ap (λ (l : List A). getD l k d) split ∙ getD-at before x rest d k e
+
+  earlier : (k : ℕ) → k < length before → getD all k d ≡ getD before k d
+  earlier k h = ap (λ (l : List A). getD l k d) split ∙ List·getD-append before (x ∷ rest) d k h
+
+-- ---- charts
+
+head-passes : (b : List ℕ) → 1 ≤ two b 0 → two b 0 ≤ 256 → two b 2 < two b 0 → two b 4 < two b 0 → headFault b ≡ 0
+unfolding headFault pick
+head-passes b h i j k = let n : two b 0 ≡ 0 → ⊥ = λ e. omega arith in simp tests
+
+step-passes : (stages last count : ℕ) (b : List ℕ) → count < 1024 → two b 0 < two b 2 → two b 2 < stages → last ≤ two b 0 → four b 4 ≤ 1000000 → stepFault stages last count b ≡ 0
+unfolding stepFault pick
+step-passes stages last count b h i j k l = simp tests
+
+same-step : (x : ChartStep) → stepOf (stepBody x) ≡ x
+same-step x = λ i. st (le2-back (x .from) i) (le2-back (x .to) i) (le4-back (x .cost) i)
+
+module _ (c : Chart) (v : Valid (graph c)) where
+  module _ (before : List ChartStep) (x : ChartStep) (rest : List ChartStep) (split : c .steps ≡ before ++ x ∷ rest) where
+    abbrev k : ℕ
+    k = length before
+
+    inside : k < length (c .steps)
+    inside = count before x rest split noStep
+
+    from-is : graph c .from k ≡ x .from
+    from-is = ap (λ (y : ChartStep). y .from) (own before x rest split noStep k refl)
+
+    rises : lastFrom before ≤ x .from
+    rises =
+        either (lt-or-le 0 k)
+        (λ h. omega (arith, v .sorted (k - 1) k (omega arith) inside, from-is, ap (λ (y : ChartStep). y .from) (earlier before x rest split noStep (k - 1) (omega arith))))
+        (λ h. omega (arith, ap (λ (y : ChartStep). y .from) (List·getD-eq-default before noStep {n = k - 1} (omega arith))))
+
+    step-reads : Reads 2 8 (stepFaultAfter (c .stages)) stepOf stepBody before x
+    step-reads =
+        let y = own before x rest split noStep k refl in
+        let t = ap (λ (y : ChartStep). y .to) y in
+        let m = ap (λ (y : ChartStep). y .cost) y in
+        record {
+          long = refl;
+          passes =
+              step-passes (c .stages) (lastFrom before) k (stepBody x) (omega (arith, v .few, inside)) (omega (arith, v .forward k inside, from-is))
+              (omega (arith, v .inside k inside)) (omega (arith, rises)) (omega (arith, v .cheap k inside));
+          same = same-step x;
+        }
+
+  pub chart-read-back : readChart (chartBytes c) ≡ record { number = 0; place = 0; chart = c }
+  unfolding readChart onField pick
+  chart-read-back =
+      let b = headBody (c .stages) (c .start) (c .end) in
+      let head : Whole 3 9 ≡ fieldAt (chartBytes c) 0 1 6 = fieldAt-written [] b (each stepBytes (c .steps)) 1 in
+      let good : headFault b ≡ 0 = head-passes b (omega (arith, v .some-stages)) (omega (arith, v .few-stages)) (omega (arith, v .start-inside)) (omega (arith, v .end-inside)) in
+      let steps : scanSteps (chartBytes c) (c .stages) 9 ≡ stopped (c .steps) 0 0
+      = scan-written 2 8 (stepFaultAfter (c .stages)) stepOf stepBody (c .steps) step-reads (chartBytes c) (headBytes (c .stages) (c .start) (c .end)) refl in
+      rw (← head, good, le2-back (c .stages), le2-back (c .start), le2-back (c .end), steps)
+
+-- ---- diagrams
+
+-- a body's three numbers may be those of a node
+node-passes : (steps count step lo hi : ℕ) (stepAt : ℕ → ℕ) (b : List ℕ) → two b 0 ≡ step → two b 2 ≡ lo → two b 4 ≡ hi → count < 510 → step < steps
+    → childFits stepAt (count + 2) step lo ≡ true → childFits stepAt (count + 2) step hi ≡ true → nodeFault steps stepAt count b ≡ 0
+unfolding nodeFault pick
+node-passes steps count step lo hi stepAt b e f g few exists l h = rw (e, f, g, l, h, lt-leb 510 count few, lt-leb steps step exists)
+
+same-node : (x : InnerNode) → nodeOf (nodeBody x) ≡ x
+same-node x = λ i. nd (le2-back (x .step) i) (le2-back (x .lo) i) (le2-back (x .hi) i)
+
+module _ (steps : ℕ) (d : Diagram) (p : Sound steps d) where
+  module _ (before : List InnerNode) (x : InnerNode) (rest : List InnerNode) (split : d .nodes ≡ before ++ x ∷ rest) where
+    abbrev n : ℕ
+    n = length before + 2
+
+    node-own : inner d n ≡ x
+    node-own = own before x rest split noNode (n - 2) (omega arith)
+
+    abbrev stepAt : ℕ → ℕ
+    stepAt r = getD before (r - 2) noNode .step
+
+    child : (r : ℕ) → r < n → (2 ≤ r → x .step < inner d r .step) → childFits stepAt n (x .step) r ≡ true
+    child r l f =
+        rw (lt-ltb r n l)
+        (either (lt-or-le r 2) (λ h. rw (lt-ltb r 2 h))
+        (λ h. rw (le-ltb r 2 h)
+        (lt-ltb (x .step) (stepAt r) (omega (arith, f h, ap (λ (y : InnerNode). y .step) (earlier before x rest split noNode (r - 2) (omega arith)))))))
+
+    node-reads : Reads 18 6 (nodeFaultAfter steps) nodeOf nodeBody before x
+    node-reads =
+        let o = p .ordered in
+        let y = node-own in
+        let fits = count before x rest split noNode in
+        let two-up : 2 ≤ n = omega arith in
+        record {
+          long = refl;
+          passes =
+              node-passes steps (length before) (x .step) (x .lo) (x .hi) stepAt (nodeBody x) (le2-back (x .step)) (le2-back (x .lo)) (le2-back (x .hi)) (omega (arith, p .few))
+              (omega (arith, p .exist n two-up (omega arith), ap (λ (y : InnerNode). y .step) y))
+              (child (x .lo) (omega (arith, o .lo-below n two-up, ap (λ (y : InnerNode). y .lo) y)) (rw y at (o .lo-later n two-up)))
+              (child (x .hi) (omega (arith, o .hi-below n two-up, ap (λ (y : InnerNode). y .hi) y)) (rw y at (o .hi-later n two-up)));
+          same = same-node x;
+        }
+
+  pub diagram-read-back : readDiagram (diagramBytes d) steps ≡ record { number = 0; place = 0; diagram = d }
+  unfolding readDiagram onField pick
+  diagram-read-back =
+      let head : Whole 3 5 ≡ fieldAt (diagramBytes d) 0 17 2 = fieldAt-written [] (le2 (d .root)) (each nodeBytes (d .nodes)) 17 in
+      let nodes : scanNodes (diagramBytes d) steps 5 ≡ stopped (d .nodes) 0 0
+      = scan-written 18 6 (nodeFaultAfter steps) nodeOf nodeBody (d .nodes) node-reads (diagramBytes d) (rootBytes (d .root)) refl in
+      rw (← head, le2-back (d .root), nodes, lt-leb (length (d .nodes) + 2) (d .root) (p .root-inside))
