@@ -1,11 +1,15 @@
 // A writer of tagged fields: numbers, headers and the fields of charts and diagrams, each at a place of a lent buffer. Each function returns the place behind
 // what it wrote. The caller tests first that all of a file has room.
+ghost use mathlib.Core.Path.{_≡_};
 ghost use mathlib.Core.List.{[], _∷_};
-ghost use Prim.Native.Nat.{_+_, _≤_, _<_};
+ghost use Prim.Native.Nat.{_+_, _*_, _≤_, _<_};
 ghost use lib.ListN.{length};
+ghost use Rattle.definitions.specs.Basics.{each};
 ghost use Rattle.definitions.specs.Marked.{st, nd};
 ghost use Rattle.field_writer.specs.Bytes.{le2, le4, header, headBytes, stepBytes, rootBytes, nodeBytes};
+ghost use Rattle.field_writer.specs.Files.{fileAnswer};
 ghost use Rattle.field_writer.specs.Written.{Written};
+use definitions::Answer;
 use definitions::Node;
 use definitions::Stage;
 use definitions::Step;
@@ -35,6 +39,20 @@ pub fn write_u32(out: &mut [u8], at: usize, n: u32) -> usize
 {
     let high = write_u16(out, at, (n % 65536) as u16);
     write_u16(out, high, (n / 65536) as u16)
+}
+
+// Numbers in two bytes each.
+pub fn write_numbers(out: &mut [u8], at: usize, numbers: &[u16]) -> usize
+    requires { ⌜ at + 2 * length (now numbers) ≤ length (now out) ⌝ }
+    ensures { λ r. ⌜ Written (now (out .entry)) at (each le2 (now (numbers .entry))) (now (out .exit)) r ⌝ }
+{
+    let mut end = at;
+    let mut i: usize = 0;
+    while i < numbers.len() {
+        end = write_u16(out, end, numbers[i]);
+        i += 1;
+    }
+    end
 }
 
 // A field's tag and the length of its body.
@@ -86,4 +104,28 @@ pub fn write_node(out: &mut [u8], at: usize, step: Step, lo: Node, hi: Node) -> 
     let low = write_u16(out, body, step.0);
     let high = write_u16(out, low, lo.0);
     write_u16(out, high, hi.0)
+}
+
+// The answer of a call that writes a file of so many bytes into a buffer of `room` bytes: 7 where the buffer is too short.
+pub fn file_answer(bytes: usize, room: usize) -> Answer
+    ensures { λ r. ⌜ r ≡ fileAnswer bytes room ⌝ }
+{
+    if room < bytes {
+        return Answer {
+            number: 7,
+            file: 0,
+            place: 0,
+            cost: 0,
+            length: 0,
+            count: 0,
+        };
+    }
+    Answer {
+        number: 0,
+        file: 0,
+        place: 0,
+        cost: 0,
+        length: bytes,
+        count: 0,
+    }
 }

@@ -1,0 +1,58 @@
+-- What a call answers that writes a file into a lent buffer, after every other check, and what the buffer then holds.
+-- Assumes nothing.
+use Prim.Native.Nat.{ℕ, _+_, _≤_, _<_}
+use mathlib.Core.Path.{_≡_, sym, _∙_, ap}
+use mathlib.Core.List.{List, _++_}
+use native.Mathlib.Omega.{arith}
+use lib.Dec.{ltb}
+use lib.ListN.{length, drop}
+use borrow.Author.Tests.{lt-ltb, le-ltb}
+use Rattle.definitions.specs.Answers.{refusal, accepted}
+use Rattle.definitions.specs.Basics.{pick}
+use Rattle.definitions.specs.declared.Answer.{Answer}
+use Rattle.theory.specs.Basics.{pick-true, pick-false, either, lt-or-le}
+use Rattle.field_writer.specs.Written.{Written, written-front}
+
+-- the length is the file's bytes; a buffer of fewer is 7
+unfoldable pub fileAnswer : ℕ → ℕ → Answer
+fileAnswer bytes room = pick (ltb room bytes) (refusal 7 0 0 0) (accepted 0 bytes 0)
+
+-- the file stands at the buffer's front, and the rest stays; a buffer that is too short stays as it was
+unfoldable pub fileBuffer : List ℕ → List ℕ → List ℕ
+fileBuffer file out = pick (ltb (length out) (length file)) out (file ++ drop (length file) out)
+
+-- the buffer before and after (out′), and the answer
+pub record Filed (file out out′ : List ℕ) (r : Answer) : Type 0 where
+  pub answer : r ≡ fileAnswer (length file) (length out)
+  pub buffer : out′ ≡ fileBuffer file out
+
+module _ (bytes room : ℕ) where
+  pub answer-short : room < bytes → refusal 7 0 0 0 ≡ fileAnswer bytes room
+  unfolding fileAnswer
+  answer-short h = sym (pick-true _ _ _ (lt-ltb room bytes h))
+
+  pub answer-whole : bytes ≤ room → accepted 0 bytes 0 ≡ fileAnswer bytes room
+  unfolding fileAnswer
+  answer-whole h = sym (pick-false _ _ _ (le-ltb room bytes h))
+
+  -- by the answer's number
+  pub answer-room : fileAnswer bytes room .number ≡ 0 → bytes ≤ room
+  answer-room e = either (lt-or-le room bytes) (λ h. absurd (omega (arith, ap (λ (a : Answer). a .number) (answer-short h)))) (λ h. h)
+
+  answer-less : (fileAnswer bytes room .number ≡ 0 → ⊥) → room < bytes
+  answer-less n = either (lt-or-le room bytes) (λ h. h) (λ h. absurd (n (sym (ap (λ (a : Answer). a .number) (answer-whole h)))))
+
+-- A call with this answer: refused, it has left the buffer as it was; else it has written the file to the buffer's front
+module _ (file out : List ℕ) (r : Answer) (given : r ≡ fileAnswer (length file) (length out)) where
+  pub filed-none : (r .number ≡ 0 → ⊥) → Filed file out out r
+  unfolding fileBuffer
+  filed-none n =
+      let less = answer-less (length file) (length out) (λ e. n (ap (λ (a : Answer). a .number) given ∙ e)) in
+      record { answer = given; buffer = sym (pick-true _ _ _ (lt-ltb (length out) (length file) less)) }
+
+  pub filed-whole : (out′ : List ℕ) (end : ℕ) → Written out 0 file out′ end → Filed file out out′ r
+  unfolding fileBuffer
+  filed-whole out′ end w = record {
+    answer = given;
+    buffer = written-front w ∙ sym (pick-false _ _ _ (le-ltb (length out) (length file) (omega (arith, w .end, w .room))));
+  }
