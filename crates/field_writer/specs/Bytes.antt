@@ -22,30 +22,30 @@ abbrev pub field : ℕ → List ℕ → List ℕ
 field tag body = header tag (length body) ++ body
 
 -- a chart's head (tag 1): stage count, start, end; a step (tag 2): from, to, cost
-abbrev pub headBody : ℕ → ℕ → ℕ → List ℕ
-headBody stages start end = le2 stages ++ le2 start ++ le2 end
+abbrev pub bodyOfHead : ℕ → ℕ → ℕ → List ℕ
+bodyOfHead stages start end = le2 stages ++ le2 start ++ le2 end
 
-abbrev pub stepBody : ChartStep → List ℕ
-stepBody x = le2 (x .from) ++ le2 (x .to) ++ le4 (x .cost)
+abbrev pub bodyOfStep : ChartStep → List ℕ
+bodyOfStep x = le2 (x .from) ++ le2 (x .to) ++ le4 (x .cost)
 
 abbrev pub headBytes : ℕ → ℕ → ℕ → List ℕ
-headBytes stages start end = field 1 (headBody stages start end)
+headBytes stages start end = field 1 (bodyOfHead stages start end)
 
 abbrev pub stepBytes : ChartStep → List ℕ
-stepBytes x = field 2 (stepBody x)
+stepBytes x = field 2 (bodyOfStep x)
 
 abbrev pub chartBytes : Chart → List ℕ
 chartBytes c = headBytes (c .stages) (c .start) (c .end) ++ each stepBytes (c .steps)
 
 -- a diagram's head (tag 11, hexadecimal): the root; an inner node (tag 12): step, lo, hi
-abbrev pub nodeBody : InnerNode → List ℕ
-nodeBody x = le2 (x .step) ++ le2 (x .lo) ++ le2 (x .hi)
+abbrev pub bodyOfNode : InnerNode → List ℕ
+bodyOfNode x = le2 (x .step) ++ le2 (x .lo) ++ le2 (x .hi)
 
 abbrev pub rootBytes : ℕ → List ℕ
 rootBytes root = field 17 (le2 root)
 
 abbrev pub nodeBytes : InnerNode → List ℕ
-nodeBytes x = field 18 (nodeBody x)
+nodeBytes x = field 18 (bodyOfNode x)
 
 abbrev pub diagramBytes : Diagram → List ℕ
 diagramBytes d = rootBytes (d .root) ++ each nodeBytes (d .nodes)

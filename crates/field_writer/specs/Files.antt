@@ -10,7 +10,7 @@ use borrow.Author.Tests.{lt-ltb, le-ltb}
 use Rattle.definitions.specs.Answers.{refusal, accepted}
 use Rattle.definitions.specs.Basics.{pick}
 use Rattle.definitions.specs.declared.Answer.{Answer}
-use Rattle.theory.specs.Basics.{pick-true, pick-false, either, lt-or-le}
+use Rattle.theory.specs.Basics.{pick-true, pick-false}
 use Rattle.field_writer.specs.Written.{Written, written-front}
 
 -- the length is the file's bytes; a buffer of fewer is 7
@@ -35,24 +35,18 @@ module _ (bytes room : ℕ) where
   unfolding fileAnswer
   answer-whole h = sym (pick-false _ _ _ (le-ltb room bytes h))
 
-  -- by the answer's number
-  pub answer-room : fileAnswer bytes room .number ≡ 0 → bytes ≤ room
-  answer-room e = either (lt-or-le room bytes) (λ h. absurd (omega (arith, ap (λ (a : Answer). a .number) (answer-short h)))) (λ h. h)
+-- a call with this answer, for a file of so many bytes: it leaves a buffer that is too short as it was, or writes the file to the buffer's front
+module _ (file out : List ℕ) (r : Answer) (bytes : ℕ) (long : length file ≡ bytes) (given : r ≡ fileAnswer bytes (length out)) where
+  answer-is : r ≡ fileAnswer (length file) (length out)
+  answer-is = given ∙ ap (λ (n : ℕ). fileAnswer n (length out)) (sym long)
 
-  answer-less : (fileAnswer bytes room .number ≡ 0 → ⊥) → room < bytes
-  answer-less n = either (lt-or-le room bytes) (λ h. h) (λ h. absurd (n (sym (ap (λ (a : Answer). a .number) (answer-whole h)))))
-
--- A call with this answer: refused, it has left the buffer as it was; else it has written the file to the buffer's front
-module _ (file out : List ℕ) (r : Answer) (given : r ≡ fileAnswer (length file) (length out)) where
-  pub filed-none : (r .number ≡ 0 → ⊥) → Filed file out out r
+  pub filed-short : length out < bytes → Filed file out out r
   unfolding fileBuffer
-  filed-none n =
-      let less = answer-less (length file) (length out) (λ e. n (ap (λ (a : Answer). a .number) given ∙ e)) in
-      record { answer = given; buffer = sym (pick-true _ _ _ (lt-ltb (length out) (length file) less)) }
+  filed-short h = record { answer = answer-is; buffer = sym (pick-true _ _ _ (lt-ltb (length out) (length file) (omega arith))) }
 
   pub filed-whole : (out′ : List ℕ) (end : ℕ) → Written out 0 file out′ end → Filed file out out′ r
   unfolding fileBuffer
   filed-whole out′ end w = record {
-    answer = given;
+    answer = answer-is;
     buffer = written-front w ∙ sym (pick-false _ _ _ (le-ltb (length out) (length file) (omega (arith, w .end, w .room))));
   }

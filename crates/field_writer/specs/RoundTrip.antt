@@ -1,4 +1,4 @@
--- Every chart and every diagram within the limits is read back from its file.
+-- Every chart and every diagram within the limits has a file of bytes, and is read back from it.
 -- Assumes nothing.
 use Prim.Native.Nat.{ℕ, _+_, _-_, _*_, _/_, _%_, _≤_, _<_}
 use mathlib.Core.Path.{_≡_, refl, sym, _∙_, ap, ap₂}
@@ -20,7 +20,8 @@ use Rattle.definitions.specs.declared.Field.{Field}
 use Rattle.definitions.specs.declared.Field.the-variants.{Whole}
 use Rattle.theory.specs.Basics.{pick-false, either, lt-or-le}
 use Rattle.fields.specs.Choices.{tests}
-use Rattle.field_writer.specs.Bytes.{le2, field, headBody, stepBody, stepBytes, chartBytes, headBytes, nodeBody, nodeBytes, rootBytes, diagramBytes}
+use Rattle.field_writer.specs.Bytes.{le2, le4, bodyOfHead, bodyOfStep, stepBytes, chartBytes, headBytes, bodyOfNode, nodeBytes, rootBytes, diagramBytes}
+use Rattle.field_writer.specs.Sizes.{AllBytes, append-bytes, le2-bytes, le4-bytes, field-bytes, each-bytes}
 use Rattle.field_writer.specs.Scanned.{fieldAt-written, Reads, scan-written}
 
 -- ---- numbers, and a member of a list with those before and behind it
@@ -41,6 +42,9 @@ module _ {A : Type 0} {all : List A} (before : List A) (x : A) (rest : List A) (
   earlier : (k : ℕ) → k < length before → getD all k d ≡ getD before k d
   earlier k h = ap (λ (l : List A). getD l k d) split ∙ List·getD-append before (x ∷ rest) d k h
 
+three-bytes : (a b c : ℕ) → a < 65536 → b < 65536 → c < 65536 → AllBytes (le2 a ++ le2 b ++ le2 c)
+three-bytes a b c h i j = append-bytes (le2 a) (le2 b ++ le2 c) (le2-bytes a h) (append-bytes (le2 b) (le2 c) (le2-bytes b i) (le2-bytes c j))
+
 -- ---- charts
 
 head-passes : (b : List ℕ) → 1 ≤ two b 0 → two b 0 ≤ 256 → two b 2 < two b 0 → two b 4 < two b 0 → headFault b ≡ 0
@@ -51,7 +55,7 @@ step-passes : (stages last count : ℕ) (b : List ℕ) → count < 1024 → two 
 unfolding stepFault pick
 step-passes stages last count b h i j k l = simp tests
 
-same-step : (x : ChartStep) → stepOf (stepBody x) ≡ x
+same-step : (x : ChartStep) → stepOf (bodyOfStep x) ≡ x
 same-step x = λ i. st (le2-back (x .from) i) (le2-back (x .to) i) (le4-back (x .cost) i)
 
 module _ (c : Chart) (v : Valid (graph c)) where
@@ -71,7 +75,7 @@ module _ (c : Chart) (v : Valid (graph c)) where
         (λ h. omega (arith, v .sorted (k - 1) k (omega arith) inside, from-is, ap (λ (y : ChartStep). y .from) (earlier before x rest split noStep (k - 1) (omega arith))))
         (λ h. omega (arith, ap (λ (y : ChartStep). y .from) (List·getD-eq-default before noStep {n = k - 1} (omega arith))))
 
-    step-reads : Reads 2 8 (stepFaultAfter (c .stages)) stepOf stepBody before x
+    step-reads : Reads 2 8 (stepFaultAfter (c .stages)) stepOf bodyOfStep before x
     step-reads =
         let y = own before x rest split noStep k refl in
         let t = ap (λ (y : ChartStep). y .to) y in
@@ -79,19 +83,35 @@ module _ (c : Chart) (v : Valid (graph c)) where
         record {
           long = refl;
           passes =
-              step-passes (c .stages) (lastFrom before) k (stepBody x) (omega (arith, v .few, inside)) (omega (arith, v .forward k inside, from-is))
+              step-passes (c .stages) (lastFrom before) k (bodyOfStep x) (omega (arith, v .few, inside)) (omega (arith, v .forward k inside, from-is))
               (omega (arith, v .inside k inside)) (omega (arith, rises)) (omega (arith, v .cheap k inside));
           same = same-step x;
         }
 
+    small-step : AllBytes (stepBytes x)
+    small-step =
+        let y = own before x rest split noStep k refl in
+        let to-small : x .to < 65536 = omega (arith, v .inside k inside, ap (λ (y : ChartStep). y .to) y, v .few-stages) in
+        let from-small : x .from < 65536 = omega (arith, v .forward k inside, from-is, ap (λ (y : ChartStep). y .to) y) in
+        let cost-small : x .cost < 4294967296 = omega (arith, v .cheap k inside, ap (λ (y : ChartStep). y .cost) y) in
+        field-bytes 2 (bodyOfStep x) (omega arith) (omega arith)
+        (append-bytes (le2 (x .from)) (le2 (x .to) ++ le4 (x .cost)) (le2-bytes (x .from) from-small)
+        (append-bytes (le2 (x .to)) (le4 (x .cost)) (le2-bytes (x .to) to-small) (le4-bytes (x .cost) cost-small)))
+
+  pub chart-all-bytes : AllBytes (chartBytes c)
+  chart-all-bytes =
+      let three = three-bytes (c .stages) (c .start) (c .end) (omega (arith, v .few-stages)) (omega (arith, v .start-inside, v .few-stages)) (omega (arith, v .end-inside, v .few-stages)) in
+      append-bytes (headBytes (c .stages) (c .start) (c .end)) (each stepBytes (c .steps)) (field-bytes 1 (bodyOfHead (c .stages) (c .start) (c .end)) (omega arith) (omega arith) three)
+      (each-bytes stepBytes (c .steps) small-step)
+
   pub chart-read-back : readChart (chartBytes c) ≡ record { number = 0; place = 0; chart = c }
   unfolding readChart onField pick
   chart-read-back =
-      let b = headBody (c .stages) (c .start) (c .end) in
+      let b = bodyOfHead (c .stages) (c .start) (c .end) in
       let head : Whole 3 9 ≡ fieldAt (chartBytes c) 0 1 6 = fieldAt-written [] b (each stepBytes (c .steps)) 1 in
       let good : headFault b ≡ 0 = head-passes b (omega (arith, v .some-stages)) (omega (arith, v .few-stages)) (omega (arith, v .start-inside)) (omega (arith, v .end-inside)) in
       let steps : scanSteps (chartBytes c) (c .stages) 9 ≡ stopped (c .steps) 0 0
-      = scan-written 2 8 (stepFaultAfter (c .stages)) stepOf stepBody (c .steps) step-reads (chartBytes c) (headBytes (c .stages) (c .start) (c .end)) refl in
+      = scan-written 2 8 (stepFaultAfter (c .stages)) stepOf bodyOfStep (c .steps) step-reads (chartBytes c) (headBytes (c .stages) (c .start) (c .end)) refl in
       rw (← head, good, le2-back (c .stages), le2-back (c .start), le2-back (c .end), steps)
 
 -- ---- diagrams
@@ -102,7 +122,7 @@ node-passes : (steps count step lo hi : ℕ) (stepAt : ℕ → ℕ) (b : List �
 unfolding nodeFault pick
 node-passes steps count step lo hi stepAt b e f g few exists l h = rw (e, f, g, l, h, lt-leb 510 count few, lt-leb steps step exists)
 
-same-node : (x : InnerNode) → nodeOf (nodeBody x) ≡ x
+same-node : (x : InnerNode) → nodeOf (bodyOfNode x) ≡ x
 same-node x = λ i. nd (le2-back (x .step) i) (le2-back (x .lo) i) (le2-back (x .hi) i)
 
 module _ (steps : ℕ) (d : Diagram) (p : Sound steps d) where
@@ -123,7 +143,7 @@ module _ (steps : ℕ) (d : Diagram) (p : Sound steps d) where
         (λ h. rw (le-ltb r 2 h)
         (lt-ltb (x .step) (stepAt r) (omega (arith, f h, ap (λ (y : InnerNode). y .step) (earlier before x rest split noNode (r - 2) (omega arith)))))))
 
-    node-reads : Reads 18 6 (nodeFaultAfter steps) nodeOf nodeBody before x
+    node-reads : Reads 18 6 (nodeFaultAfter steps) nodeOf bodyOfNode before x
     node-reads =
         let o = p .ordered in
         let y = node-own in
@@ -132,17 +152,32 @@ module _ (steps : ℕ) (d : Diagram) (p : Sound steps d) where
         record {
           long = refl;
           passes =
-              node-passes steps (length before) (x .step) (x .lo) (x .hi) stepAt (nodeBody x) (le2-back (x .step)) (le2-back (x .lo)) (le2-back (x .hi)) (omega (arith, p .few))
+              node-passes steps (length before) (x .step) (x .lo) (x .hi) stepAt (bodyOfNode x) (le2-back (x .step)) (le2-back (x .lo)) (le2-back (x .hi)) (omega (arith, p .few))
               (omega (arith, p .exist n two-up (omega arith), ap (λ (y : InnerNode). y .step) y))
               (child (x .lo) (omega (arith, o .lo-below n two-up, ap (λ (y : InnerNode). y .lo) y)) (rw y at (o .lo-later n two-up)))
               (child (x .hi) (omega (arith, o .hi-below n two-up, ap (λ (y : InnerNode). y .hi) y)) (rw y at (o .hi-later n two-up)));
           same = same-node x;
         }
 
+    small-node : steps ≤ 1024 → AllBytes (nodeBytes x)
+    small-node few =
+        let o = p .ordered in
+        let y = node-own in
+        let fits = count before x rest split noNode in
+        let two-up : 2 ≤ n = omega arith in
+        field-bytes 18 (bodyOfNode x) (omega arith) (omega arith)
+        (three-bytes (x .step) (x .lo) (x .hi) (omega (arith, p .exist n two-up (omega arith), ap (λ (y : InnerNode). y .step) y))
+        (omega (arith, o .lo-below n two-up, ap (λ (y : InnerNode). y .lo) y, p .few)) (omega (arith, o .hi-below n two-up, ap (λ (y : InnerNode). y .hi) y, p .few)))
+
+  pub diagram-all-bytes : steps ≤ 1024 → AllBytes (diagramBytes d)
+  diagram-all-bytes few =
+      append-bytes (rootBytes (d .root)) (each nodeBytes (d .nodes)) (field-bytes 17 (le2 (d .root)) (omega arith) (omega arith) (le2-bytes (d .root) (omega (arith, p .root-inside, p .few))))
+      (each-bytes nodeBytes (d .nodes) (λ before x rest split. small-node before x rest split few))
+
   pub diagram-read-back : readDiagram (diagramBytes d) steps ≡ record { number = 0; place = 0; diagram = d }
   unfolding readDiagram onField pick
   diagram-read-back =
       let head : Whole 3 5 ≡ fieldAt (diagramBytes d) 0 17 2 = fieldAt-written [] (le2 (d .root)) (each nodeBytes (d .nodes)) 17 in
       let nodes : scanNodes (diagramBytes d) steps 5 ≡ stopped (d .nodes) 0 0
-      = scan-written 18 6 (nodeFaultAfter steps) nodeOf nodeBody (d .nodes) node-reads (diagramBytes d) (rootBytes (d .root)) refl in
+      = scan-written 18 6 (nodeFaultAfter steps) nodeOf bodyOfNode (d .nodes) node-reads (diagramBytes d) (rootBytes (d .root)) refl in
       rw (← head, le2-back (d .root), nodes, lt-leb (length (d .nodes) + 2) (d .root) (p .root-inside))

@@ -49,12 +49,12 @@ module _ {A : Type 0} (tag len : ℕ) (fault : List A → List ℕ → ℕ) (hol
     pub passes : fault before (body x) ≡ 0
     pub same : holds (body x) ≡ x
 
-  abbrev written : List A → List ℕ
-  written xs = each (λ x. field tag (body x)) xs
+  abbrev fieldsOf : List A → List ℕ
+  fieldsOf xs = each (λ x. field tag (body x)) xs
 
   module _ (all : List A) (reads : (before : List A) (x : A) (rest : List A) → all ≡ before ++ x ∷ rest → Reads before x) (s : List ℕ) where
     -- from any member on
-    rest-written : (rest before : List A) (front : List ℕ) (turns : ℕ) → all ≡ before ++ rest → s ≡ front ++ written rest → length s ≤ length front + turns
+    rest-written : (rest before : List A) (front : List ℕ) (turns : ℕ) → all ≡ before ++ rest → s ≡ front ++ fieldsOf rest → length s ≤ length front + turns
         → scan s tag len fault holds turns (length front) before ≡ stopped all 0 0
     rest-written [] before front turns split e h =
         let l : length s ≤ length front = omega (arith, ap length (e ∙ append-nil front)) in
@@ -63,13 +63,13 @@ module _ {A : Type 0} (tag len : ℕ) (fault : List A → List ℕ → ℕ) (hol
     rest-written (x ∷ rest) before front turns split e h =
         let r = reads before x rest split in
         let n = r .long in
-        let here : Whole (length front + 3) (length front + 3 + len) ≡ fieldAt s (length front) tag len = rw (e, ← n) (fieldAt-written front (body x) (written rest) tag) in
-        let got : part s (length front + 3) (length front + 3 + len) ≡ body x = rw (e, ← n) (part-written front (body x) (written rest) tag) in
+        let here : Whole (length front + 3) (length front + 3 + len) ≡ fieldAt s (length front) tag len = rw (e, ← n) (fieldAt-written front (body x) (fieldsOf rest) tag) in
+        let got : part s (length front + 3) (length front + 3 + len) ≡ body x = rw (e, ← n) (part-written front (body x) (fieldsOf rest) tag) in
         let next : length (front ++ field tag (body x)) ≡ length front + 3 + len = omega (arith, length-append front (field tag (body x))) in
         scan-step s tag len fault holds turns (length front) before (length front + 3) (length front + 3 + len) h here (ap (fault before) got ∙ r .passes)
         ∙ ap₂ (λ (k : ℕ) (y : A). scan s tag len fault holds (pred turns) k (before ++ y ∷ [])) (sym next) (ap holds got ∙ r .same)
         ∙ rest-written rest (before ++ x ∷ []) (front ++ field tag (body x)) (pred turns) (split ∙ sym (append-assoc before (x ∷ []) rest))
-        (e ∙ sym (append-assoc front (field tag (body x)) (written rest))) (omega (arith, next))
+        (e ∙ sym (append-assoc front (field tag (body x)) (fieldsOf rest))) (omega (arith, next))
 
-    pub scan-written : (front : List ℕ) → s ≡ front ++ written all → scan s tag len fault holds (length s) (length front) [] ≡ stopped all 0 0
+    pub scan-written : (front : List ℕ) → s ≡ front ++ fieldsOf all → scan s tag len fault holds (length s) (length front) [] ≡ stopped all 0 0
     scan-written front e = rest-written all [] front (length s) refl e (omega arith)

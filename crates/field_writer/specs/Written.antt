@@ -1,13 +1,12 @@
 -- Bytes written into a lent buffer at a place: what stands before and behind them stays. Parts written one behind the other are their bytes joined.
 -- Assumes nothing.
-use Prim.Native.Nat.{ℕ, suc, _+_, _-_, _≤_, _<_}
-use mathlib.Core.Path.{_≡_, refl, sym, _∙_, ap, ap₂, subst}
+use Prim.Native.Nat.{ℕ, _+_, _-_, _≤_, _<_}
+use mathlib.Core.Path.{_≡_, refl, sym, _∙_, ap, ap₂}
 use mathlib.Core.List.{List, [], _∷_, _++_, append-assoc, append-nil}
 use native.Mathlib.Numerals.{add-one}
 use native.Mathlib.Omega.{arith}
-use lib.ListN.{length, getD, set, take, drop, length-append, length-drop, take-append-drop}
-use lib.Seq.{length-take-le, take-at, take-suc, take-all, drop-append-add, drop-drop, append-snoc, set-split}
-use Rattle.definitions.specs.Basics.{each}
+use lib.ListN.{length, set, take, drop, length-append, length-drop, take-append-drop}
+use lib.Seq.{length-take-le, take-at, drop-append-add, drop-drop, append-snoc, set-split}
 
 -- The buffer before and after (out′) the bytes are written from the place `at` on, and the place r behind them
 pub record Written (out : List ℕ) (at : ℕ) (bytes out′ : List ℕ) (r : ℕ) : Type 0 where
@@ -63,23 +62,3 @@ pub written-front : {out bytes out′ : List ℕ} {r : ℕ} → Written out 0 by
 written-front {out} {bytes} {out′} {r} w =
     let e : r ≡ length bytes = omega (arith, w .end) in
     w .held ∙ ap (λ (i : ℕ). bytes ++ drop i out) e
-
--- ---- the members of a list, written one by one
-
-module _ {A : Type 0} (f : A → List ℕ) where
-  each-snoc : (xs : List A) (x : A) → each f (xs ++ x ∷ []) ≡ each f xs ++ f x
-  each-snoc [] x = append-nil (f x)
-  each-snoc (y ∷ xs) x = ap (λ (l : List ℕ). f y ++ l) (each-snoc xs x) ∙ sym (append-assoc (f y) (each f xs) (f x))
-
-  -- after k members the next one
-  pub written-next : (xs : List A) (k : ℕ) (d : A) {out : List ℕ} {at : ℕ} {o : List ℕ} {r : ℕ} {o′ : List ℕ} {r′ : ℕ} → k < length xs
-      → Written out at (each f (take k xs)) o r → Written o r (f (getD xs k d)) o′ r′ → Written out at (each f (take (k + 1) xs)) o′ r′
-  written-next xs k d {out} {at} {o} {r} {o′} {r′} h p q =
-      let more : take (k + 1) xs ≡ take k xs ++ getD xs k d ∷ [] = ap (λ (i : ℕ). take i xs) (add-one k) ∙ take-suc xs k d h in
-      let e : each f (take k xs) ++ f (getD xs k d) ≡ each f (take (k + 1) xs) = sym (ap (each f) more ∙ each-snoc (take k xs) (getD xs k d)) in
-      subst (λ (l : List ℕ). Written out at l o′ r′) e (written-both p q)
-
-  -- all of them
-  pub written-all : (xs : List A) (k : ℕ) {out : List ℕ} {at : ℕ} {o : List ℕ} {r : ℕ} → length xs ≤ k
-      → Written out at (each f (take k xs)) o r → Written out at (each f xs) o r
-  written-all xs k {out} {at} {o} {r} h p = subst (λ (l : List A). Written out at (each f l) o r) (take-all k xs h) p

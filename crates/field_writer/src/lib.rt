@@ -28,8 +28,8 @@ pub fn write_u16(out: &mut [u8], at: usize, n: u16) -> usize
     requires { ⌜ at + 2 ≤ length (now out) ⌝ }
     ensures { λ r. ⌜ Written (now (out .entry)) at (le2 n) (now (out .exit)) r ⌝ }
 {
-    let high = write_u8(out, at, (n % 256) as u8);
-    write_u8(out, high, (n / 256) as u8)
+    let at = write_u8(out, at, (n % 256) as u8);
+    write_u8(out, at, (n / 256) as u8)
 }
 
 // A number in four bytes, low byte first.
@@ -37,8 +37,8 @@ pub fn write_u32(out: &mut [u8], at: usize, n: u32) -> usize
     requires { ⌜ at + 4 ≤ length (now out) ⌝ }
     ensures { λ r. ⌜ Written (now (out .entry)) at (le4 n) (now (out .exit)) r ⌝ }
 {
-    let high = write_u16(out, at, (n % 65536) as u16);
-    write_u16(out, high, (n / 65536) as u16)
+    let at = write_u16(out, at, (n % 65536) as u16);
+    write_u16(out, at, (n / 65536) as u16)
 }
 
 // Numbers in two bytes each.
@@ -60,8 +60,8 @@ pub fn write_header(out: &mut [u8], at: usize, tag: u8, len: u16) -> usize
     requires { ⌜ at + 3 ≤ length (now out) ⌝ }
     ensures { λ r. ⌜ Written (now (out .entry)) at (header tag len) (now (out .exit)) r ⌝ }
 {
-    let length = write_u8(out, at, tag);
-    write_u16(out, length, len)
+    let at = write_u8(out, at, tag);
+    write_u16(out, at, len)
 }
 
 // A chart's head.
@@ -69,10 +69,10 @@ pub fn write_chart_head(out: &mut [u8], at: usize, stages: u16, start: Stage, en
     requires { ⌜ at + 9 ≤ length (now out) ⌝ }
     ensures { λ r. ⌜ Written (now (out .entry)) at (headBytes stages (start .0) (end .0)) (now (out .exit)) r ⌝ }
 {
-    let body = write_header(out, at, 1, 6);
-    let first = write_u16(out, body, stages);
-    let last = write_u16(out, first, start.0);
-    write_u16(out, last, end.0)
+    let at = write_header(out, at, 1, 6);
+    let at = write_u16(out, at, stages);
+    let at = write_u16(out, at, start.0);
+    write_u16(out, at, end.0)
 }
 
 // A step of a chart.
@@ -80,10 +80,10 @@ pub fn write_step(out: &mut [u8], at: usize, from: Stage, to: Stage, cost: u32) 
     requires { ⌜ at + 11 ≤ length (now out) ⌝ }
     ensures { λ r. ⌜ Written (now (out .entry)) at (stepBytes (st (from .0) (to .0) cost)) (now (out .exit)) r ⌝ }
 {
-    let body = write_header(out, at, 2, 8);
-    let next = write_u16(out, body, from.0);
-    let costs = write_u16(out, next, to.0);
-    write_u32(out, costs, cost)
+    let at = write_header(out, at, 2, 8);
+    let at = write_u16(out, at, from.0);
+    let at = write_u16(out, at, to.0);
+    write_u32(out, at, cost)
 }
 
 // A diagram's head.
@@ -91,8 +91,8 @@ pub fn write_diagram_head(out: &mut [u8], at: usize, root: Node) -> usize
     requires { ⌜ at + 5 ≤ length (now out) ⌝ }
     ensures { λ r. ⌜ Written (now (out .entry)) at (rootBytes (root .0)) (now (out .exit)) r ⌝ }
 {
-    let body = write_header(out, at, 17, 2);
-    write_u16(out, body, root.0)
+    let at = write_header(out, at, 17, 2);
+    write_u16(out, at, root.0)
 }
 
 // An inner node of a diagram.
@@ -100,10 +100,10 @@ pub fn write_node(out: &mut [u8], at: usize, step: Step, lo: Node, hi: Node) -> 
     requires { ⌜ at + 9 ≤ length (now out) ⌝ }
     ensures { λ r. ⌜ Written (now (out .entry)) at (nodeBytes (nd (step .0) (lo .0) (hi .0))) (now (out .exit)) r ⌝ }
 {
-    let body = write_header(out, at, 18, 6);
-    let low = write_u16(out, body, step.0);
-    let high = write_u16(out, low, lo.0);
-    write_u16(out, high, hi.0)
+    let at = write_header(out, at, 18, 6);
+    let at = write_u16(out, at, step.0);
+    let at = write_u16(out, at, lo.0);
+    write_u16(out, at, hi.0)
 }
 
 // The answer of a call that writes a file of so many bytes into a buffer of `room` bytes: 7 where the buffer is too short.

@@ -6,7 +6,8 @@ use lib.ListN.{length, take}
 use borrow.Author.Needs.{needs}
 use Rattle.definitions.specs.Basics.{each}
 use Rattle.field_writer.specs.Bytes.{le2}
-use Rattle.field_writer.specs.Written.{Written, written-none, written-next, written-all}
+use Rattle.field_writer.specs.Members.{written-next, written-all}
+use Rattle.field_writer.specs.Written.{Written, written-none}
 use Rattle.field_writer.proofs.write_numbers.Statement.{statement}
 use Rattle.field_writer.proofs.write_numbers.Tie as tie
 use Rattle.field_writer.proofs.write_numbers.Reads as reads
