@@ -1,13 +1,12 @@
 -- Every chart and every diagram within the limits has a file of bytes, and is read back from it.
 -- Assumes nothing.
 use Prim.Native.Nat.{ℕ, _+_, _-_, _*_, _/_, _%_, _≤_, _<_}
-use mathlib.Core.Path.{_≡_, refl, sym, _∙_, ap, ap₂}
-use mathlib.Core.Bool.{true, not}
+use mathlib.Core.Path.{_≡_, refl, _∙_, ap}
+use mathlib.Core.Bool.{true}
 use mathlib.Core.List.{List, [], _∷_, _++_}
 use native.Mathlib.Omega.{arith}
 use lib.ListN.{length, getD, length-append, List·getD-append, List·getD-eq-default}
 use lib.Seq.{getD-at}
-use lib.Dec.{leb, ltb, eqb}
 use borrow.Author.Tests.{lt-ltb, le-ltb, lt-leb}
 use Rattle.definitions.specs.Basics.{pick, each}
 use Rattle.definitions.specs.Fields.{two, four, fieldAt, onField, stopped}
@@ -16,9 +15,8 @@ use Rattle.definitions.specs.Diagrams.{InnerNode, Diagram, noNode, inner, child
 use Rattle.definitions.specs.Limits.{Valid, Sound}
 use Rattle.definitions.specs.Marked.{st, nd}
 use Rattle.definitions.specs.Plans.{graph}
-use Rattle.definitions.specs.declared.Field.{Field}
 use Rattle.definitions.specs.declared.Field.the-variants.{Whole}
-use Rattle.theory.specs.Basics.{pick-false, either, lt-or-le}
+use Rattle.theory.specs.Basics.{either, lt-or-le}
 use Rattle.fields.specs.Choices.{tests}
 use Rattle.field_writer.specs.Bytes.{le2, le4, bodyOfHead, bodyOfStep, stepBytes, chartBytes, headBytes, bodyOfNode, nodeBytes, rootBytes, diagramBytes}
 use Rattle.field_writer.specs.Sizes.{AllBytes, append-bytes, le2-bytes, le4-bytes, field-bytes, each-bytes}
@@ -66,8 +64,20 @@ module _ (c : Chart) (v : Valid (graph c)) where
     inside : k < length (c .steps)
     inside = count before x rest split noStep
 
+    step-is : getD (c .steps) k noStep ≡ x
+    step-is = own before x rest split noStep k refl
+
     from-is : graph c .from k ≡ x .from
-    from-is = ap (λ (y : ChartStep). y .from) (own before x rest split noStep k refl)
+    from-is = ap (λ (y : ChartStep). y .from) step-is
+
+    forward : x .from < x .to
+    forward = omega (arith, v .forward k inside, from-is, ap (λ (y : ChartStep). y .to) step-is)
+
+    to-inside : x .to < c .stages
+    to-inside = omega (arith, v .inside k inside, ap (λ (y : ChartStep). y .to) step-is)
+
+    cheap : x .cost ≤ 1000000
+    cheap = omega (arith, v .cheap k inside, ap (λ (y : ChartStep). y .cost) step-is)
 
     rises : lastFrom before ≤ x .from
     rises =
@@ -76,33 +86,27 @@ module _ (c : Chart) (v : Valid (graph c)) where
         (λ h. omega (arith, ap (λ (y : ChartStep). y .from) (List·getD-eq-default before noStep {n = k - 1} (omega arith))))
 
     step-reads : Reads 2 8 (stepFaultAfter (c .stages)) stepOf bodyOfStep before x
-    step-reads =
-        let y = own before x rest split noStep k refl in
-        let t = ap (λ (y : ChartStep). y .to) y in
-        let m = ap (λ (y : ChartStep). y .cost) y in
-        record {
-          long = refl;
-          passes =
-              step-passes (c .stages) (lastFrom before) k (bodyOfStep x) (omega (arith, v .few, inside)) (omega (arith, v .forward k inside, from-is))
-              (omega (arith, v .inside k inside)) (omega (arith, rises)) (omega (arith, v .cheap k inside));
-          same = same-step x;
-        }
+    step-reads = record {
+      long = refl;
+      passes =
+          step-passes (c .stages) (lastFrom before) k (bodyOfStep x) (omega (arith, v .few, inside)) (omega (arith, forward)) (omega (arith, to-inside)) (omega (arith, rises))
+          (omega (arith, cheap));
+      same = same-step x;
+    }
 
-    small-step : AllBytes (stepBytes x)
-    small-step =
-        let y = own before x rest split noStep k refl in
-        let to-small : x .to < 65536 = omega (arith, v .inside k inside, ap (λ (y : ChartStep). y .to) y, v .few-stages) in
-        let from-small : x .from < 65536 = omega (arith, v .forward k inside, from-is, ap (λ (y : ChartStep). y .to) y) in
-        let cost-small : x .cost < 4294967296 = omega (arith, v .cheap k inside, ap (λ (y : ChartStep). y .cost) y) in
+    step-bytes : AllBytes (stepBytes x)
+    step-bytes =
+        let to-small : x .to < 65536 = omega (arith, to-inside, v .few-stages) in
         field-bytes 2 (bodyOfStep x) (omega arith) (omega arith)
-        (append-bytes (le2 (x .from)) (le2 (x .to) ++ le4 (x .cost)) (le2-bytes (x .from) from-small)
-        (append-bytes (le2 (x .to)) (le4 (x .cost)) (le2-bytes (x .to) to-small) (le4-bytes (x .cost) cost-small)))
+        (append-bytes (le2 (x .from)) (le2 (x .to) ++ le4 (x .cost)) (le2-bytes (x .from) (omega (arith, forward)))
+        (append-bytes (le2 (x .to)) (le4 (x .cost)) (le2-bytes (x .to) to-small) (le4-bytes (x .cost) (omega (arith, cheap)))))
 
   pub chart-all-bytes : AllBytes (chartBytes c)
   chart-all-bytes =
-      let three = three-bytes (c .stages) (c .start) (c .end) (omega (arith, v .few-stages)) (omega (arith, v .start-inside, v .few-stages)) (omega (arith, v .end-inside, v .few-stages)) in
-      append-bytes (headBytes (c .stages) (c .start) (c .end)) (each stepBytes (c .steps)) (field-bytes 1 (bodyOfHead (c .stages) (c .start) (c .end)) (omega arith) (omega arith) three)
-      (each-bytes stepBytes (c .steps) small-step)
+      let few = v .few-stages in
+      let body = three-bytes (c .stages) (c .start) (c .end) (omega arith) (omega (arith, v .start-inside)) (omega (arith, v .end-inside)) in
+      append-bytes (headBytes (c .stages) (c .start) (c .end)) (each stepBytes (c .steps)) (field-bytes 1 (bodyOfHead (c .stages) (c .start) (c .end)) (omega arith) (omega arith) body)
+      (each-bytes stepBytes (c .steps) step-bytes)
 
   pub chart-read-back : readChart (chartBytes c) ≡ record { number = 0; place = 0; chart = c }
   unfolding readChart onField pick
@@ -130,8 +134,23 @@ module _ (steps : ℕ) (d : Diagram) (p : Sound steps d) where
     abbrev n : ℕ
     n = length before + 2
 
-    node-own : inner d n ≡ x
-    node-own = own before x rest split noNode (n - 2) (omega arith)
+    inner-one : 2 ≤ n
+    inner-one = omega arith
+
+    node-is : inner d n ≡ x
+    node-is = own before x rest split noNode (n - 2) (omega arith)
+
+    few-before : length before < 510
+    few-before = omega (arith, count before x rest split noNode, p .few)
+
+    exists : x .step < steps
+    exists = omega (arith, p .exist n inner-one (omega (arith, count before x rest split noNode)), ap (λ (y : InnerNode). y .step) node-is)
+
+    lo-below : x .lo < n
+    lo-below = omega (arith, p .ordered .lo-below n inner-one, ap (λ (y : InnerNode). y .lo) node-is)
+
+    hi-below : x .hi < n
+    hi-below = omega (arith, p .ordered .hi-below n inner-one, ap (λ (y : InnerNode). y .hi) node-is)
 
     abbrev stepAt : ℕ → ℕ
     stepAt r = getD before (r - 2) noNode .step
@@ -144,35 +163,23 @@ module _ (steps : ℕ) (d : Diagram) (p : Sound steps d) where
         (lt-ltb (x .step) (stepAt r) (omega (arith, f h, ap (λ (y : InnerNode). y .step) (earlier before x rest split noNode (r - 2) (omega arith)))))))
 
     node-reads : Reads 18 6 (nodeFaultAfter steps) nodeOf bodyOfNode before x
-    node-reads =
-        let o = p .ordered in
-        let y = node-own in
-        let fits = count before x rest split noNode in
-        let two-up : 2 ≤ n = omega arith in
-        record {
-          long = refl;
-          passes =
-              node-passes steps (length before) (x .step) (x .lo) (x .hi) stepAt (bodyOfNode x) (le2-back (x .step)) (le2-back (x .lo)) (le2-back (x .hi)) (omega (arith, p .few))
-              (omega (arith, p .exist n two-up (omega arith), ap (λ (y : InnerNode). y .step) y))
-              (child (x .lo) (omega (arith, o .lo-below n two-up, ap (λ (y : InnerNode). y .lo) y)) (rw y at (o .lo-later n two-up)))
-              (child (x .hi) (omega (arith, o .hi-below n two-up, ap (λ (y : InnerNode). y .hi) y)) (rw y at (o .hi-later n two-up)));
-          same = same-node x;
-        }
+    node-reads = record {
+      long = refl;
+      passes =
+          node-passes steps (length before) (x .step) (x .lo) (x .hi) stepAt (bodyOfNode x) (le2-back (x .step)) (le2-back (x .lo)) (le2-back (x .hi)) few-before exists
+          (child (x .lo) lo-below (rw node-is at (p .ordered .lo-later n inner-one))) (child (x .hi) hi-below (rw node-is at (p .ordered .hi-later n inner-one)));
+      same = same-node x;
+    }
 
-    small-node : steps ≤ 1024 → AllBytes (nodeBytes x)
-    small-node few =
-        let o = p .ordered in
-        let y = node-own in
-        let fits = count before x rest split noNode in
-        let two-up : 2 ≤ n = omega arith in
+    node-bytes : steps ≤ 1024 → AllBytes (nodeBytes x)
+    node-bytes few =
         field-bytes 18 (bodyOfNode x) (omega arith) (omega arith)
-        (three-bytes (x .step) (x .lo) (x .hi) (omega (arith, p .exist n two-up (omega arith), ap (λ (y : InnerNode). y .step) y))
-        (omega (arith, o .lo-below n two-up, ap (λ (y : InnerNode). y .lo) y, p .few)) (omega (arith, o .hi-below n two-up, ap (λ (y : InnerNode). y .hi) y, p .few)))
+        (three-bytes (x .step) (x .lo) (x .hi) (omega (arith, exists)) (omega (arith, lo-below, few-before)) (omega (arith, hi-below, few-before)))
 
   pub diagram-all-bytes : steps ≤ 1024 → AllBytes (diagramBytes d)
   diagram-all-bytes few =
       append-bytes (rootBytes (d .root)) (each nodeBytes (d .nodes)) (field-bytes 17 (le2 (d .root)) (omega arith) (omega arith) (le2-bytes (d .root) (omega (arith, p .root-inside, p .few))))
-      (each-bytes nodeBytes (d .nodes) (λ before x rest split. small-node before x rest split few))
+      (each-bytes nodeBytes (d .nodes) (λ before x rest split. node-bytes before x rest split few))
 
   pub diagram-read-back : readDiagram (diagramBytes d) steps ≡ record { number = 0; place = 0; diagram = d }
   unfolding readDiagram onField pick

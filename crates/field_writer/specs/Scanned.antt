@@ -1,6 +1,6 @@
 -- A field that is written is found, and fields of one kind that are written one behind the other are scanned back: for every tag, body and judgement.
 -- Assumes nothing.
-use Prim.Native.Nat.{ℕ, pred, _+_, _-_, _≤_, _<_}
+use Prim.Native.Nat.{ℕ, pred, _+_, _-_, _≤_}
 use mathlib.Core.Path.{_≡_, refl, sym, _∙_, ap, ap₂}
 use mathlib.Core.List.{List, [], _∷_, _++_, append-assoc, append-nil}
 use native.Mathlib.Omega.{arith}
@@ -8,11 +8,10 @@ use lib.ListN.{length, getD, take, length-append}
 use lib.Seq.{getD-append-seam, getD-append-add, drop-append-add, take-append-seam}
 use Rattle.definitions.specs.Basics.{each}
 use Rattle.definitions.specs.Fields.{two, part, fieldAt, scan, stopped}
-use Rattle.definitions.specs.declared.Field.{Field}
 use Rattle.definitions.specs.declared.Field.the-variants.{Whole}
 use Rattle.fields.specs.Positions.{field-absent, field-whole}
 use Rattle.fields.specs.Scans.{scan-absent, scan-step}
-use Rattle.field_writer.specs.Bytes.{le2, header, field}
+use Rattle.field_writer.specs.Bytes.{le2, field}
 
 -- ---- one field, with bytes before it and behind it
 

@@ -1,7 +1,6 @@
 -- `field_writer::write_numbers` meets its contract.
 use Prim.Native.Nat.{_+_, _-_, _*_, _≤_}
 use mathlib.Core.Path.{_≡_, refl}
-use native.Mathlib.Omega.{arith}
 use lib.ListN.{length, take}
 use borrow.Author.Needs.{needs}
 use Rattle.definitions.specs.Basics.{each}
