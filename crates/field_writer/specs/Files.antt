@@ -1,16 +1,17 @@
 -- What a call answers that writes a file into a lent buffer, after every other check, and what the buffer then holds.
 -- Assumes nothing.
-use Prim.Native.Nat.{ℕ, _+_, _≤_, _<_}
-use mathlib.Core.Path.{_≡_, sym, _∙_, ap}
+use Prim.Native.Nat.{ℕ, _≤_, _<_}
+use mathlib.Core.Path.{_≡_, sym, _∙_, ap, ap₂}
 use mathlib.Core.List.{List, _++_}
 use native.Mathlib.Omega.{arith}
 use lib.Dec.{ltb}
-use lib.ListN.{length, drop}
+use lib.ListN.{length, take, drop}
+use lib.Seq.{take-append-seam}
 use borrow.Author.Tests.{lt-ltb, le-ltb}
 use Rattle.definitions.specs.Answers.{refusal, accepted}
 use Rattle.definitions.specs.Basics.{pick}
 use Rattle.definitions.specs.declared.Answer.{Answer}
-use Rattle.theory.specs.Basics.{pick-true, pick-false}
+use Rattle.theory.specs.Basics.{pick-true, pick-false, either, lt-or-le}
 use Rattle.field_writer.specs.Written.{Written, written-front}
 
 -- the length is the file's bytes; a buffer of fewer is 7
@@ -50,3 +51,14 @@ module _ (file out : List ℕ) (r : Answer) (bytes : ℕ) (long : length file �
     answer = answer-is;
     buffer = written-front w ∙ sym (pick-false _ _ _ (le-ltb (length out) (length file) (omega (arith, w .end, w .room))));
   }
+
+-- where such a call is accepted, the file stands in the buffer's first bytes, as many as the answer's length
+pub filed-back : (file out out′ : List ℕ) (r : Answer) → Filed file out out′ r → r .number ≡ 0 → take (r .length) out′ ≡ file
+unfolding fileBuffer
+filed-back file out out′ r p e =
+    either (lt-or-le (length out) (length file))
+    (λ h. let short = p .answer ∙ sym (answer-short (length file) (length out) h) in absurd (omega (arith, ap (λ (a : Answer). a .number) short)))
+    (λ h.
+    let whole = p .answer ∙ sym (answer-whole (length file) (length out) h) in
+    let there : out′ ≡ file ++ drop (length file) out = p .buffer ∙ pick-false _ _ _ (le-ltb (length out) (length file) h) in
+    ap₂ take (ap (λ (a : Answer). a .length) whole) there ∙ take-append-seam file (drop (length file) out))

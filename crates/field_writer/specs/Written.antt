@@ -8,7 +8,7 @@ use native.Mathlib.Omega.{arith}
 use lib.ListN.{length, set, take, drop, length-append, length-drop, take-append-drop}
 use lib.Seq.{length-take-le, take-at, drop-append-add, drop-drop, append-snoc, set-split}
 
--- The buffer before and after (out′) the bytes are written from the place `at` on, and the place r behind them
+-- The buffer before and after (out′) the bytes are written from the place `at` on, and the place r behind them: what stands before `at` and from r on stays
 pub record Written (out : List ℕ) (at : ℕ) (bytes out′ : List ℕ) (r : ℕ) : Type 0 where
   pub end : r ≡ at + length bytes
   pub room : r ≤ length out
