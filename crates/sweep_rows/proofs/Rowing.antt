@@ -51,7 +51,7 @@ module _ (z : Shape) (on : Walk) where
     pub small-stage : (s : ℕ) → s < z .stages → s < 256
     small-stage s h = omega (arith, few-stages z (on .read) (y .tables))
 
-    pub base-at : (s base : ℕ) → s < z .stages → base ≡ getD row s 0 → base ≡ s * w
+    base-at : (s base : ℕ) → s < z .stages → base ≡ getD row s 0 → base ≡ s * w
     base-at s base h e =
         e ∙ row-start z on y s h ∙ ap (λ (k : ℕ). s * k) (sym (width-is z (on .read) (y .tables)))
 

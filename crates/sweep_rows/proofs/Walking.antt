@@ -119,7 +119,7 @@ module _ {z : Shape} {on : Walk} {s n v begin until : ℕ} {r₀ r : Rows} {e m 
       cost-is = cost-at z (on .read) tables e (leaving .0)
 
       -- what the code does is the model's step
-      pub stepped-is : stepped (on .read .steps) row e n v t r ≡ relaxStep g a n v e r
+      stepped-is : stepped (on .read .steps) row e n v t r ≡ relaxStep g a n v e r
       unfolding stepped relaxStep
       stepped-is =
           ap (λ (i : ℕ). pick (eqb i 0) r (offer (getD row (getD to e 0) 0) (getD to e 0) i (v + getD cost e 0) (packed e n) r)) et
@@ -161,7 +161,7 @@ module _ {z : Shape} {on : Walk} {s n v begin until : ℕ} {r₀ r : Rows} {e m 
             );
           }
 
-      pub offering : Offering (on .read .steps) row e n v t r
+      offering : Offering (on .read .steps) row e n v t r
       offering = record {
         exists = omega (arith, leaving .0, few-steps z (on .read) tables);
         inside = omega (arith, to-is, to-inside, few-stages z (on .read) tables);
@@ -171,7 +171,7 @@ module _ {z : Shape} {on : Walk} {s n v begin until : ℕ} {r₀ r : Rows} {e m 
       }
 
       -- afterwards the node stands as before
-      pub stands-on : Standing z on s n v (relaxStep g a n v e r)
+      stands-on : Standing z on s n v (relaxStep g a n v e r)
       stands-on =
           let m = step-made g a (tables .valid) (lawful-in z (on .read) tables) s n v (standing .stage) (standing .node) (standing .low) e r (standing .table) (standing .costs) exists (leaving .1) in
           record {

@@ -8,7 +8,7 @@ use native.Mathlib.Nat.{mul-le-mul-right}
 use lib.ListN.{length, getD, set, take, length-append}
 use lib.Seq.{append-snoc, take-suc, set-at, length-take-le}
 use Rattle.rows.specs.Rows.{row-at}
-use Rattle.trace.specs.Trails.{packed, stepIn, nodeIn, step-packed, node-packed, CameFrom, Trail, begin, more, Traceable}
+use Rattle.trace.specs.Trails.{packed, stepIn, step-packed, node-packed, CameFrom, Trail, begin, more, Traceable}
 use Rattle.trace.specs.declared.Predecessor.{Predecessor}
 
 -- an entry put at j, before the part xs that stands after the first j + 1 entries of a list
