@@ -51,7 +51,7 @@ module _ (z : Shape) (on : Walk) where
     pub small-stage : (s : ℕ) → s < z .stages → s < 256
     small-stage s h = omega (arith, few-stages z (on .read) (y .tables))
 
-    pub base-at : (s base : ℕ) → s < z .stages → base ≡ getD row s 0 → base ≡ s * w
+    base-at : (s base : ℕ) → s < z .stages → base ≡ getD row s 0 → base ≡ s * w
     base-at s base h e =
         e ∙ row-start z on y s h ∙ ap (λ (k : ℕ). s * k) (sym (width-is z (on .read) (y .tables)))
 
@@ -103,11 +103,11 @@ module _ (z : Shape) (on : Walk) where
             low = omega (arith, cost-is, listed .1);
           }
 
-          module _ {start until : ℕ} (es : start ≡ getD first s 0) (eu : until ≡ getD first (s + 1) 0) where
-            abbrev pub row-stands : Stands (on .read) row n v start until r
+          module _ {begin until : ℕ} (es : begin ≡ getD first s 0) (eu : until ≡ getD first (s + 1) 0) where
+            abbrev pub row-stands : Stands (on .read) row n v begin until r
             row-stands = record { z = z; first = first; s = s; standing = row-standing; begins = es; ends = eu }
 
-            pub row-more : {r′ : Rows} → r′ ≡ relaxSteps g a n v start (until - start) r → Rowing z on s count r₀ r′ (k + 1)
+            pub row-more : {r′ : Rows} → r′ ≡ relaxSteps g a n v begin (until - begin) r → Rowing z on s count r₀ r′ (k + 1)
             unfolding relaxNodes relaxNode
             row-more {r′} er =
                 let q : s + 1 ≡ suc s = omega arith in
@@ -115,7 +115,7 @@ module _ (z : Shape) (on : Walk) where
                 let one = steps-made g a (x .ready .tables .valid) (lawful-in z (on .read) (x .ready .tables)) s (nodeAt w r s k) (costAt w r s (nodeAt w r s k)) (x .stage) (listed .0) (listed .1)
                 (at first (suc s) - at first s) (at first s) r (x .table) refl (λ e i j. f .leave s e (x .stage) i (omega arith)) in
                 let e : r′ ≡ relaxSteps g a (nodeAt w r s k) (costAt w r s (nodeAt w r s k)) (at first s) (at first (suc s) - at first s) r =
-                er ∙ ap₂ (λ (i j : ℕ). relaxSteps g a i j start (until - start) r) node-is cost-is
+                er ∙ ap₂ (λ (i j : ℕ). relaxSteps g a i j begin (until - begin) r) node-is cost-is
                 ∙ ap₂ (λ (i j : ℕ). relaxSteps g a (nodeAt w r s k) (costAt w r s (nodeAt w r s k)) i (j - i) r) es (eu ∙ ap (at first) q) in
                 let j : count - k ≡ suc (count - (k + 1)) = omega arith in
                 let p : suc k ≡ k + 1 = omega arith in

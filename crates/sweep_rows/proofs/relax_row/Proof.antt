@@ -13,18 +13,18 @@ use Rattle.sweep_rows.proofs.relax_row.Statement.{statement}
 use Rattle.sweep_rows.proofs.relax_row.Tie as tie
 
 abbrev Inv-loop : tie.InvT-loop
-Inv-loop costs₀ via₀ nodes₀ counts₀ steps first row inner at base start until count k₀ costs via nodes counts k =
-    ((x : InRow (walk (read steps inner) first row) at (rows costs₀ via₀ nodes₀ counts₀))
-    → Rowing (x .z) (walk (read steps inner) first row) at count (rows costs₀ via₀ nodes₀ counts₀) (rows costs via nodes counts) k)
+Inv-loop costs₀ via₀ nodes₀ counts₀ steps first row inner stage base begin until count k₀ costs via nodes counts k =
+    ((x : InRow (walk (read steps inner) first row) stage (rows costs₀ via₀ nodes₀ counts₀))
+    → Rowing (x .z) (walk (read steps inner) first row) stage count (rows costs₀ via₀ nodes₀ counts₀) (rows costs via nodes counts) k)
     × (length costs ≡ length costs₀)
     × (length via ≡ length via₀)
     × (length nodes ≡ length nodes₀)
 
 abbrev μ-loop : tie.MeasureT-loop
-μ-loop costs₀ via₀ nodes₀ counts₀ steps first row inner at base start until count k₀ costs via nodes counts k = count - k
+μ-loop costs₀ via₀ nodes₀ counts₀ steps first row inner stage base begin until count k₀ costs via nodes counts k = count - k
 
-cast-at : tie.Need-cast-at Inv-loop μ-loop
-cast-at c = search needs
+cast-stage : tie.Need-cast-stage Inv-loop μ-loop
+cast-stage c = search needs
 
 mul-wide : tie.Need-mul-wide Inv-loop μ-loop
 mul-wide c =
@@ -39,36 +39,30 @@ element-copy-out-wide c =
 wide-requires : tie.Need-wide-requires Inv-loop μ-loop
 wide-requires c κs = search needs
 
-mul-index : tie.Need-mul-index Inv-loop μ-loop
-mul-index c =
+mul-t18 : tie.Need-mul-t18 Inv-loop μ-loop
+mul-t18 c =
     let start : tie.Start Inv-loop μ-loop = search in
     omega (arith, small-stage _ _ (start .pre .row .ready) _ (start .pre .inside))
 
-element-copy-out-index : tie.Need-element-copy-out-index Inv-loop μ-loop
-element-copy-out-index c =
+element-copy-out-t24 : tie.Need-element-copy-out-t24 Inv-loop μ-loop
+element-copy-out-t24 c =
     let start : tie.Start Inv-loop μ-loop = search in
     omega (arith, small-stage _ _ (start .pre .row .ready) _ (start .pre .inside))
 
-index-requires : tie.Need-index-requires Inv-loop μ-loop
-index-requires c κs = search needs
-
-add-index : tie.Need-add-index Inv-loop μ-loop
-add-index c =
+add-t18 : tie.Need-add-t18 Inv-loop μ-loop
+add-t18 c =
     let start : tie.Start Inv-loop μ-loop = search in
     omega (arith, small-stage _ _ (start .pre .row .ready) _ (start .pre .inside))
 
-mul-index-2 : tie.Need-mul-index-2 Inv-loop μ-loop
-mul-index-2 c =
+mul-t25 : tie.Need-mul-t25 Inv-loop μ-loop
+mul-t25 c =
     let start : tie.Start Inv-loop μ-loop = search in
     omega (arith, small-stage _ _ (start .pre .row .ready) _ (start .pre .inside))
 
-element-copy-out-index-2 : tie.Need-element-copy-out-index-2 Inv-loop μ-loop
-element-copy-out-index-2 c =
+element-copy-out-t24-2 : tie.Need-element-copy-out-t24-2 Inv-loop μ-loop
+element-copy-out-t24-2 c =
     let start : tie.Start Inv-loop μ-loop = search in
     omega (arith, small-stage _ _ (start .pre .row .ready) _ (start .pre .inside))
-
-index-requires-2 : tie.Need-index-requires-2 Inv-loop μ-loop
-index-requires-2 c κs = search needs
 
 mul-wide-2 : tie.Need-mul-wide-2 Inv-loop μ-loop
 mul-wide-2 c =
@@ -161,12 +155,10 @@ relax-node-requires c κs =
     let node : tie.After-wide3 Inv-loop μ-loop = search in
     let turn : tie.In-loop Inv-loop μ-loop = search in
     let head : tie.At-loop Inv-loop μ-loop = search in
-    let last : tie.After-index2 Inv-loop μ-loop = search in
-    let first : tie.After-index Inv-loop μ-loop = search in
     let based : tie.After-wide Inv-loop μ-loop = search in
     let start : tie.Start Inv-loop μ-loop = search in
     let w = head .loop .inv .0 (start .pre) in
-    row-stands _ _ w (based .wide .ensures .0) (turn .loop-test .taken) refl (node .wide3 .ensures .0) refl (first .index .ensures .0) (last .index2 .ensures .0)
+    row-stands _ _ w (based .wide .ensures .0) (turn .loop-test .taken) refl (node .wide3 .ensures .0) refl refl refl
 
 add-k : tie.Need-add-k Inv-loop μ-loop
 add-k c = search needs
@@ -180,13 +172,11 @@ loop-again c =
     let node : tie.After-wide3 Inv-loop μ-loop = search in
     let turn : tie.In-loop Inv-loop μ-loop = search in
     let head : tie.At-loop Inv-loop μ-loop = search in
-    let last : tie.After-index2 Inv-loop μ-loop = search in
-    let first : tie.After-index Inv-loop μ-loop = search in
     let based : tie.After-wide Inv-loop μ-loop = search in (
       (λ x.
           let w = head .loop .inv .0 x in
-          row-more _ _ w (based .wide .ensures .0) (turn .loop-test .taken) refl (node .wide3 .ensures .0) refl (first .index .ensures .0) (last .index2 .ensures .0)
-          (done .relax-node .ensures (row-stands _ _ w (based .wide .ensures .0) (turn .loop-test .taken) refl (node .wide3 .ensures .0) refl (first .index .ensures .0) (last .index2 .ensures .0)))),
+          row-more _ _ w (based .wide .ensures .0) (turn .loop-test .taken) refl (node .wide3 .ensures .0) refl refl refl
+          (done .relax-node .ensures (row-stands _ _ w (based .wide .ensures .0) (turn .loop-test .taken) refl (node .wide3 .ensures .0) refl refl refl))),
       omega (arith, head .loop .inv .1, done .relax-node .kept .0),
       omega (arith, head .loop .inv .2, done .relax-node .kept .1 .0),
       omega (arith, head .loop .inv .3, done .relax-node .kept .1 .1 .0),
@@ -220,17 +210,15 @@ relax-row-spec =
     (tie.spec
     Inv-loop
     μ-loop
-    cast-at
+    cast-stage
     mul-wide
     element-copy-out-wide
     wide-requires
-    mul-index
-    element-copy-out-index
-    index-requires
-    add-index
-    mul-index-2
-    element-copy-out-index-2
-    index-requires-2
+    mul-t18
+    element-copy-out-t24
+    add-t18
+    mul-t25
+    element-copy-out-t24-2
     mul-wide-2
     element-copy-out-wide-2
     wide-requires-2

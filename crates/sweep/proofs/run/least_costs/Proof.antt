@@ -1,27 +1,27 @@
--- `sweep::sweep_rows` meets its contract.
+-- `sweep::least_costs` meets its contract: cleared, begun and relaxed, the tables are the model's.
 use native.Mathlib.Omega.{arith}
+use borrow.Author.Needs.{needs}
 use Rattle.checks.specs.Ready.{few-nodes}
 use Rattle.sweep.proofs.Beginning.{begin-fits, begun-row, swept-is}
-use borrow.Author.Needs.{needs}
-use Rattle.sweep.proofs.run.sweep_rows.Statement.{statement}
-use Rattle.sweep.proofs.run.sweep_rows.Tie as tie
-
-cast-stages : tie.Need-cast-stages
-cast-stages c = search needs
+use Rattle.sweep.proofs.run.least_costs.Statement.{statement}
+use Rattle.sweep.proofs.run.least_costs.Tie as tie
 
 add-width : tie.Need-add-width
 add-width c =
     let start : tie.Start = search in
     omega (arith, few-nodes _ _ (start .pre .0 .tables))
 
-cast-start : tie.Need-cast-start
-cast-start c = search needs
+cast-clear : tie.Need-cast-clear
+cast-clear c = search needs
 
 mul-clear : tie.Need-mul-clear
 mul-clear c = search needs
 
 clear-requires : tie.Need-clear-requires
 clear-requires c κs = search needs
+
+cast-wide : tie.Need-cast-wide
+cast-wide c = search needs
 
 mul-wide : tie.Need-mul-wide
 mul-wide c = search needs
@@ -37,7 +37,7 @@ begin-requires c κs =
     let based : tie.After-wide = search in
     let clean : tie.After-clear = search in
     let start : tie.Start = search in
-    begin-fits (start .pre .0) (start .pre .1 .0) (start .pre .1 .1) (clean .clear .ensures) (based .wide .ensures .0)
+    begin-fits (start .pre .0) (start .pre .1) (clean .clear .ensures) (based .wide .ensures .0)
 
 relax-rows-requires : tie.Need-relax-rows-requires
 relax-rows-requires c κs =
@@ -45,7 +45,7 @@ relax-rows-requires c κs =
     let based : tie.After-wide = search in
     let clean : tie.After-clear = search in
     let start : tie.Start = search in
-    begun-row (start .pre .0) (start .pre .1 .0) (start .pre .1 .1) (clean .clear .ensures) (based .wide .ensures .0) (begun .begin .ensures)
+    begun-row (start .pre .0) (start .pre .1) (clean .clear .ensures) (based .wide .ensures .0) (begun .begin .ensures (start .args .via .now))
 
 same-length : tie.Need-same-length
 same-length c = search needs
@@ -63,17 +63,17 @@ returns c =
     let based : tie.After-wide = search in
     let clean : tie.After-clear = search in
     let start : tie.Start = search in
-    swept-is (start .pre .0) (start .pre .1 .0) (start .pre .1 .1) (clean .clear .ensures) (based .wide .ensures .0) (begun .begin .ensures) (done .relax-rows .ensures)
+    swept-is (start .pre .0) (start .pre .1) (clean .clear .ensures) (based .wide .ensures .0) (begun .begin .ensures (start .args .via .now)) (done .relax-rows .ensures)
 
-pub sweep-rows-spec : {M : Type 1} → statement M
-sweep-rows-spec =
+pub least-costs-spec : {M : Type 1} → statement M
+least-costs-spec =
     tie.close
     (tie.spec
-    cast-stages
     add-width
-    cast-start
+    cast-clear
     mul-clear
     clear-requires
+    cast-wide
     mul-wide
     element-copy-out-wide
     wide-requires
