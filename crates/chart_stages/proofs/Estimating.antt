@@ -3,30 +3,38 @@
 use Prim.Native.Nat.{ℕ, suc, _+_, _-_, _*_, _≤_, _<_}
 use mathlib.Core.Path.{_≡_}
 use mathlib.Core.List.{List}
-use mathlib.Core.Logic.{_⊎_, inl, inr}
+use mathlib.Core.Logic.{inl, inr}
 use lib.ListN.{length, getD, set, replicate}
 use native.Mathlib.Omega.{arith}
 use mir.Val.{Fits}
-use mir.Syntax.{w32, w64}
+use mir.Syntax.{w16, w32, w64}
+use Rattle.definitions.specs.Ways.{Graph}
 use Rattle.definitions.specs.Plans.{graph, chartEstimate}
+use Rattle.definitions.specs.declared.Shape.{Shape}
 use Rattle.theory.specs.Limits.{Valid}
-use Rattle.chart.specs.Tables.{stepsIn, heldSteps, heldChart}
+use Rattle.chart.specs.Tables.{stepsIn, heldSteps, chartIn}
 use Rattle.chart.specs.Held.{held-count, held-from, held-to, held-cost}
-use Rattle.chart.specs.Estimates.{EstimateTable, Told, Lowered, told-start, told-fits, told-turn, told-done}
+use Rattle.chart_stages.specs.Estimates.{EstimateTable, Told, Adds, Lowered, told-start, told-adds, told-turn, told-done}
 
 -- a sum that is looked at fits
-pub sum-fits : (c rest : ℕ) → (rest ≡ 4294967295) ⊎ (c + rest < 4294967295) → (rest ≡ 4294967295 → ⊥) → Fits w32 (c + rest)
+pub sum-fits : (c rest : ℕ) → Adds c rest → (rest ≡ 4294967295 → ⊥) → Fits w32 (c + rest)
 sum-fits c rest (inl e) n = absurd (n e)
 sum-fits c rest (inr h) n = record { fits = omega arith }
 
-module _ (stages start end count : ℕ) (packed : List (List ℕ)) (v : Valid (graph (heldChart stages start end count (stepsIn packed)))) where
-  pub end-below : end < 256
+module _ (z : Shape) (packed : List (List ℕ)) (v : Valid (graph (chartIn z (stepsIn packed)))) where
+  abbrev count : ℕ
+  count = z .steps
+
+  abbrev g : Graph
+  g = graph (chartIn z (stepsIn packed))
+
+  pub end-below : z .end .0 < 256
   end-below = omega (arith, v .end-inside, v .few-stages)
 
-  pub estimates-start : Told (graph (heldChart stages start end count (stepsIn packed))) (count - 0) (set (replicate 256 4294967295) end 0)
+  pub estimates-start : Told g (count - 0) (set (replicate 256 4294967295) (z .end .0) 0)
   estimates-start =
       let q : count - 0 ≡ length (heldSteps count (stepsIn packed)) = omega (arith, held-count count (stepsIn packed)) in
-      rw q (told-start (graph (heldChart stages start end count (stepsIn packed))) v)
+      rw q (told-start g v)
 
   module _ (i : ℕ) (turns : i < count) where
     step : count - 1 - i < length (heldSteps count (stepsIn packed))
@@ -48,6 +56,12 @@ module _ (stages start end count : ℕ) (packed : List (List ℕ)) (v : Valid (g
     pub step-quad : Fits w64 ((count - 1 - i) * 4)
     step-quad = record { fits = omega (arith, step-below) }
 
+    pub from-half : Fits w16 (getD (stepsIn packed .from) (count - 1 - i) 0)
+    from-half = record { fits = omega (arith, from-below) }
+
+    pub to-half : Fits w16 (getD (stepsIn packed .to) (count - 1 - i) 0)
+    to-half = record { fits = omega (arith, to-below) }
+
     pub from-fits : Fits w64 (getD (stepsIn packed .from) (count - 1 - i) 0)
     from-fits = record { fits = omega (arith, from-below) }
 
@@ -60,35 +74,34 @@ module _ (stages start end count : ℕ) (packed : List (List ℕ)) (v : Valid (g
     pub to-quad : Fits w64 (getD (stepsIn packed .to) (count - 1 - i) 0 * 4)
     to-quad = record { fits = omega (arith, to-below) }
 
-    module _ (estimates : List ℕ) (told : Told (graph (heldChart stages start end count (stepsIn packed))) (count - i) estimates) where
-      told′ : Told (graph (heldChart stages start end count (stepsIn packed))) (suc (count - 1 - i)) estimates
+    module _ (estimates : List ℕ) (told : Told g (count - i) estimates) where
+      told′ : Told g (suc (count - 1 - i)) estimates
       told′ =
           let q : suc (count - 1 - i) ≡ count - i = omega arith in
           rw q told
 
-      pub estimates-fit : (getD estimates (getD (stepsIn packed .to) (count - 1 - i) 0) 0 ≡ 4294967295)
-          ⊎ (getD (stepsIn packed .cost) (count - 1 - i) 0 + getD estimates (getD (stepsIn packed .to) (count - 1 - i) 0) 0 < 4294967295)
-      estimates-fit =
+      pub estimates-add : Adds (getD (stepsIn packed .cost) (count - 1 - i) 0) (getD estimates (getD (stepsIn packed .to) (count - 1 - i) 0) 0)
+      estimates-add =
           rw (← (held-to count (stepsIn packed) (count - 1 - i) (omega arith)), ← (held-cost count (stepsIn packed) (count - 1 - i) (omega arith)))
-          (told-fits (graph (heldChart stages start end count (stepsIn packed))) v (count - 1 - i) step estimates told′)
+          (told-adds g v (count - 1 - i) step estimates told′)
 
       pub estimates-turn : length estimates ≡ 256 → (r : ℕ)
           → Lowered (getD estimates (getD (stepsIn packed .from) (count - 1 - i) 0) 0) (getD (stepsIn packed .cost) (count - 1 - i) 0) (getD estimates (getD (stepsIn packed .to) (count - 1 - i) 0) 0) r
-          → Told (graph (heldChart stages start end count (stepsIn packed))) (count - (i + 1)) (set estimates (getD (stepsIn packed .from) (count - 1 - i) 0) r)
+          → Told g (count - (i + 1)) (set estimates (getD (stepsIn packed .from) (count - 1 - i) 0) r)
       estimates-turn long r l =
           let q : count - (i + 1) ≡ count - 1 - i = omega arith in
-          let f : graph (heldChart stages start end count (stepsIn packed)) .from (count - 1 - i) ≡ getD (stepsIn packed .from) (count - 1 - i) 0 = held-from count (stepsIn packed) (count - 1 - i) (omega arith) in
-          let o : graph (heldChart stages start end count (stepsIn packed)) .to (count - 1 - i) ≡ getD (stepsIn packed .to) (count - 1 - i) 0 = held-to count (stepsIn packed) (count - 1 - i) (omega arith) in
-          let c : graph (heldChart stages start end count (stepsIn packed)) .cost (count - 1 - i) ≡ getD (stepsIn packed .cost) (count - 1 - i) 0 = held-cost count (stepsIn packed) (count - 1 - i) (omega arith) in
-          rw (q, ← f) (told-turn (graph (heldChart stages start end count (stepsIn packed))) v (count - 1 - i) step estimates told′ long r (rw (f, o, c) l))
+          let f : g .from (count - 1 - i) ≡ getD (stepsIn packed .from) (count - 1 - i) 0 = held-from count (stepsIn packed) (count - 1 - i) (omega arith) in
+          let o : g .to (count - 1 - i) ≡ getD (stepsIn packed .to) (count - 1 - i) 0 = held-to count (stepsIn packed) (count - 1 - i) (omega arith) in
+          let c : g .cost (count - 1 - i) ≡ getD (stepsIn packed .cost) (count - 1 - i) 0 = held-cost count (stepsIn packed) (count - 1 - i) (omega arith) in
+          rw (q, ← f) (told-turn g v (count - 1 - i) step estimates told′ long r (rw (f, o, c) l))
 
-  pub estimates-done : (i : ℕ) (estimates : List ℕ) → count ≤ i → length estimates ≡ 256 → Told (graph (heldChart stages start end count (stepsIn packed))) (count - i) estimates
-      → EstimateTable (heldChart stages start end count (stepsIn packed)) estimates
+  pub estimates-done : (i : ℕ) (estimates : List ℕ) → count ≤ i → length estimates ≡ 256 → Told g (count - i) estimates
+      → EstimateTable (chartIn z (stepsIn packed)) estimates
   unfolding chartEstimate
   estimates-done i estimates h long told =
       let q : count - i ≡ 0 = omega arith in
-      let told′ : Told (graph (heldChart stages start end count (stepsIn packed))) 0 estimates = rw q at told in
-      record { at = told-done (graph (heldChart stages start end count (stepsIn packed))) v estimates told′; long = long }
+      let told′ : Told g 0 estimates = rw q at told in
+      record { at = told-done g v estimates told′; long = long }
 
 pub ruleset estimates-laws = (
   end-below,
@@ -98,11 +111,13 @@ pub ruleset estimates-laws = (
   to-below,
   step-double,
   step-quad,
+  from-half,
+  to-half,
   from-fits,
   from-quad,
   to-fits,
   to-quad,
-  estimates-fit,
+  estimates-add,
   estimates-turn,
   estimates-done,
 )
