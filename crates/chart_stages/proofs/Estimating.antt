@@ -50,17 +50,8 @@ module _ (z : Shape) (packed : List (List ℕ)) (v : Valid (graph (chartIn z (st
     to-below = omega (arith, held-to count (stepsIn packed) (count - 1 - i) (omega arith), v .inside (count - 1 - i) step, v .few-stages)
 
     -- the places of the entries fit
-    pub step-double : Fits w64 ((count - 1 - i) * 2)
-    step-double = record { fits = omega (arith, step-below) }
-
     pub step-quad : Fits w64 ((count - 1 - i) * 4)
     step-quad = record { fits = omega (arith, step-below) }
-
-    pub from-half : Fits w16 (getD (stepsIn packed .from) (count - 1 - i) 0)
-    from-half = record { fits = omega (arith, from-below) }
-
-    pub to-half : Fits w16 (getD (stepsIn packed .to) (count - 1 - i) 0)
-    to-half = record { fits = omega (arith, to-below) }
 
     pub from-fits : Fits w64 (getD (stepsIn packed .from) (count - 1 - i) 0)
     from-fits = record { fits = omega (arith, from-below) }
@@ -68,11 +59,12 @@ module _ (z : Shape) (packed : List (List ℕ)) (v : Valid (graph (chartIn z (st
     pub from-quad : Fits w64 (getD (stepsIn packed .from) (count - 1 - i) 0 * 4)
     from-quad = record { fits = omega (arith, from-below) }
 
-    pub to-fits : Fits w64 (getD (stepsIn packed .to) (count - 1 - i) 0)
-    to-fits = record { fits = omega (arith, to-below) }
+    -- and the stages have numbers of two bytes
+    pub from-half : Fits w16 (getD (stepsIn packed .from) (count - 1 - i) 0)
+    from-half = record { fits = omega (arith, from-below) }
 
-    pub to-quad : Fits w64 (getD (stepsIn packed .to) (count - 1 - i) 0 * 4)
-    to-quad = record { fits = omega (arith, to-below) }
+    pub to-half : Fits w16 (getD (stepsIn packed .to) (count - 1 - i) 0)
+    to-half = record { fits = omega (arith, to-below) }
 
     module _ (estimates : List ℕ) (told : Told g (count - i) estimates) where
       told′ : Told g (suc (count - 1 - i)) estimates
@@ -109,14 +101,11 @@ pub ruleset estimates-laws = (
   step-below,
   from-below,
   to-below,
-  step-double,
   step-quad,
-  from-half,
-  to-half,
   from-fits,
   from-quad,
-  to-fits,
-  to-quad,
+  from-half,
+  to-half,
   estimates-add,
   estimates-turn,
   estimates-done,
