@@ -27,7 +27,13 @@ fn join(low: u32, high: u32, cost: u32) -> u32
 }
 
 // An inner node's estimate: the smaller of that at lo and that at hi with the cost of its step.
-fn inner_estimate<'a>(estimates: &'a [u32; 512], cost: &'a [u32; 1024], e: Step, lo: Node, hi: Node) -> u32
+fn inner_estimate<'a>(
+    estimates: &'a [u32; 512],
+    cost: &'a [u32; 1024],
+    e: Step,
+    lo: Node,
+    hi: Node,
+) -> u32
     requires { ⌜ (e .0 < 1024) × (lo .0 < 512) × (hi .0 < 512) ⌝ }
     ensures { λ r. ⌜
         (let by = now (estimates .entry) in
