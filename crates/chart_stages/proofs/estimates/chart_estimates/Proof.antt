@@ -1,21 +1,22 @@
--- `chart::chart_estimates` meets its contract.
+-- `chart_stages::chart_estimates` meets its contract.
 use Prim.Native.Nat.{_-_, _≤_}
 use mathlib.Core.Path.{_≡_}
 use lib.ListN.{length}
 use Rattle.definitions.specs.Plans.{graph}
-use Rattle.chart.specs.Tables.{chartOf}
-use Rattle.chart.specs.Estimates.{Told}
-use Rattle.chart.proofs.Estimating.{estimates-turn, estimates-laws}
+use Rattle.chart.specs.Tables.{stepsIn, chartIn}
+use Rattle.chart_stages.specs.Estimates.{Told}
+use Rattle.chart_stages.proofs.Estimating.{estimates-turn, estimates-laws}
 use borrow.Author.Needs.{needs}
-use Rattle.chart.proofs.estimates.chart_estimates.Statement.{statement}
-use Rattle.chart.proofs.estimates.chart_estimates.Tie as tie
+use Rattle.chart_stages.proofs.estimates.chart_estimates.Statement.{statement}
+use Rattle.chart_stages.proofs.estimates.chart_estimates.Tie as tie
+use Rattle.chart_stages.proofs.estimates.through.Reads as through-reads
 
 abbrev Inv-loop : tie.InvT-loop
-Inv-loop chart steps estimates₀ end i₀ i-end estimates i =
-    (i-end ≡ chart .steps) × (i ≤ chart .steps) × (length estimates ≡ 256) × Told (graph (chartOf chart steps)) (chart .steps - i) estimates
+Inv-loop z steps estimates₀ end i₀ i-end estimates i =
+    (i-end ≡ z .steps) × (i ≤ z .steps) × (length estimates ≡ 256) × Told (graph (chartIn z (stepsIn steps))) (z .steps - i) estimates
 
 abbrev μ-loop : tie.MeasureT-loop
-μ-loop chart steps estimates₀ end i₀ i-end estimates i = i-end - i
+μ-loop z steps estimates₀ end i₀ i-end estimates i = i-end - i
 
 cast-end : tie.Need-cast-end Inv-loop μ-loop
 cast-end c = search needs
@@ -62,26 +63,17 @@ cast-t c = search (estimates-laws, needs)
 mul-through : tie.Need-mul-through Inv-loop μ-loop
 mul-through c = search (estimates-laws, needs)
 
-array-read-through : tie.Need-array-read-through Inv-loop μ-loop
-array-read-through c = search (estimates-laws, needs)
-
-mul-through-2 : tie.Need-mul-through-2 Inv-loop μ-loop
-mul-through-2 c = search (estimates-laws, needs)
-
 index-1-through : tie.Need-index-1-through Inv-loop μ-loop
 index-1-through c = search (estimates-laws, needs)
 
 index-2-through : tie.Need-index-2-through Inv-loop μ-loop
 index-2-through c = search (estimates-laws, needs)
 
-mul-through-3 : tie.Need-mul-through-3 Inv-loop μ-loop
-mul-through-3 c = search (estimates-laws, needs)
-
-array-read-through-2 : tie.Need-array-read-through-2 Inv-loop μ-loop
-array-read-through-2 c = search (estimates-laws, needs)
-
 through-requires : tie.Need-through-requires Inv-loop μ-loop
 through-requires c κs = search estimates-laws
+
+cast-estimates : tie.Need-cast-estimates Inv-loop μ-loop
+cast-estimates c = search (estimates-laws, needs)
 
 mul-estimates-2 : tie.Need-mul-estimates-2 Inv-loop μ-loop
 mul-estimates-2 c = search (estimates-laws, needs)
@@ -122,13 +114,10 @@ chart-estimates-spec =
     index-2-t
     cast-t
     mul-through
-    array-read-through
-    mul-through-2
     index-1-through
     index-2-through
-    mul-through-3
-    array-read-through-2
     through-requires
+    cast-estimates
     mul-estimates-2
     array-write-estimates-2
     add-i

@@ -1,13 +1,13 @@
 use Prim.Native.Nat.{_+_, _-_, _≤_}
 use mathlib.Core.Path.{_≡_}
 use lib.ListN.{length}
-use Rattle.chart.proofs.Firsts.{FirstsBefore, firsts-laws}
+use Rattle.chart_stages.proofs.Firsts.{FirstsBefore, firsts-laws}
 use borrow.Author.Needs.{needs}
-use Rattle.chart.proofs.stages.first_steps.Statement.{statement}
-use Rattle.chart.proofs.stages.first_steps.Tie as tie
-use Rattle.chart.proofs.stages.first_steps.Reads as reads
-use Rattle.chart.proofs.stages.first_steps.Lts as lts
-use Rattle.chart.proofs.stages.first_from.Reads as first-from-reads
+use Rattle.chart_stages.proofs.first.first_steps.Statement.{statement}
+use Rattle.chart_stages.proofs.first.first_steps.Tie as tie
+use Rattle.chart_stages.proofs.first.first_steps.Reads as reads
+use Rattle.chart_stages.proofs.first.first_steps.Lts as lts
+use Rattle.chart_stages.proofs.first.first_from.Reads as first-from-reads
 
 abbrev Inv-loop : tie.InvT-loop
 Inv-loop from count stages first₀ e₀ s₀ first e s = (s ≤ stages + 1) × (e ≤ count) × (length first ≡ 257) × FirstsBefore count from first e s

@@ -12,7 +12,7 @@ use lib.Seq.{getD-set-same, getD-set-other}
 use native.Mathlib.Omega.{arith}
 use native.Mathlib.Decide.{decLt}
 use borrow.Author.Tests.{eqb-true, eq-eqb}
-use Rattle.definitions.specs.Basics.{smaller, plus}
+use Rattle.definitions.specs.Basics.{smaller, sumOf}
 use Rattle.definitions.specs.Ways.{Graph, IsWay, endOf, wayCost}
 use Rattle.definitions.specs.Charts.{Chart}
 use Rattle.definitions.specs.Pairs.{toEnd}
@@ -49,6 +49,10 @@ Shows P v = (o : Option ℕ) × IsLeast P o × (v ≡ shown o)
 pub record Told (g : Graph) (k : ℕ) (estimates : List ℕ) : Type 0 where
   pub at : (s : ℕ) → s < 256 → Shows (WayFrom g k s) (getD estimates s 0)
 
+-- a cost can be added to the rest: there is none, or the sum is below its mark
+abbrev pub Adds : ℕ → ℕ → Type 0
+Adds c rest = (rest ≡ 4294967295) ⊎ (c + rest < 4294967295)
+
 -- the smaller of what is known and of c more than the rest, where 4,294,967,295 shows none
 pub record Lowered (known c rest r : ℕ) : Type 0 where
   pub kept : rest ≡ 4294967295 → r ≡ known
@@ -61,8 +65,8 @@ begins-zero (e ∷ w) = omega arith
 -- P is what is known, Q the rest
 module _ (P Q : ℕ → Type 0) (few : (m : ℕ) → Q m → m ≤ 510000000) (c : ℕ) (small : c ≤ 510000000) where
   lowered-shown : (a b : Option ℕ) (known rest r : ℕ) → IsLeast P a → IsLeast Q b → known ≡ shown a → rest ≡ shown b → Lowered known c rest r
-      → r ≡ shown (smaller a (plus c b))
-  unfolding smaller plus
+      → r ≡ shown (smaller a (sumOf (some c) b))
+  unfolding smaller sumOf
   lowered-shown none none known rest r p q ek er l = omega (arith, l .kept er)
   lowered-shown (some x) none known rest r p q ek er l = omega (arith, l .kept er)
   lowered-shown none (some y) known rest r p q ek er l = omega (arith, few y (q .0), l .less (omega (arith, few y (q .0))))
@@ -70,16 +74,16 @@ module _ (P Q : ℕ → Type 0) (few : (m : ℕ) → Q m → m ≤ 510000000) (c
 
   shows-lowered : (known rest r : ℕ) → Shows P known → Shows Q rest → Lowered known c rest r → Shows (λ m. P m ⊎ More c Q m) r
   shows-lowered known rest r p q l = (
-    smaller (p .0) (plus c (q .0)),
-    least-either P (More c Q) (p .0) (plus c (q .0)) (p .1) (least-more c Q (q .0) (q .1)),
+    smaller (p .0) (sumOf (some c) (q .0)),
+    least-either P (More c Q) (p .0) (sumOf (some c) (q .0)) (p .1) (least-more c Q (q .0) (q .1)),
     lowered-shown (p .0) (q .0) known rest r (p .1) (q .1) (p .2) (q .2) l,
   )
 
   -- where there is a rest, the sum is below the mark
-  rest-fits : (rest : ℕ) → Shows Q rest → (rest ≡ 4294967295) ⊎ (c + rest < 4294967295)
-  rest-fits rest q = go (q .0) (q .1) (q .2)
+  rest-adds : (rest : ℕ) → Shows Q rest → Adds c rest
+  rest-adds rest q = go (q .0) (q .1) (q .2)
     where
-      go : (b : Option ℕ) → IsLeast Q b → rest ≡ shown b → (rest ≡ 4294967295) ⊎ (c + rest < 4294967295)
+      go : (b : Option ℕ) → IsLeast Q b → rest ≡ shown b → Adds c rest
       go none h e = inl e
       go (some y) h e = inr (omega (arith, few y (h .0)))
 
@@ -187,9 +191,9 @@ module _ (g : Graph) (v : Valid g) where
             other (inr p) = omega arith
 
     module _ (estimates : List ℕ) (told : Told g (suc e) estimates) where
-      pub told-fits : (getD estimates (g .to e) 0 ≡ 4294967295) ⊎ (g .cost e + getD estimates (g .to e) 0 < 4294967295)
-      told-fits =
-          rest-fits (WayFrom g (suc e) (g .from e)) (WayFrom g (suc e) (g .to e)) (cheap (suc e) (g .to e)) (g .cost e) (step-cheap g v e i)
+      pub told-adds : Adds (g .cost e) (getD estimates (g .to e) 0)
+      told-adds =
+          rest-adds (WayFrom g (suc e) (g .from e)) (WayFrom g (suc e) (g .to e)) (cheap (suc e) (g .to e)) (g .cost e) (step-cheap g v e i)
           (getD estimates (g .to e) 0) (told .at (g .to e) (omega (arith, v .inside e i, v .few-stages)))
 
       pub told-turn : length estimates ≡ 256 → (r : ℕ) → Lowered (getD estimates (g .from e) 0) (g .cost e) (getD estimates (g .to e) 0) r

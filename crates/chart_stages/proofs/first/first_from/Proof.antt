@@ -1,16 +1,19 @@
 use Prim.Native.Nat.{_-_, _≤_}
-use Rattle.chart.proofs.Firsts.{Below, walk-laws}
+use Rattle.chart_stages.proofs.Firsts.{Below, walk-laws}
 use borrow.Author.Needs.{needs}
-use Rattle.chart.proofs.stages.first_from.Statement.{statement}
-use Rattle.chart.proofs.stages.first_from.Tie as tie
-use Rattle.chart.proofs.stages.first_from.Reads as reads
-use Rattle.chart.proofs.stages.first_from.Lts as lts
+use Rattle.chart_stages.proofs.first.first_from.Statement.{statement}
+use Rattle.chart_stages.proofs.first.first_from.Tie as tie
+use Rattle.chart_stages.proofs.first.first_from.Reads as reads
+use Rattle.chart_stages.proofs.first.first_from.Lts as lts
 
 abbrev Inv-loop : tie.InvT-loop
 Inv-loop from count start s e₀ e = (start ≤ e) × (e ≤ count) × Below from start s e
 
 abbrev μ-loop : tie.MeasureT-loop
 μ-loop from count start s e₀ e = count - e
+
+cast-stage : tie.Need-cast-stage Inv-loop μ-loop
+cast-stage c = search needs
 
 loop-holds : tie.Need-loop-holds Inv-loop μ-loop
 loop-holds c = search (walk-laws, needs)
@@ -42,6 +45,7 @@ first-from-spec =
     (tie.spec
     Inv-loop
     μ-loop
+    cast-stage
     loop-holds
     mul-if1
     element-copy-out-if1
