@@ -14,8 +14,8 @@ use Rattle.definitions.specs.Answers.{Load, ready, refused, load, workNeed, ref
 use Rattle.definitions.specs.Promises.{leastCosts, SweepSlices, sweepSlices, sweepLoad, SweepCall}
 use Rattle.definitions.specs.declared.Answer.{Answer}
 use Rattle.definitions.specs.declared.Shape.{Shape}
-use Rattle.chart.specs.FirstSteps.{SortedTable, FirstTable}
-use Rattle.chart.specs.HeldGraph.{held-sorted}
+use Rattle.chart_stages.specs.FirstSteps.{SortedTable, FirstTable}
+use Rattle.chart_stages.specs.HeldGraph.{held-sorted}
 use Rattle.diagram.specs.Held.{length-held}
 use Rattle.rows.specs.Rows.{rowStarts}
 use Rattle.sweep_model.specs.Model.{unreached, Rows, rows, swept}

@@ -11,7 +11,7 @@ use crate::begin::begin;
 use crate::begin::clear;
 use crate::conclude::conclude;
 use chart::FROM;
-use chart::first_steps;
+use chart_stages::first_steps;
 use checks::load;
 use checks::refusal;
 use convert::lesser;
