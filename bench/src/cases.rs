@@ -19,7 +19,14 @@ pub struct Case {
     pub kind: &'static str,
     pub chart: Vec<u8>,
     pub rules: Vec<u8>,
+    /// Where it is odd, no slice is too short.
     pub dirt: u64,
+}
+
+impl Case {
+    pub fn lends_enough(&self) -> bool {
+        self.dirt % 2 == 1
+    }
 }
 
 /// All cases of one seed.
@@ -59,13 +66,12 @@ impl Cases {
     /// The case with a number.
     pub fn case(&self, number: usize) -> Case {
         let mut random = Random::of(self.seed, number as u64);
-        let behind = number.wrapping_sub(self.corners());
-        let (kind, (chart, rules)) = if let Some(files) = self.corners.get(number) {
-            ("corner", files.clone())
-        } else if let Some(files) = self.systematic.get(behind) {
-            ("systematic damage", files.clone())
-        } else {
-            random_files(&mut random)
+        if let Some((chart, rules)) = self.corners.get(number).cloned() {
+            return Case { kind: "corner", chart, rules, dirt: random.word() | 1 };
+        }
+        let (kind, (chart, rules)) = match self.systematic.get(number - self.corners()) {
+            Some(files) => ("systematic damage", files.clone()),
+            None => random_files(&mut random),
         };
         Case { kind, chart, rules, dirt: random.word() }
     }

@@ -49,24 +49,33 @@ impl Outcome {
 /// Runs every call of every implementation on a case.
 pub fn run(case: &Case, planners: &[Box<dyn Planner>]) -> Result<Outcome, Difference> {
     let (judged, enumerated) = judge(case)?;
+    let outcome = hold(case, judged, planners)?;
+    Ok(Outcome { enumerated, ..outcome })
+}
+
+/// The same with a judgement that is there already.
+pub fn hold(
+    case: &Case,
+    judged: Judged,
+    planners: &[Box<dyn Planner>],
+) -> Result<Outcome, Difference> {
     let mut random = Random::new(case.dirt);
-    let lent = slices::drawn(&judged, &mut random);
+    let (sweep, guided) = slices::drawn(&judged, case.lends_enough(), &mut random);
     let places = places(case, &judged, &mut random);
-    let swept = reference::sweep_answer(&judged, &lent.0.work_lengths(), lent.0.plan.len());
-    let found = reference::guided_answer(&judged, &lent.1.work_lengths(), lent.1.plan.len());
-    let enough = swept.number != 7 && found.number != 7;
     for planner in planners {
         let planner = planner.as_ref();
         let mut trial = Trial::new(case, &judged, planner, &mut random);
-        trial.sweep(&lent.0)?;
-        trial.guided(&lent.1)?;
-        trial.both(&lent.0, &lent.1)?;
+        trial.sweep(&sweep)?;
+        trial.guided(&guided)?;
+        trial.both(&sweep, &guided)?;
         trial.space()?;
         for place in &places {
             trial.refused_field(*place)?;
         }
     }
-    Ok(Outcome { number: swept.number, enough, enumerated, judged })
+    let number = reference::sweep_answer(&judged, &sweep.work_lengths(), sweep.plan.len()).number;
+    let other = reference::guided_answer(&judged, &guided.work_lengths(), guided.plan.len()).number;
+    Ok(Outcome { number, enough: number != 7 && other != 7, enumerated: false, judged })
 }
 
 /// The reference's judgement; on small problems both of its methods must agree.

@@ -21,6 +21,7 @@ pub mod cases;
 pub mod compare;
 pub mod crash;
 pub mod figures;
+pub mod fuzz;
 pub mod sabotage;
 pub mod saved;
 pub mod tally;

@@ -1,6 +1,6 @@
 //! Planners that are spoiled in one corner: the differential test must find each of them.
 
-use crate::planner::{Answer, GuidedSlices, Planner, Space, SweepSlices};
+use crate::planner::{self, Answer, GuidedSlices, Planner, Space, SweepSlices};
 
 /// One way to spoil a planner.
 pub struct Sabotage {
@@ -27,9 +27,15 @@ pub struct Spoiled {
     pub sabotage: &'static Sabotage,
 }
 
-/// The sabotage with a name.
-pub fn named(name: &str) -> Option<&'static Sabotage> {
-    ALL.iter().find(|sabotage| sabotage.name == name)
+/// The first implementation of this build, spoiled where a sabotage is named.
+pub fn first_planner(name: Option<&str>) -> Result<Box<dyn Planner>, String> {
+    let planner = planner::all().remove(0);
+    let Some(name) = name else { return Ok(planner) };
+    let sabotage = ALL.iter().find(|sabotage| sabotage.name == name).ok_or_else(|| {
+        let names: Vec<&str> = ALL.iter().map(|sabotage| sabotage.name).collect();
+        format!("no sabotage {name}; there are {}", names.join(", "))
+    })?;
+    Ok(Box::new(Spoiled { planner, sabotage }))
 }
 
 const fn new(name: &'static str, spoil: Spoil) -> Sabotage {

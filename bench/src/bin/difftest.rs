@@ -7,7 +7,7 @@ use planner_bench::cases::{Case, Cases};
 use planner_bench::compare::{run, Difference};
 use planner_bench::crash;
 use planner_bench::planner::{self, Planner};
-use planner_bench::sabotage::{self, Spoiled};
+use planner_bench::sabotage;
 use planner_bench::saved;
 use planner_bench::tally::Tally;
 
@@ -36,6 +36,8 @@ difference or crash, or where a run of the default length misses a corner, 2 for
 
 const FIXED_SEED: u64 = 20_170_204;
 const CASES: usize = 200_000;
+/// Characters of a difference that `--sabotage all` shows.
+const SHOWN: usize = 200;
 
 struct Options {
     cases: usize,
@@ -78,12 +80,10 @@ fn main() -> ExitCode {
 
 /// Every implementation, or the first one spoiled.
 fn planners(options: &Options) -> Result<Vec<Box<dyn Planner>>, String> {
-    let mut planners = planner::all();
-    let Some(name) = &options.sabotage else { return Ok(planners) };
-    let names = || sabotage::ALL.iter().map(|known| known.name).collect::<Vec<_>>().join(", ");
-    let sabotage = sabotage::named(name)
-        .ok_or_else(|| format!("no sabotage {name}; there are {}", names()))?;
-    Ok(vec![Box::new(Spoiled { planner: planners.remove(0), sabotage })])
+    match &options.sabotage {
+        None => Ok(planner::all()),
+        name => Ok(vec![sabotage::first_planner(name.as_deref())?]),
+    }
 }
 
 fn parse(mut args: impl Iterator<Item = String>) -> Result<Options, String> {
@@ -232,7 +232,7 @@ fn caught(name: &str) -> Result<String, String> {
     let seed = format!("seed {FIXED_SEED}, case ");
     let line = shown.lines().find(|line| line.starts_with(&seed));
     match (run.status.code(), line) {
-        (Some(1), Some(line)) if saved => Ok(line.to_string()),
+        (Some(1), Some(line)) if saved => Ok(line.chars().take(SHOWN).collect()),
         (code, line) => Err(format!("status {code:?}, case saved: {saved}, {line:?}")),
     }
 }

@@ -16,10 +16,10 @@ struct Lengths {
     plans: [usize; 2],
 }
 
-/// The slices of both searches.
-pub fn drawn(judged: &Judged, random: &mut Random) -> (SweepSlices, GuidedSlices) {
+/// The slices of both searches; `enough`: none of them too short.
+pub fn drawn(judged: &Judged, enough: bool, random: &mut Random) -> (SweepSlices, GuidedSlices) {
     let Lengths { work, plans } = match judged {
-        Ok(facts) => lengths(&facts.problem, random),
+        Ok(facts) => lengths(&facts.problem, enough, random),
         Err(_) => any_lengths(random),
     };
     let [cost, sweep_via, nodes, keys, via, heap, pos, stack, log] =
@@ -29,9 +29,9 @@ pub fn drawn(judged: &Judged, random: &mut Random) -> (SweepSlices, GuidedSlices
     (sweep, GuidedSlices { keys, via, heap, pos, stack, log, plan })
 }
 
-/// In one of four cases each slice has just what it needs; else no two have the same length. At
-/// times one search, or one slice of each, is lent too little.
-fn lengths(problem: &Problem, random: &mut Random) -> Lengths {
+/// In one of four cases each slice has just what it needs; else no two have the same length. Where
+/// not `enough`, at times a search is lent too little.
+fn lengths(problem: &Problem, enough: bool, random: &mut Random) -> Lengths {
     let (pairs, steps) = (problem.pairs(), problem.longest_plan());
     let mut lengths = Lengths { work: [pairs; WORK], plans: [steps; 2] };
     if !random.percent(25) {
@@ -40,6 +40,9 @@ fn lengths(problem: &Problem, random: &mut Random) -> Lengths {
         let more: [usize; 2] = shuffled(random);
         lengths.plans.iter_mut().zip(more).for_each(|(length, more)| *length += 3 * more);
     }
+    if enough {
+        return lengths;
+    }
     let (sweep, guided) = lengths.work.split_at_mut(SWEEP_WORK);
     let [sweep_plan, plan] = &mut lengths.plans;
     shorten(random, problem, sweep, sweep_plan);
@@ -47,10 +50,10 @@ fn lengths(problem: &Problem, random: &mut Random) -> Lengths {
     lengths
 }
 
-/// Takes entries from the slices of one search in one of ten cases.
+/// Takes entries from the slices of one search in one of five cases.
 fn shorten(random: &mut Random, problem: &Problem, work: &mut [usize], plan: &mut usize) {
     let one = random.below(work.len());
-    match random.below(40) {
+    match random.below(20) {
         0 => work[one] = problem.pairs() - 1,
         1 => work[one] = random.below(problem.pairs()),
         2 => *plan = problem.longest_plan().saturating_sub(1),

@@ -34,7 +34,7 @@ impl Size {
 pub type Shape = fn(&mut Random, Size) -> Problem;
 
 /// Every corner.
-pub const SHAPES: [Shape; 9] = [
+pub const SHAPES: [Shape; 10] = [
     dearest_plan,
     dear_and_ruled,
     largest_sum,
@@ -42,6 +42,7 @@ pub const SHAPES: [Shape; 9] = [
     most_reached,
     most_settled,
     most_settled_without_plan,
+    most_open,
     row_by_lo,
     row,
 ];
@@ -132,32 +133,44 @@ fn all_from(nodes: &mut Vec<Node>, first: usize, past: usize) -> u16 {
 
 /// Every leaf stands at every stage, and says yes.
 fn most_reached(random: &mut Random, size: Size) -> Problem {
-    fan(random, size, Fan { direct: false, leaves_say: YES })
+    fan(random, size, Fan { leaves_say: YES, ..FAN })
 }
 
 /// Every leaf stands at every stage, seems cheap and says no; the plan is one dear step.
 fn most_settled(random: &mut Random, size: Size) -> Problem {
-    fan(random, size, Fan { direct: true, leaves_say: 0 })
+    fan(random, size, Fan { direct: true, ..FAN })
 }
 
 fn most_settled_without_plan(random: &mut Random, size: Size) -> Problem {
-    fan(random, size, Fan { direct: false, leaves_say: 0 })
+    fan(random, size, FAN)
+}
+
+/// From each leaf's pair at the second stage nearly all stages are opened before one of them is
+/// settled: most open pairs at once.
+fn most_open(random: &mut Random, size: Size) -> Problem {
+    fan(random, size, Fan { star: true, ..FAN })
 }
 
 #[derive(Clone, Copy)]
 struct Fan {
     /// A legal step from the start to the end, dearer than any other way.
     direct: bool,
+    /// From the second stage a step to each that follows, and from there one to the last; else steps
+    /// from each stage to the next.
+    star: bool,
     /// What a leaf comes to where no more steps are taken.
     leaves_say: u16,
 }
 
-/// Parallel steps from the first stage to the second, each with a node of its own and a leaf below it;
-/// then single ways. The leaves' step is one of three at the end, and below their hi stands a node of
+const FAN: Fan = Fan { direct: false, star: false, leaves_say: 0 };
+
+/// Parallel steps from the first stage to the second, each with a node of its own and a leaf below it,
+/// and ways on from there. The leaves' step is one of three at the end, and below their hi stands a node of
 /// another of the three: no way takes both, but the estimate doesn't know.
-fn fan(random: &mut Random, size: Size, Fan { direct, leaves_say }: Fan) -> Problem {
+fn fan(random: &mut Random, size: Size, fan: Fan) -> Problem {
+    let Fan { direct, leaves_say, .. } = fan;
     let split = (size.nodes - 2 - usize::from(direct)) / 2;
-    let chart = fan_chart(random, size, split + 1, direct);
+    let chart = fan_chart(random, size, split + 1, fan);
     let steps = chart.steps.len() as u16;
     let mut nodes = vec![Node { step: steps - 1, lo: 0, hi: YES }];
     let leaves: Vec<u16> = (0..=split as u16).map(|leaf| leaf + 3).collect();
@@ -175,19 +188,25 @@ fn fan(random: &mut Random, size: Size, Fan { direct, leaves_say }: Fan) -> Prob
     Problem { chart, diagram: Diagram { root, nodes } }
 }
 
-fn fan_chart(random: &mut Random, size: Size, parallel: usize, direct: bool) -> Chart {
+fn fan_chart(random: &mut Random, size: Size, parallel: usize, fan: Fan) -> Chart {
     let last = size.last();
-    // All ways but the direct one cost less than a million together.
-    let mut cheap = || random.between(0, 900_000 / size.stages) as u32;
+    // No way but the direct one costs a million.
+    let most = 900_000 / size.stages;
+    let first = if fan.star { 9 } else { most };
+    let mut cost = |most: usize| random.between(0, most) as u32;
     let mut steps = Vec::new();
-    if direct {
+    if fan.direct {
         steps.push(Step { from: 0, to: last, cost: MAX_COST });
     }
-    steps.extend((0..parallel).map(|_| to_next(0, cheap())));
-    for from in 1..last - 1 {
-        steps.extend([to_next(from, cheap()), to_next(from, cheap())]);
+    steps.extend((0..parallel).map(|_| to_next(0, cost(first))));
+    if fan.star {
+        steps.extend((2..last).map(|to| Step { from: 1, to, cost: cost(most) }));
+        steps.extend((2..last - 1).map(|from| Step { from, to: last, cost: cost(most) }));
+    } else {
+        let links = (1..last - 1).flat_map(|from| [from, from]);
+        steps.extend(links.map(|from| to_next(from, cost(most))));
     }
-    steps.extend([0, 1, 2].map(|_| to_next(last - 1, cheap())));
+    steps.extend([0, 1, 2].map(|_| to_next(last - 1, cost(most))));
     Chart { stages: size.stages as u16, start: 0, end: last, steps }
 }
 
