@@ -1,8 +1,9 @@
-//! Tells a crash of an implementation as a difference: which case, which call, beside which slice.
-//! The handler of the signals allocates nothing; it saves the case and ends the program with 1.
+//! Tells a crash of an implementation, or a call that doesn't end, as a difference: which case, which
+//! call, beside which slice. The handler of the signals allocates nothing; it saves the case and ends
+//! the program with 1.
 
 use std::cell::Cell;
-use std::ffi::{c_char, c_int, c_void, CString};
+use std::ffi::{c_char, c_int, c_uint, c_void, CString};
 use std::fmt::{self, Write};
 use std::path::Path;
 use std::ptr::null_mut;
@@ -15,8 +16,15 @@ use crate::lent::Span;
 
 /// More slices than any call is lent.
 const SPANS: usize = 24;
-const SIGNALS: [(c_int, &str); 5] =
-    [(4, "SIGILL"), (6, "SIGABRT"), (7, "SIGBUS"), (8, "SIGFPE"), (11, "SIGSEGV")];
+const ALARM: c_int = 14;
+const SIGNALS: [(c_int, &str); 6] = [
+    (4, "SIGILL"),
+    (6, "SIGABRT"),
+    (7, "SIGBUS"),
+    (8, "SIGFPE"),
+    (11, "SIGSEGV"),
+    (ALARM, "not done in time"),
+];
 
 const WITH_INFORMATION: c_int = 0x4;
 const ON_ITS_OWN_STACK: c_int = 0x0800_0000;
@@ -42,6 +50,7 @@ extern "C" {
     fn open(path: *const c_char, flags: c_int, mode: c_int) -> c_int;
     fn close(file: c_int) -> c_int;
     fn mkdir(path: *const c_char, mode: c_int) -> c_int;
+    fn alarm(seconds: c_uint) -> c_uint;
     fn pause() -> c_int;
     fn _exit(status: c_int) -> !;
 }
@@ -127,6 +136,12 @@ pub fn end() {
     WATCH.set(NOTHING);
 }
 
+/// From now on the program has so many seconds; 0 for any number. Only where it has one thread.
+pub fn end_within(seconds: u32) {
+    // SAFETY: sets a timer.
+    unsafe { alarm(seconds) };
+}
+
 /// The call that follows on this thread, with all that is lent to it.
 pub fn watch(planner: &'static str, call: &'static str, files: &[Span], lent: &[Span]) {
     let mut spans = [None; SPANS];
@@ -134,6 +149,15 @@ pub fn watch(planner: &'static str, call: &'static str, files: &[Span], lent: &[
         *kept = Some(*span);
     }
     WATCH.set(Watch { planner, call, spans, ..WATCH.get() });
+}
+
+/// One more slice that is lent to the call under way.
+pub fn add(span: Span) {
+    let mut watch = WATCH.get();
+    watch.spans.iter_mut().find(|kept| kept.is_none()).into_iter().for_each(|free| {
+        *free = Some(span);
+    });
+    WATCH.set(watch);
 }
 
 extern "C" fn on_crash(signal: c_int, information: *const Information, _: *mut c_void) {
@@ -166,6 +190,9 @@ impl fmt::Display for Fault<'_> {
     fn fmt(&self, f: &mut fmt::Formatter) -> fmt::Result {
         let Fault { signal, address, spans } = *self;
         let name = SIGNALS.iter().find(|known| known.0 == signal).map_or("signal", |known| known.1);
+        if signal == ALARM {
+            return f.write_str(name);
+        }
         for Span { name: slice, start, bytes, .. } in spans.iter().flatten() {
             let end = start + bytes;
             if (start.saturating_sub(PAGE)..*start).contains(&address) {

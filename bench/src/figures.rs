@@ -157,8 +157,8 @@ impl Corner {
     }
 }
 
-/// Most of these are the largest that the limits allow.
-pub const CORNERS: [Corner; 14] = [
+/// Most of the largest ones are what the limits allow.
+pub const CORNERS: [Corner; 21] = [
     Corner::largest("plan cost", 255_000_000, |f| f.plan_cost),
     Corner::largest("plan length", 255, |f| f.plan_length),
     Corner::largest("sum of a reached pair", 765_000_000, |f| f.sum),
@@ -167,14 +167,21 @@ pub const CORNERS: [Corner; 14] = [
     Corner::largest("settled pairs under 8", 64_517, |f| f.settled_without_plan),
     Corner::largest("nodes in a row by lo", MAX_NODES, |f| f.lo_chain),
     Corner::largest("nodes in a row", MAX_NODES, |f| f.chain),
+    Corner::largest("stages", MAX_STAGES as usize, |f| f.stages),
+    Corner::largest("nodes", MAX_NODES, |f| f.nodes),
     Corner::largest("place in a refused chart", 11_273, |f| f.refused_chart.1),
     Corner::largest("place in a refused diagram", 4_595, |f| f.refused_rules.1),
-    Corner::count("charts of ten and more steps at 1,000,000 each", 500, |f| f.all_dear.into()),
     Corner::count("refused charts above 1,000 bytes", 1_000, |f| {
         (f.refused_chart.0 > 1_000).into()
     }),
     Corner::count("refused diagrams above 1,000 bytes", 500, |f| {
         (f.refused_rules.0 > 1_000).into()
     }),
-    Corner::count("charts of 256 stages with 510 nodes", 50, |f| f.full.into()),
+    Corner::count("sound files", 100_000, |f| f.sound.into()),
+    Corner::count("with 256 stages and 510 nodes", 50, |f| f.full.into()),
+    Corner::count("with ten and more steps, all at 1,000,000", 500, |f| f.all_dear.into()),
+    Corner::count("with ties", 5_000, |f| f.tie.into()),
+    Corner::count("with zero costs", 5_000, |f| f.zero_cost.into()),
+    Corner::count("with dead ends", 5_000, |f| f.dead_end.into()),
+    Corner::count("with the start above the end", 5_000, |f| f.start_above_end.into()),
 ];

@@ -1,21 +1,18 @@
 //! Fuzzing of file bytes: sound files are spoiled and each answer is held against the reference, on
 //! all cores for a given time. A case is fixed by the seed and its number.
 
+mod corpus;
+
 use std::process::exit;
 use std::sync::atomic::{AtomicBool, AtomicU64, Ordering::Relaxed};
 use std::sync::Mutex;
 use std::thread;
 use std::time::{Duration, Instant};
 
-use crate::cases::Case;
+pub use corpus::Corpus;
+
 use crate::compare::{hold, Difference};
 use crate::crash;
-use crate::files::{write_chart, write_diagram};
-use crate::generate::broken::Files;
-use crate::generate::charts::random_chart;
-use crate::generate::diagrams::random_diagram;
-use crate::generate::mutate::mutated;
-use crate::generate::Random;
 use crate::planner::Planner;
 use crate::reference::judge;
 
@@ -26,73 +23,6 @@ const NUMBERS: usize = 32;
 /// A case that takes longer never ends.
 const PATIENCE: Duration = Duration::from_secs(60);
 
-/// Sound files of one size, and how many of a thousand cases begin with one of them.
-struct Sized {
-    files: Vec<Files>,
-    share: usize,
-}
-
-/// The sound files that are spoiled, small ones first.
-pub struct Corpus {
-    seed: u64,
-    sizes: Vec<Sized>,
-}
-
-impl Corpus {
-    pub fn new(seed: u64) -> Corpus {
-        let mut random = Random::of(seed, u64::MAX);
-        let mut sized = |count: usize, share: usize, limits: [usize; 3]| {
-            let files = (0..count).map(|_| sound(&mut random, limits)).collect();
-            Sized { files, share }
-        };
-        let sizes = vec![
-            sized(4_000, 930, [8, 14, 12]),
-            sized(400, 60, [40, 120, 100]),
-            sized(60, 9, [120, 500, 300]),
-            sized(20, 1, [256, 1_024, 510]),
-        ];
-        Corpus { seed, sizes }
-    }
-
-    /// The case with a number.
-    pub fn case(&self, number: u64) -> Case {
-        let mut random = Random::of(self.seed, number);
-        let files = self.pick(&mut random);
-        let (chart, rules) = &files[random.below(files.len())];
-        let (other_chart, other_rules) = &files[random.below(files.len())];
-        let which = random.below(10);
-        let mut spoil = |is_spoiled: bool, file: &[u8], other: &[u8]| {
-            if is_spoiled {
-                mutated(&mut random, file, other)
-            } else {
-                file.to_vec()
-            }
-        };
-        // At times the fields of the other kind of file come in.
-        let odd = number % 16 == 0;
-        let chart = spoil(which < 5, chart, if odd { rules } else { other_chart });
-        let rules = spoil(which > 3, rules, if odd { other_chart } else { other_rules });
-        Case { kind: "fuzzed", chart, rules, dirt: random.word() }
-    }
-
-    fn pick(&self, random: &mut Random) -> &[Files] {
-        let mut left = random.below(1_000);
-        for Sized { files, share } in &self.sizes {
-            if left < *share {
-                return files;
-            }
-            left -= share;
-        }
-        &self.sizes[0].files
-    }
-}
-
-fn sound(random: &mut Random, [stages, steps, nodes]: [usize; 3]) -> Files {
-    let chart = random_chart(random, stages, steps);
-    let diagram = random_diagram(random, &chart, nodes);
-    (write_chart(&chart), write_diagram(&diagram))
-}
-
 /// How much is run.
 #[derive(Clone, Copy, Debug)]
 pub struct Bounds {
@@ -102,11 +32,10 @@ pub struct Bounds {
     pub threads: usize,
 }
 
-/// What was found wrong, and where.
+/// What was found wrong, and with which case.
 #[derive(Debug)]
 pub struct Found {
     pub number: u64,
-    pub case: Case,
     pub difference: Difference,
 }
 
@@ -187,9 +116,9 @@ impl<'a> Fuzz<'a> {
             }
             for number in first..past.min(first + BATCH) {
                 worker.at.store(number, Relaxed);
-                if let Err(found) = self.run_case(number) {
+                if let Err(difference) = self.run_case(number) {
                     self.stop.store(true, Relaxed);
-                    self.keep(found);
+                    self.keep(Found { number, difference });
                     break;
                 }
             }
@@ -197,19 +126,14 @@ impl<'a> Fuzz<'a> {
         worker.at.store(Worker::RESTS, Relaxed);
     }
 
-    fn run_case(&self, number: u64) -> Result<(), Found> {
+    fn run_case(&self, number: u64) -> Result<(), Difference> {
         let case = self.corpus.case(number);
         crash::begin(&case, Some((self.corpus.seed, number)));
         let outcome = hold(&case, judge(&case.chart, &case.rules), self.planner);
         crash::end();
-        match outcome {
-            Ok(outcome) => {
-                self.by_number[outcome.number as usize].fetch_add(1, Relaxed);
-                self.done.fetch_add(1, Relaxed);
-                Ok(())
-            }
-            Err(difference) => Err(Found { number, case, difference }),
-        }
+        self.by_number[outcome?.number as usize].fetch_add(1, Relaxed);
+        self.done.fetch_add(1, Relaxed);
+        Ok(())
     }
 
     /// Keeps the difference with the smallest number.
@@ -224,8 +148,7 @@ impl<'a> Fuzz<'a> {
     fn endless(&self, number: u64) -> Found {
         let planner = self.planner.first().map_or("no implementation", |planner| planner.name());
         let text = format!("not done after {} s", PATIENCE.as_secs());
-        let difference = Difference { planner, call: "a call", text };
-        Found { number, case: self.corpus.case(number), difference }
+        Found { number, difference: Difference { planner, call: "a call", text } }
     }
 }
 

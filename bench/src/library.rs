@@ -4,6 +4,7 @@
 
 use planner::lent;
 
+use crate::crash;
 use crate::lent::{Lent, Side};
 use crate::planner::{Answer, GuidedSlices, Planner, Space, SweepSlices};
 
@@ -26,6 +27,7 @@ impl Library {
             return (call(&mut answer), answer);
         }
         let mut answer = Lent::beside_guard(&[unwritten], side);
+        crash::add(answer.span("answer"));
         let returned = call(&mut answer[0]);
         assert!(answer.span("answer").intact, "bytes beside the answer have changed");
         (returned, answer[0])

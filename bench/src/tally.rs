@@ -5,7 +5,7 @@ use std::time::Instant;
 
 use crate::cases::Case;
 use crate::compare::Outcome;
-use crate::figures::{Corner, Figures, CORNERS};
+use crate::figures::{Corner, CORNERS};
 
 const PROGRESS_EVERY: usize = 20_000;
 
@@ -15,7 +15,6 @@ pub struct Tally {
     enumerated: usize,
     by_kind: BTreeMap<&'static str, usize>,
     by_number: BTreeMap<u32, usize>,
-    sound: Vec<Figures>,
     corners: [usize; CORNERS.len()],
 }
 
@@ -27,7 +26,6 @@ impl Tally {
             enumerated: 0,
             by_kind: BTreeMap::new(),
             by_number: BTreeMap::new(),
-            sound: Vec::new(),
             corners: [0; CORNERS.len()],
         }
     }
@@ -41,7 +39,6 @@ impl Tally {
         for (corner, kept) in CORNERS.iter().zip(&mut self.corners) {
             *kept = corner.with(*kept, &figures);
         }
-        self.sound.extend(figures.sound.then_some(figures));
         if self.cases % PROGRESS_EVERY == 0 {
             println!("{} cases, {:.1} s", self.cases, self.begun.elapsed().as_secs_f64());
         }
@@ -57,30 +54,9 @@ impl Tally {
         println!("by kind: {:?}", self.by_kind);
         println!("by the sweep's number: {:?}", self.by_number);
         println!("judged by enumeration as well: {}", self.enumerated);
-        self.print_sound();
         for (corner, reached) in CORNERS.iter().zip(self.corners) {
-            println!("{}: {reached} (wanted {})", corner.name, corner.wanted);
+            println!("{}: {reached} (at least {})", corner.name, corner.wanted);
         }
-    }
-
-    /// What the sound files cover.
-    fn print_sound(&self) {
-        let range = |of: fn(&Figures) -> usize| {
-            let values = || self.sound.iter().map(of);
-            format!("{} to {}", values().min().unwrap_or(0), values().max().unwrap_or(0))
-        };
-        let count = |of: fn(&&Figures) -> bool| self.sound.iter().filter(of).count();
-        println!(
-            "sound files: {}, of {} stages and {} nodes; with ties {}, zero costs {}, dead ends {}, \
-             start above end {}",
-            self.sound.len(),
-            range(|f| f.stages),
-            range(|f| f.nodes),
-            count(|f| f.tie),
-            count(|f| f.zero_cost),
-            count(|f| f.dead_end),
-            count(|f| f.start_above_end)
-        );
     }
 }
 

@@ -36,6 +36,8 @@ difference or crash, or where a run of the default length misses a corner, 2 for
 
 const FIXED_SEED: u64 = 20_170_204;
 const CASES: usize = 200_000;
+/// Seconds after which a case is taken not to end.
+const PATIENCE: u32 = 60;
 /// Characters of a difference that `--sabotage all` shows.
 const SHOWN: usize = 200;
 
@@ -128,6 +130,7 @@ fn run_all(options: &Options, planners: &[Box<dyn Planner>]) -> ExitCode {
             return code;
         }
     }
+    crash::end_within(0);
     tally.print();
     let seconds = tally.begun.elapsed().as_secs_f64();
     println!("{} cases, no difference, {seconds:.1} s", tally.cases);
@@ -164,6 +167,7 @@ fn run_seed(
             save(&options.save, &case, None);
         }
         crash::begin(&case, Some((seed, number as u64)));
+        crash::end_within(PATIENCE);
         let outcome = run(&case, planners);
         crash::end();
         match outcome {
@@ -191,6 +195,7 @@ fn replay(folder: &Path, planners: &[Box<dyn Planner>]) -> ExitCode {
     };
     crash::install(folder);
     crash::begin(&case, None);
+    crash::end_within(PATIENCE);
     match run(&case, planners) {
         Ok(outcome) => {
             println!("number {}\n1 case, no difference", outcome.number);

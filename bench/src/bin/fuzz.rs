@@ -4,6 +4,7 @@ use std::path::PathBuf;
 use std::process::ExitCode;
 use std::time::Duration;
 
+use planner_bench::cases::Case;
 use planner_bench::compare::Difference;
 use planner_bench::crash;
 use planner_bench::fuzz::{Bounds, Corpus, Found, Fuzz};
@@ -112,7 +113,7 @@ fn run(options: &Options, planner: Box<dyn Planner>) -> ExitCode {
             println!("{}", speed(fuzz));
         }
     };
-    let agreed = fuzz.run(progress, |found| tell(options, found));
+    let agreed = fuzz.run(progress, |found| tell(options, &corpus.case(found.number), found));
     println!("by the sweep's number: {}", by_number(&fuzz));
     println!("{}, {}", speed(&fuzz), if agreed { "no difference" } else { "then a difference" });
     ExitCode::from(u8::from(!agreed))
@@ -129,7 +130,7 @@ fn by_number(fuzz: &Fuzz) -> String {
 }
 
 /// Shows a difference and saves its case.
-fn tell(options: &Options, Found { number, case, difference }: &Found) {
+fn tell(options: &Options, case: &Case, Found { number, difference }: &Found) {
     let Difference { planner, call, text } = difference;
     println!("seed {}, case {number}, {}: {planner} {call}: {text}", options.seed, case.kind);
     match saved::save(&options.save, case, Some(difference)) {
