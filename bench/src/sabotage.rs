@@ -138,7 +138,7 @@ const SELDOM: usize = 7;
 
 /// Reads an entry beside a slice of a length.
 fn read<T: Copy>(entry: *const T, length: usize) {
-    if length % SELDOM == 0 {
+    if length % SELDOM == 1 {
         // SAFETY: none; the entry lies outside. It is in a page beside that of the slice, which the
         // test has taken for itself, or the program ends, which is what is wanted.
         std::hint::black_box(unsafe { entry.read_volatile() });
@@ -147,7 +147,7 @@ fn read<T: Copy>(entry: *const T, length: usize) {
 
 /// Changes an entry beside a slice of a length.
 fn write<T: Copy>(entry: *mut T, length: usize) {
-    if length % SELDOM == 0 {
+    if length % SELDOM == 1 {
         // SAFETY: as for `read`.
         unsafe { entry.cast::<u8>().write_volatile(0) };
     }

@@ -28,7 +28,7 @@ usage: difftest [--cases N] [--seed N] [--first N] [--save DIR] [--save-each] [-
   --replay DIR  run the one case saved in a folder
   --sabotage NAME
                 run one implementation that is spoiled in this way, which must be found; `all` tries
-                each way and tells after how many cases it was found
+                each way and tells the case that found it; an unknown NAME lists all
   --help        this text
 
 The exit status is 0 if all cases agree (of `--sabotage all`: if each was found), 1 at the first

@@ -27,7 +27,7 @@ usage: fuzz [--seconds N] [--cases N] [--seed N] [--first N] [--threads N] [--sa
   --threads N  how many threads (default: one for each core)
   --save DIR   where a failing case is saved (default failing-case), for difftest --replay
   --sabotage NAME
-               spoil the library's answers in this way, which must be found
+               spoil the library's answers in this way, which must be found; an unknown NAME lists all
   --help       this text
 
 The exit status is 0 if all answers agree, 1 at the first difference or crash, 2 for bad arguments.";

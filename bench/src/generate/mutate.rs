@@ -99,7 +99,8 @@ fn change_header(random: &mut Random, bytes: &mut [u8]) {
 
 /// Bytes put in anywhere, or behind the end.
 fn lengthen(random: &mut Random, bytes: &mut Vec<u8>) {
-    let at = random.pick(&[random.clone().below(bytes.len()), bytes.len()]);
+    let inside = random.below(bytes.len());
+    let at = random.pick(&[inside, bytes.len()]);
     let more: Vec<u8> = (0..random.between(1, 4)).map(|_| random.word() as u8).collect();
     bytes.splice(at..at, more);
 }
