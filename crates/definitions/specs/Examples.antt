@@ -9,30 +9,13 @@ use lib.ListN.{length, getD, take}
 use Rattle.definitions.specs.Basics.{pick, each}
 use Rattle.definitions.specs.Fields.{Kind, foreign, exactly, atLeast, passedOver, only, fieldAt, onField, Grammar, scan, fieldBytes, refusedField}
 use Rattle.definitions.specs.Charts.{Chart, ChartStep, headFault, stepFault, readChart}
-use Rattle.definitions.specs.Diagrams.{InnerNode, nodeFault, readDiagram}
+use Rattle.definitions.specs.Diagrams.{Diagram, InnerNode, nodeFault, readDiagram}
+use Rattle.definitions.specs.Bytes.{headBytes, stepBytes, chartBytes, diagramBytes}
 use Rattle.definitions.specs.Answers.{Load, ready, refused, readFiles, load}
 use Rattle.definitions.specs.Marked.{st, nd, chart, rules}
 
-abbrev le2 : ℕ → List ℕ
-le2 n = n % 256 ∷ n / 256 ∷ []
-
-abbrev le4 : ℕ → List ℕ
-le4 n = n % 256 ∷ n / 256 % 256 ∷ n / 65536 % 256 ∷ n / 16777216 ∷ []
-
-abbrev headBytes : ℕ → ℕ → ℕ → List ℕ
-headBytes stages start end = 1 ∷ 6 ∷ 0 ∷ le2 stages ++ le2 start ++ le2 end
-
-abbrev stepBytes : ChartStep → List ℕ
-stepBytes x = 2 ∷ 8 ∷ 0 ∷ le2 (x .from) ++ le2 (x .to) ++ le4 (x .cost)
-
-abbrev nodeBytes : InnerNode → List ℕ
-nodeBytes x = 18 ∷ 6 ∷ 0 ∷ le2 (x .step) ++ le2 (x .lo) ++ le2 (x .hi)
-
-abbrev chartBytes : Chart → List ℕ
-chartBytes c = headBytes (c .stages) (c .start) (c .end) ++ each stepBytes (c .steps)
-
-abbrev diagramBytes : ℕ → List InnerNode → List ℕ
-diagramBytes root nodes = (17 ∷ 2 ∷ 0 ∷ le2 root) ++ each nodeBytes nodes
+abbrev rooted : ℕ → List InnerNode → Diagram
+rooted root nodes = record { root = root; nodes = nodes }
 
 -- a chart of five stages with these steps
 abbrev steps : List ChartStep → List ℕ
@@ -52,7 +35,7 @@ pub whole-chart : readChart (chartBytes chart) ≡ record { number = 0; place = 
 unfolding pick only fieldAt onField scan headFault stepFault readChart
 whole-chart = refl
 
-pub whole-diagram : readDiagram (diagramBytes 3 (rules .nodes)) 6 ≡ record { number = 0; place = 0; diagram = rules }
+pub whole-diagram : readDiagram (diagramBytes rules) 6 ≡ record { number = 0; place = 0; diagram = rules }
 unfolding pick only fieldAt onField scan nodeFault readDiagram
 whole-diagram = refl
 
@@ -75,14 +58,14 @@ computed =
     ∷ chartRefusal (steps (st 3 5 7 ∷ []))
     ∷ chartRefusal (steps (st 1 2 7 ∷ st 0 1 7 ∷ []))
     ∷ rulesRefusal [] 6
-    ∷ rulesRefusal (take 22 (diagramBytes 3 (rules .nodes))) 6
-    ∷ rulesRefusal (diagramBytes 4 (rules .nodes)) 6
-    ∷ rulesRefusal (diagramBytes 3 (rules .nodes)) 2
-    ∷ rulesRefusal (diagramBytes 9 (nd 2 0 1 ∷ nd 2 1 2 ∷ [])) 6
-    ∷ rulesRefusal (diagramBytes 2 (nd 2 0 2 ∷ [])) 6
-    ∷ refusedField (chartBytes chart) (diagramBytes 3 (rules .nodes)) 2 5
-    ∷ refusedField (chartBytes chart) (diagramBytes 3 (rules .nodes)) 1 73
-    ∷ refusedField (chartBytes chart) (diagramBytes 3 (rules .nodes)) 3 0
+    ∷ rulesRefusal (take 22 (diagramBytes rules)) 6
+    ∷ rulesRefusal (diagramBytes (rooted 4 (rules .nodes))) 6
+    ∷ rulesRefusal (diagramBytes rules) 2
+    ∷ rulesRefusal (diagramBytes (rooted 9 (nd 2 0 1 ∷ nd 2 1 2 ∷ []))) 6
+    ∷ rulesRefusal (diagramBytes (rooted 2 (nd 2 0 2 ∷ []))) 6
+    ∷ refusedField (chartBytes chart) (diagramBytes rules) 2 5
+    ∷ refusedField (chartBytes chart) (diagramBytes rules) 1 73
+    ∷ refusedField (chartBytes chart) (diagramBytes rules) 3 0
     ∷ []
 
 pub expected : List (List ℕ)
@@ -121,10 +104,10 @@ refusals-hold = refl
 -- the space: 5 × 4 entries for each work slice and 4 for the plan
 pub loads : List (List ℕ)
 loads =
-    loadRefusal (load (chartBytes chart) (diagramBytes 3 (rules .nodes)) (20 ∷ 20 ∷ []) 4)
-    ∷ loadRefusal (load (chartBytes chart) (diagramBytes 3 (rules .nodes)) (20 ∷ 19 ∷ []) 4)
-    ∷ loadRefusal (load (chartBytes chart) (diagramBytes 3 (rules .nodes)) (20 ∷ 20 ∷ []) 3)
-    ∷ loadRefusal (load (chartBytes chart) (diagramBytes 4 (rules .nodes)) (0 ∷ []) 0)
+    loadRefusal (load (chartBytes chart) (diagramBytes rules) (20 ∷ 20 ∷ []) 4)
+    ∷ loadRefusal (load (chartBytes chart) (diagramBytes rules) (20 ∷ 19 ∷ []) 4)
+    ∷ loadRefusal (load (chartBytes chart) (diagramBytes rules) (20 ∷ 20 ∷ []) 3)
+    ∷ loadRefusal (load (chartBytes chart) (diagramBytes (rooted 4 (rules .nodes))) (0 ∷ []) 0)
     ∷ loadRefusal (load (9 ∷ []) [] [] 0)
     ∷ []
 

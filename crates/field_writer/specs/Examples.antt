@@ -8,7 +8,7 @@ use lib.ListN.{take, replicate}
 use Rattle.definitions.specs.Answers.{refusal, accepted}
 use Rattle.definitions.specs.Basics.{pick}
 use Rattle.definitions.specs.Marked.{chart, rules}
-use Rattle.field_writer.specs.Bytes.{le2, le4, field, chartBytes, diagramBytes}
+use Rattle.definitions.specs.Bytes.{le2, le4, field, chartBytes, diagramBytes}
 use Rattle.field_writer.specs.Files.{fileAnswer, fileBuffer}
 
 low-byte-first : le2 513 ++ le4 67305985 ≡ 1 ∷ 2 ∷ 1 ∷ 2 ∷ 3 ∷ 4 ∷ []

@@ -1,4 +1,3 @@
-pub mod Bytes
 pub mod Written
 pub mod Members
 pub mod Files

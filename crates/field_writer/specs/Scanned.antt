@@ -11,7 +11,7 @@ use Rattle.definitions.specs.Fields.{two, part, fieldAt, scan, stopped}
 use Rattle.definitions.specs.declared.Field.the-variants.{Whole}
 use Rattle.fields.specs.Positions.{field-absent, field-whole}
 use Rattle.fields.specs.Scans.{scan-absent, scan-step}
-use Rattle.field_writer.specs.Bytes.{le2, field}
+use Rattle.definitions.specs.Bytes.{le2, field}
 
 -- ---- one field, with bytes before it and behind it
 

@@ -8,7 +8,7 @@ use lib.ListN.{length, length-append}
 use Rattle.definitions.specs.Basics.{each}
 use Rattle.definitions.specs.Charts.{Chart}
 use Rattle.definitions.specs.Diagrams.{Diagram}
-use Rattle.field_writer.specs.Bytes.{le2, le4, header, field, headBytes, stepBytes, chartBytes, rootBytes, nodeBytes, diagramBytes}
+use Rattle.definitions.specs.Bytes.{le2, le4, header, field, headBytes, stepBytes, chartBytes, rootBytes, nodeBytes, diagramBytes}
 
 pub each-long : {A : Type 0} (f : A → List ℕ) (n : ℕ) → ((x : A) → length (f x) ≡ n) → (xs : List A) → length (each f xs) ≡ n * length xs
 each-long f n h [] = omega arith

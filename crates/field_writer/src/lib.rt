@@ -6,7 +6,7 @@ ghost use Prim.Native.Nat.{_+_, _*_, _≤_, _<_};
 ghost use lib.ListN.{length};
 ghost use Rattle.definitions.specs.Basics.{each};
 ghost use Rattle.definitions.specs.Marked.{st, nd};
-ghost use Rattle.field_writer.specs.Bytes.{le2, le4, header, headBytes, stepBytes, rootBytes, nodeBytes};
+ghost use Rattle.definitions.specs.Bytes.{le2, le4, header, headBytes, stepBytes, rootBytes, nodeBytes};
 ghost use Rattle.field_writer.specs.Files.{fileAnswer};
 ghost use Rattle.field_writer.specs.Written.{Written};
 use definitions::Answer;

@@ -4,7 +4,7 @@ use mathlib.Core.Path.{_≡_, refl}
 use lib.ListN.{length, take}
 use borrow.Author.Needs.{needs}
 use Rattle.definitions.specs.Basics.{each}
-use Rattle.field_writer.specs.Bytes.{le2}
+use Rattle.definitions.specs.Bytes.{le2}
 use Rattle.field_writer.specs.Members.{written-next, written-all}
 use Rattle.field_writer.specs.Written.{Written, written-none}
 use Rattle.field_writer.proofs.write_numbers.Statement.{statement}
