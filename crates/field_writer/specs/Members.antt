@@ -7,7 +7,7 @@ use native.Mathlib.Numerals.{add-one}
 use lib.ListN.{length, getD, take}
 use lib.Seq.{take-suc, take-all}
 use Rattle.definitions.specs.Basics.{each, upto}
-use Rattle.fields.specs.Listed.{grown}
+use Rattle.theory.specs.Basics.{upto-grown}
 use Rattle.field_writer.specs.Written.{Written, written-both}
 
 module _ {A : Type 0} (f : A → List ℕ) where
@@ -24,7 +24,7 @@ module _ {A : Type 0} (f : A → List ℕ) where
   -- of a list that is given by its entries
   pub written-entry : (g : ℕ → A) (k : ℕ) {out : List ℕ} {at : ℕ} {o : List ℕ} {r : ℕ} {o′ : List ℕ} {r′ : ℕ}
       → Written out at (each f (map g (upto k))) o r → Written o r (f (g k)) o′ r′ → Written out at (each f (map g (upto (k + 1)))) o′ r′
-  written-entry g k p q = written-more (map g (upto k)) (map g (upto (k + 1))) (g k) (grown g g k (g k) (λ j h. refl) refl) p q
+  written-entry g k p q = written-more (map g (upto k)) (map g (upto (k + 1))) (g k) (upto-grown g g k (g k) (λ j h. refl) refl) p q
 
   -- of a list that stands in a slice, and all of it
   pub written-next : (xs : List A) (k : ℕ) (d : A) {out : List ℕ} {at : ℕ} {o : List ℕ} {r : ℕ} {o′ : List ℕ} {r′ : ℕ} → k < length xs

@@ -2,17 +2,17 @@
 -- Assumes nothing.
 use Prim.Native.Nat.{ℕ, _+_, _-_, _*_, _/_, _%_, _≤_, _<_}
 use mathlib.Core.Path.{_≡_, refl, _∙_, ap}
-use mathlib.Core.Bool.{true}
+use mathlib.Core.Bool.{true, false}
 use mathlib.Core.List.{List, [], _∷_, _++_}
 use native.Mathlib.Omega.{arith}
 use lib.ListN.{length, getD, length-append, List·getD-append, List·getD-eq-default}
 use lib.Seq.{getD-at}
 use borrow.Author.Tests.{lt-ltb, le-ltb, lt-leb}
 use Rattle.definitions.specs.Basics.{pick, each}
-use Rattle.definitions.specs.Fields.{two, four, fieldAt, onField, stopped}
-use Rattle.definitions.specs.Charts.{Chart, ChartStep, noStep, headFault, stepFault, stepOf, stepFaultAfter, lastFrom, scanSteps, readChart}
-use Rattle.definitions.specs.Diagrams.{InnerNode, Diagram, noNode, inner, childFits, nodeFault, nodeOf, nodeFaultAfter, scanNodes, readDiagram}
-use Rattle.definitions.specs.Limits.{Valid, Sound}
+use Rattle.definitions.specs.Fields.{two, four, only, fieldAt, onField, stopped}
+use Rattle.definitions.specs.Charts.{Chart, ChartStep, noStep, headFault, stepFault, stepOf, lastFrom, stepGrammar, scanSteps, readChart}
+use Rattle.definitions.specs.Diagrams.{InnerNode, Diagram, noNode, inner, childFits, nodeFault, innerNodeOf, nodeGrammar, scanNodes, readDiagram}
+use Rattle.theory.specs.Limits.{Valid, Small, Sound}
 use Rattle.definitions.specs.Marked.{st, nd}
 use Rattle.definitions.specs.Plans.{graph}
 use Rattle.definitions.specs.declared.Field.the-variants.{Whole}
@@ -56,7 +56,7 @@ step-passes stages last count b h i j k l = simp tests
 same-step : (x : ChartStep) → stepOf (bodyOfStep x) ≡ x
 same-step x = λ i. st (le2-back (x .from) i) (le2-back (x .to) i) (le4-back (x .cost) i)
 
-module _ (c : Chart) (v : Valid (graph c)) where
+module _ (c : Chart) (v : Valid (graph c)) (small : Small c) where
   module _ (before : List ChartStep) (x : ChartStep) (rest : List ChartStep) (split : c .steps ≡ before ++ x ∷ rest) where
     abbrev k : ℕ
     k = length before
@@ -77,7 +77,7 @@ module _ (c : Chart) (v : Valid (graph c)) where
     to-inside = omega (arith, v .inside k inside, ap (λ (y : ChartStep). y .to) step-is)
 
     cheap : x .cost ≤ 1000000
-    cheap = omega (arith, v .cheap k inside, ap (λ (y : ChartStep). y .cost) step-is)
+    cheap = omega (arith, small k inside, ap (λ (y : ChartStep). y .cost) step-is)
 
     rises : lastFrom before ≤ x .from
     rises =
@@ -85,9 +85,12 @@ module _ (c : Chart) (v : Valid (graph c)) where
         (λ h. omega (arith, v .sorted (k - 1) k (omega arith) inside, from-is, ap (λ (y : ChartStep). y .from) (earlier before x rest split noStep (k - 1) (omega arith))))
         (λ h. omega (arith, ap (λ (y : ChartStep). y .from) (List·getD-eq-default before noStep {n = k - 1} (omega arith))))
 
-    step-reads : Reads 2 8 (stepFaultAfter (c .stages)) stepOf bodyOfStep before x
+    step-reads : Reads (stepGrammar (c .stages)) 2 bodyOfStep before x
+    unfolding only pick
     step-reads = record {
-      long = refl;
+      known = refl;
+      given = refl;
+      fits = refl;
       passes =
           step-passes (c .stages) (lastFrom before) k (bodyOfStep x) (omega (arith, v .few, inside)) (omega (arith, forward)) (omega (arith, to-inside)) (omega (arith, rises))
           (omega (arith, cheap));
@@ -109,13 +112,13 @@ module _ (c : Chart) (v : Valid (graph c)) where
       (each-bytes stepBytes (c .steps) step-bytes)
 
   pub chart-read-back : readChart (chartBytes c) ≡ record { number = 0; place = 0; chart = c }
-  unfolding readChart onField pick
+  unfolding readChart onField only pick
   chart-read-back =
       let b = bodyOfHead (c .stages) (c .start) (c .end) in
-      let head : Whole 3 9 ≡ fieldAt (chartBytes c) 0 1 6 = fieldAt-written [] b (each stepBytes (c .steps)) 1 in
+      let head : Whole 3 9 ≡ fieldAt (chartBytes c) 0 (only 1 6) = fieldAt-written [] b (each stepBytes (c .steps)) 1 (only 1 6) refl refl in
       let good : headFault b ≡ 0 = head-passes b (omega (arith, v .some-stages)) (omega (arith, v .few-stages)) (omega (arith, v .start-inside)) (omega (arith, v .end-inside)) in
       let steps : scanSteps (chartBytes c) (c .stages) 9 ≡ stopped (c .steps) 0 0
-      = scan-written 2 8 (stepFaultAfter (c .stages)) stepOf bodyOfStep (c .steps) step-reads (chartBytes c) (headBytes (c .stages) (c .start) (c .end)) refl in
+      = scan-written (stepGrammar (c .stages)) 2 bodyOfStep (c .steps) step-reads (chartBytes c) (headBytes (c .stages) (c .start) (c .end)) refl in
       rw (← head, good, le2-back (c .stages), le2-back (c .start), le2-back (c .end), steps)
 
 -- ---- diagrams
@@ -126,7 +129,7 @@ node-passes : (steps count step lo hi : ℕ) (stepAt : ℕ → ℕ) (b : List �
 unfolding nodeFault pick
 node-passes steps count step lo hi stepAt b e f g few exists l h = rw (e, f, g, l, h, lt-leb 510 count few, lt-leb steps step exists)
 
-same-node : (x : InnerNode) → nodeOf (bodyOfNode x) ≡ x
+same-node : (x : InnerNode) → innerNodeOf (bodyOfNode x) ≡ x
 same-node x = λ i. nd (le2-back (x .step) i) (le2-back (x .lo) i) (le2-back (x .hi) i)
 
 module _ (steps : ℕ) (d : Diagram) (p : Sound steps d) where
@@ -162,9 +165,12 @@ module _ (steps : ℕ) (d : Diagram) (p : Sound steps d) where
         (λ h. rw (le-ltb r 2 h)
         (lt-ltb (x .step) (stepAt r) (omega (arith, f h, ap (λ (y : InnerNode). y .step) (earlier before x rest split noNode (r - 2) (omega arith)))))))
 
-    node-reads : Reads 18 6 (nodeFaultAfter steps) nodeOf bodyOfNode before x
+    node-reads : Reads (nodeGrammar steps) 18 bodyOfNode before x
+    unfolding only pick
     node-reads = record {
-      long = refl;
+      known = refl;
+      given = refl;
+      fits = refl;
       passes =
           node-passes steps (length before) (x .step) (x .lo) (x .hi) stepAt (bodyOfNode x) (le2-back (x .step)) (le2-back (x .lo)) (le2-back (x .hi)) few-before exists
           (child (x .lo) lo-below (rw node-is at (p .ordered .lo-later n inner-one))) (child (x .hi) hi-below (rw node-is at (p .ordered .hi-later n inner-one)));
@@ -182,9 +188,9 @@ module _ (steps : ℕ) (d : Diagram) (p : Sound steps d) where
       (each-bytes nodeBytes (d .nodes) (λ before x rest split. node-bytes before x rest split few))
 
   pub diagram-read-back : readDiagram (diagramBytes d) steps ≡ record { number = 0; place = 0; diagram = d }
-  unfolding readDiagram onField pick
+  unfolding readDiagram onField only pick
   diagram-read-back =
-      let head : Whole 3 5 ≡ fieldAt (diagramBytes d) 0 17 2 = fieldAt-written [] (le2 (d .root)) (each nodeBytes (d .nodes)) 17 in
+      let head : Whole 3 5 ≡ fieldAt (diagramBytes d) 0 (only 17 2) = fieldAt-written [] (le2 (d .root)) (each nodeBytes (d .nodes)) 17 (only 17 2) refl refl in
       let nodes : scanNodes (diagramBytes d) steps 5 ≡ stopped (d .nodes) 0 0
-      = scan-written 18 6 (nodeFaultAfter steps) nodeOf bodyOfNode (d .nodes) node-reads (diagramBytes d) (rootBytes (d .root)) refl in
+      = scan-written (nodeGrammar steps) 18 bodyOfNode (d .nodes) node-reads (diagramBytes d) (rootBytes (d .root)) refl in
       rw (← head, le2-back (d .root), nodes, lt-leb (length (d .nodes) + 2) (d .root) (p .root-inside))
