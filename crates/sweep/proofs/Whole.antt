@@ -37,7 +37,7 @@ need z t = ap (λ (k : ℕ). z .stages * (k + 2)) (length-held (z .nodes) (t .in
 
 module _ {z : Shape} {t : Read} (in-tables : Tables z t) where
   pub run-sorted : SortedTable (z .steps) (t .steps .from) × (z .stages ≤ 256)
-  run-sorted = (held-sorted (z .stages) (z .start .0) (z .end .0) (z .steps) (t .steps) (in-tables .valid), few-stages z t in-tables)
+  run-sorted = (held-sorted z (t .steps) (in-tables .valid), few-stages z t in-tables)
 
   pub run-narrow : (z .stages ≤ 256) × (z .nodes + 2 ≤ 512)
   run-narrow = (few-stages z t in-tables, omega (arith, few-nodes z t in-tables))

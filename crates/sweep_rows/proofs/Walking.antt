@@ -14,6 +14,7 @@ use Rattle.definitions.specs.Ways.{Graph}
 use Rattle.definitions.specs.Pairs.{Automaton}
 use Rattle.theory.specs.Basics.{pick-true, pick-false, either}
 use Rattle.theory.specs.Diagrams.{advance-leaf}
+use Rattle.theory.specs.Variables.{next-is}
 use Rattle.trace.specs.Trails.{packed}
 use Rattle.diagram.specs.Tables.{Marked}
 use Rattle.nodes.specs.Falling.{lo-falls}
@@ -25,7 +26,7 @@ use Rattle.sweep_model.specs.Offers.{pair-fits, roomy, place-fits}
 use Rattle.sweep_model.specs.Sweeps.{step-made}
 use Rattle.checks.specs.Ready.{Walk, walk, graphIn, automatonIn, count-is, width-is, lawful-in, few-stages, few-nodes, few-steps, to-at, cost-at, first-leave, row-start}
 use Rattle.chart.specs.Tables.{Steps}
-use Rattle.checks.specs.Tables.{Read, Tables, diagramIn}
+use Rattle.checks.specs.Tables.{Read, Tables, chartIn, diagramIn}
 use Rattle.definitions.specs.declared.Shape.{Shape}
 use Rattle.sweep_rows.specs.Standing.{Open, Offering, stepped, Standing, Stands}
 
@@ -100,7 +101,7 @@ module _ {z : Shape} {on : Walk} {s n v begin until : ℕ} {r₀ r : Rows} {e m 
     walk-step = omega (arith, leaving .0, few-steps z (on .read) (standing .ready .tables))
 
     -- one step e out of the stage, to node t
-    module _ (t : ℕ) (et : t ≡ advance d e n) where
+    module _ (t : ℕ) (et : t ≡ a .next e n) where
       exists : e < g .count
       exists = omega (arith, leaving .0, count-is z (on .read) tables)
 
@@ -195,15 +196,16 @@ module _ {z : Shape} {on : Walk} {s n v begin until : ℕ} {r₀ r : Rows} {e m 
       unfolding relaxSteps relaxStep
       dead zero f h q r = refl
       dead (suc k) f h q r =
-          let none : a .next f n ≡ 0 = sym (carried-on f h) ∙ ap (advance d f) q ∙ advance-leaf d (standing .ready .tables .held .ordered) f 0 (omega arith) in
+          let none : a .next f n ≡ 0 = next-is (chartIn z (on .read)) d f n ∙ sym (carried-on f h) ∙ ap (advance d f) q ∙ advance-leaf d (standing .ready .tables .held .ordered) f 0 (omega arith) in
           ap (relaxSteps g a n v (suc f) k) (pick-true _ _ _ (eq-eqb _ 0 none)) ∙ dead k (suc f) (omega arith) q r
 
       pub walk-dead : m′ ≡ 0 → r ≡ relaxSteps g a n v begin (until - begin) r₀
       walk-dead q = sym (w .same ∙ dead (until - e) e (omega arith) q r)
 
       module _ {t : ℕ} (y : BranchesTo (on .read .inner .step) (on .read .inner .hi) e m′ t) where
-        advanced-is : t ≡ advance d e n
-        advanced-is = y (on .read .inner .lo) m x .is d (standing .ready .tables .held) small ∙ w .carried e (omega arith)
+        advanced-is : t ≡ a .next e n
+        advanced-is =
+            y (on .read .inner .lo) m x .is d (standing .ready .tables .held) small ∙ w .carried e (omega arith) ∙ sym (next-is (chartIn z (on .read)) d e n)
 
         pub walk-offering : Offering (on .read .steps) row e n v t r
         walk-offering = offering t advanced-is
