@@ -1,0 +1,5 @@
+pub mod Demands
+pub mod Numbers
+pub mod Checked
+pub mod Reached
+pub mod Counted
