@@ -15,15 +15,14 @@ use Rattle.definitions.specs.Diagrams.{Diagram, size}
 use Rattle.definitions.specs.Plans.{graph}
 use Rattle.definitions.specs.Answers.{Load, ready, refused, load, spaceFits}
 use Rattle.theory.specs.Basics.{both, either, same-or-not, true-not-false}
-use Rattle.theory.specs.Limits.{Valid, Sound}
+use Rattle.theory.specs.Limits.{Valid}
 use Rattle.chart.specs.Accepted.{chart-accepted}
-use Rattle.diagram.specs.Accepted.{diagram-accepted}
 use Rattle.checks.specs.Outcome.{chart-refuses, rules-refuse, space-refuses, all-ready, refused-not-ready, ready-files}
 use Rattle.demands.specs.Demands.{Call, rulesRead, Files, need, Space, Passes}
 
 -- the checks on both files and on the lengths of the lent slices
-abbrev pub loadOf : Call → Load
-loadOf x = load (x .chart) (x .rules) (map length (x .works)) (length (x .plan))
+abbrev pub loadOf : List ℕ → List ℕ → Call → Load
+loadOf chart rules x = load chart rules (map length (x .works)) (length (x .plan))
 
 -- ---- the space
 
@@ -52,59 +51,71 @@ module _ (x : Call) (c : Chart) (d : Diagram) where
 
 -- ---- the one outcome
 
-module _ (x : Call) where
+module _ (chart rules : List ℕ) (x : Call) where
   abbrev C : Chart
-  C = readChart (x .chart) .chart
+  C = readChart chart .chart
 
   abbrev D : Diagram
-  D = rulesRead x .diagram
+  D = rulesRead chart rules .diagram
 
-  held : readChart (x .chart) .number ≡ 0 → rulesRead x .number ≡ 0 → Files x C D
+  held : readChart chart .number ≡ 0 → rulesRead chart rules .number ≡ 0 → Files chart rules C D
   held p q = record { chart-passes = p; rules-pass = q; chart-held = refl; rules-held = refl }
 
   pub data Judged : Type 0 where
-    chart-bad : (readChart (x .chart) .number ≡ 0 → ⊥) → loadOf x ≡ refused (readChart (x .chart) .number) 1 (readChart (x .chart) .place) → Judged
-    rules-bad : readChart (x .chart) .number ≡ 0 → (rulesRead x .number ≡ 0 → ⊥) → loadOf x ≡ refused (rulesRead x .number) 2 (rulesRead x .place) → Judged
-    too-short : Files x C D → (Space x C D → ⊥) → loadOf x ≡ refused 7 0 0 → Judged
-    all-pass : Passes x C D → loadOf x ≡ ready C D → Judged
+    chart-bad : (readChart chart .number ≡ 0 → ⊥) → loadOf chart rules x ≡ refused (readChart chart .number) 1 (readChart chart .place) → Judged
+    rules-bad : readChart chart .number ≡ 0 → (rulesRead chart rules .number ≡ 0 → ⊥) → loadOf chart rules x ≡ refused (rulesRead chart rules .number) 2 (rulesRead chart rules .place) → Judged
+    too-short : Files chart rules C D → (Space x C D → ⊥) → loadOf chart rules x ≡ refused 7 0 0 → Judged
+    all-pass : Passes chart rules x C D → loadOf chart rules x ≡ ready C D → Judged
 
   pub judged : Judged
   judged =
-      either (same-or-not (readChart (x .chart) .number) 0)
-      (λ p. either (same-or-not (rulesRead x .number) 0) (λ q. go p q (spaceFits C D (map length (x .works)) (length (x .plan))) refl)
-      (λ q. rules-bad p q (rules-refuse (x .chart) (x .rules) (map length (x .works)) (length (x .plan)) p q)))
-      (λ p. chart-bad p (chart-refuses (x .chart) (x .rules) (map length (x .works)) (length (x .plan)) p))
+      either (same-or-not (readChart chart .number) 0)
+      (λ p. either (same-or-not (rulesRead chart rules .number) 0) (λ q. go p q (spaceFits C D (map length (x .works)) (length (x .plan))) refl)
+      (λ q. rules-bad p q (rules-refuse chart rules (map length (x .works)) (length (x .plan)) p q)))
+      (λ p. chart-bad p (chart-refuses chart rules (map length (x .works)) (length (x .plan)) p))
     where
-      go : readChart (x .chart) .number ≡ 0 → rulesRead x .number ≡ 0 → (b : Bool) → spaceFits C D (map length (x .works)) (length (x .plan)) ≡ b → Judged
-      go p q true e = all-pass (record { files = held p q; space = fits-space x C D e }) (all-ready (x .chart) (x .rules) (map length (x .works)) (length (x .plan)) p q e)
+      go : readChart chart .number ≡ 0 → rulesRead chart rules .number ≡ 0 → (b : Bool) → spaceFits C D (map length (x .works)) (length (x .plan)) ≡ b → Judged
+      go p q true e = all-pass (record { files = held p q; space = fits-space x C D e }) (all-ready chart rules (map length (x .works)) (length (x .plan)) p q e)
       go p q false e =
-          too-short (held p q) (λ s. true-not-false (sym (space-fits x C D s) ∙ e)) (space-refuses (x .chart) (x .rules) (map length (x .works)) (length (x .plan)) p q e)
+          too-short (held p q) (λ s. true-not-false (sym (space-fits x C D s) ∙ e)) (space-refuses chart rules (map length (x .works)) (length (x .plan)) p q e)
+
+  -- ---- one law for each refusal
+
+  pub chart-load : (readChart chart .number ≡ 0 → ⊥) → loadOf chart rules x ≡ refused (readChart chart .number) 1 (readChart chart .place)
+  chart-load h = chart-refuses chart rules (map length (x .works)) (length (x .plan)) h
+
+  pub rules-load : readChart chart .number ≡ 0 → (rulesRead chart rules .number ≡ 0 → ⊥) → loadOf chart rules x ≡ refused (rulesRead chart rules .number) 2 (rulesRead chart rules .place)
+  rules-load p h = rules-refuse chart rules (map length (x .works)) (length (x .plan)) p h
+
+  pub space-load : (c : Chart) (d : Diagram) → Files chart rules c d → (Space x c d → ⊥) → loadOf chart rules x ≡ refused 7 0 0
+  space-load c d f n = go judged
+    where
+      go : Judged → loadOf chart rules x ≡ refused 7 0 0
+      go (chart-bad p q) = absurd (p (f .chart-passes))
+      go (rules-bad p q u) = absurd (q (f .rules-pass))
+      go (too-short h s q) = q
+      go (all-pass a q) = absurd (n (rw (← (f .chart-held), ← (f .rules-held)) (a .space)))
 
   -- ---- ready exactly where all checks pass
 
-  pub passes-ready : (c : Chart) (d : Diagram) → Passes x c d → loadOf x ≡ ready c d
+  pub passes-ready : (c : Chart) (d : Diagram) → Passes chart rules x c d → loadOf chart rules x ≡ ready c d
   passes-ready c d a =
       let f = a .files in
-      all-ready (x .chart) (x .rules) (map length (x .works)) (length (x .plan)) (f .chart-passes) (f .rules-pass)
+      all-ready chart rules (map length (x .works)) (length (x .plan)) (f .chart-passes) (f .rules-pass)
       (ap₂ (λ (i : Chart) (j : Diagram). spaceFits i j (map length (x .works)) (length (x .plan))) (f .chart-held) (f .rules-held) ∙ space-fits x c d (a .space))
       ∙ ap₂ (λ (i : Chart) (j : Diagram). ready i j) (f .chart-held) (f .rules-held)
 
-  pub ready-passes : (c : Chart) (d : Diagram) → loadOf x ≡ ready c d → Passes x c d
+  pub ready-passes : (c : Chart) (d : Diagram) → loadOf chart rules x ≡ ready c d → Passes chart rules x c d
   ready-passes c d e = go judged
     where
-      go : Judged → Passes x c d
+      go : Judged → Passes chart rules x c d
       go (chart-bad p q) = absurd (refused-not-ready _ _ _ c d (sym q ∙ e))
       go (rules-bad p q u) = absurd (refused-not-ready _ _ _ c d (sym u ∙ e))
       go (too-short f s q) = absurd (refused-not-ready _ _ _ c d (sym q ∙ e))
       go (all-pass a q) =
-          let t = ready-files (x .chart) (x .rules) (map length (x .works)) (length (x .plan)) c d e in
+          let t = ready-files chart rules (map length (x .works)) (length (x .plan)) c d e in
           rw (t .0, t .1) a
 
-  -- ---- what is known of the chart and of the diagram
-
-  module _ (c : Chart) (d : Diagram) (f : Files x c d) where
-    pub valid : Valid (graph c)
-    valid = rw (← (f .chart-held)) (chart-accepted (x .chart) (f .chart-passes) .0)
-
-    pub sound : Sound (length (c .steps)) d
-    sound = rw (← (f .chart-held), ← (f .rules-held)) (diagram-accepted (x .rules) _ (f .rules-pass))
+-- an accepted chart is within its limits
+pub valid : (chart rules : List ℕ) (c : Chart) (d : Diagram) → Files chart rules c d → Valid (graph c)
+valid chart rules c d f = rw (← (f .chart-held)) (chart-accepted chart (f .chart-passes) .0)

@@ -18,10 +18,8 @@ use Rattle.definitions.specs.declared.Answer.{Answer}
 
 -- ---- calls and their checks
 
--- one call of a search: both files, its work slices and its plan slice before and after it, and its answer
+-- one search: its work slices and its plan slice before and after the call, and its answer
 pub record Call : Type 0 where
-  pub chart : List ℕ
-  pub rules : List ℕ
   pub works : List (List ℕ)
   pub works′ : List (List ℕ)
   pub plan : List ℕ
@@ -31,41 +29,25 @@ pub record Call : Type 0 where
 abbrev pub sweepWorks : SweepSlices → List (List ℕ)
 sweepWorks x = x .cost ∷ x .via ∷ x .nodes ∷ []
 
+abbrev pub sweepCall : SweepSlices → SweepSlices → Answer → Call
+sweepCall before after r = record { works = sweepWorks before; works′ = sweepWorks after; plan = before .plan; plan′ = after .plan; answer = r }
+
 abbrev pub guidedWorks : GuidedSlices → List (List ℕ)
 guidedWorks x = x .keys ∷ x .via ∷ x .heap ∷ x .pos ∷ x .stack ∷ x .log ∷ []
 
-abbrev pub sweepCall : List ℕ → List ℕ → SweepSlices → SweepSlices → Answer → Call
-sweepCall chart rules before after r = record {
-  chart = chart;
-  rules = rules;
-  works = sweepWorks before;
-  works′ = sweepWorks after;
-  plan = before .plan;
-  plan′ = after .plan;
-  answer = r;
-}
-
-abbrev pub guidedCall : List ℕ → List ℕ → GuidedSlices → GuidedSlices → Answer → Call
-guidedCall chart rules before after r = record {
-  chart = chart;
-  rules = rules;
-  works = guidedWorks before;
-  works′ = guidedWorks after;
-  plan = before .plan;
-  plan′ = after .plan;
-  answer = r;
-}
+abbrev pub guidedCall : GuidedSlices → GuidedSlices → Answer → Call
+guidedCall before after r = record { works = guidedWorks before; works′ = guidedWorks after; plan = before .plan; plan′ = after .plan; answer = r }
 
 -- the diagram file, read for the chart of the chart file
-abbrev pub rulesRead : Call → DiagramRead
-rulesRead x = readDiagram (x .rules) (length (readChart (x .chart) .chart .steps))
+abbrev pub rulesRead : List ℕ → List ℕ → DiagramRead
+rulesRead chart rules = readDiagram rules (length (readChart chart .chart .steps))
 
 -- both files are accepted: they hold the chart c and the diagram d
-pub record Files (x : Call) (c : Chart) (d : Diagram) : Type 0 where
-  pub chart-passes : readChart (x .chart) .number ≡ 0
-  pub rules-pass : rulesRead x .number ≡ 0
-  pub chart-held : readChart (x .chart) .chart ≡ c
-  pub rules-held : rulesRead x .diagram ≡ d
+pub record Files (chart rules : List ℕ) (c : Chart) (d : Diagram) : Type 0 where
+  pub chart-passes : readChart chart .number ≡ 0
+  pub rules-pass : rulesRead chart rules .number ≡ 0
+  pub chart-held : readChart chart .chart ≡ c
+  pub rules-held : rulesRead chart rules .diagram ≡ d
 
 -- the entries that each work slice needs: stage count × N
 abbrev pub need : Chart → Diagram → ℕ
@@ -77,8 +59,8 @@ pub record Space (x : Call) (c : Chart) (d : Diagram) : Type 0 where
   pub plan : c .stages - 1 ≤ length (x .plan)
 
 -- all checks pass, for the chart c and the diagram d (exactly where `load` of the definitions is `ready c d`: `Checked`)
-pub record Passes (x : Call) (c : Chart) (d : Diagram) : Type 0 where
-  pub files : Files x c d
+pub record Passes (chart rules : List ℕ) (x : Call) (c : Chart) (d : Diagram) : Type 0 where
+  pub files : Files chart rules c d
   pub space : Space x c d
 
 -- ---- demand 1: whoever hands in a chart, a diagram and work space, sound or broken, gets a plan (0) or the one refusal; a refused call leaves the plan slice
@@ -97,17 +79,17 @@ pub record StaysFrom (n : ℕ) (slice slice′ : List ℕ) : Type 0 where
   pub long : length slice′ ≡ length slice
   pub rest : drop n slice′ ≡ drop n slice
 
-pub record Demand1 (x : Call) : Type 0 where
+pub record Demand1 (chart rules : List ℕ) (x : Call) : Type 0 where
   -- the chart before the diagram, both before the space
-  pub chart-refused : (readChart (x .chart) .number ≡ 0 → ⊥) → Refusal (readChart (x .chart) .number) 1 (readChart (x .chart) .place) 0 (x .answer)
-  pub rules-refused : readChart (x .chart) .number ≡ 0 → (rulesRead x .number ≡ 0 → ⊥) → Refusal (rulesRead x .number) 2 (rulesRead x .place) 0 (x .answer)
-  pub space-refused : (c : Chart) (d : Diagram) → Files x c d → (Space x c d → ⊥) → Refusal 7 0 0 0 (x .answer)
+  pub chart-refused : (readChart chart .number ≡ 0 → ⊥) → Refusal (readChart chart .number) 1 (readChart chart .place) 0 (x .answer)
+  pub rules-refused : readChart chart .number ≡ 0 → (rulesRead chart rules .number ≡ 0 → ⊥) → Refusal (rulesRead chart rules .number) 2 (rulesRead chart rules .place) 0 (x .answer)
+  pub space-refused : (c : Chart) (d : Diagram) → Files chart rules c d → (Space x c d → ⊥) → Refusal 7 0 0 0 (x .answer)
   -- where all checks pass: a plan, or 8
-  pub passed : (c : Chart) (d : Diagram) → Passes x c d → (x .answer .number ≡ 0) ⊎ (x .answer .number ≡ 8)
+  pub passed : (c : Chart) (d : Diagram) → Passes chart rules x c d → (x .answer .number ≡ 0) ⊎ (x .answer .number ≡ 8)
   -- a refusal leaves the plan slice, one other than 8 every lent slice; the work slices past their need always stay
   pub plan-stays : (x .answer .number ≡ 0 → ⊥) → x .plan′ ≡ x .plan
   pub works-stay : (x .answer .number ≡ 0 → ⊥) → (x .answer .number ≡ 8 → ⊥) → x .works′ ≡ x .works
-  pub past-stays : (c : Chart) (d : Diagram) → Passes x c d → (i : ℕ) → StaysFrom (need c d) (getD (x .works) i []) (getD (x .works′) i [])
+  pub past-stays : (c : Chart) (d : Diagram) → Passes chart rules x c d → (i : ℕ) → StaysFrom (need c d) (getD (x .works) i []) (getD (x .works′) i [])
 
 -- ---- demand 2: a plan given back is a legal plan of that chart and its cost is the sum of its steps; 8 exactly where all checks pass and there is none
 
@@ -125,9 +107,9 @@ pub record Given (x : Call) (c : Chart) (d : Diagram) : Type 0 where
 abbrev pub NoPlan : Chart → Diagram → Type 0
 NoPlan c d = (w : List ℕ) → Legal c d w → ⊥
 
-pub record Demand2 (x : Call) : Type 0 where
-  pub given : x .answer .number ≡ 0 → (c : Chart) × (d : Diagram) × Passes x c d × Given x c d
-  pub exactly : (x .answer .number ≡ 8) ↔ ((c : Chart) × (d : Diagram) × Passes x c d × NoPlan c d)
+pub record Demand2 (chart rules : List ℕ) (x : Call) : Type 0 where
+  pub given : x .answer .number ≡ 0 → (c : Chart) × (d : Diagram) × Passes chart rules x c d × Given x c d
+  pub exactly : (x .answer .number ≡ 8) ↔ ((c : Chart) × (d : Diagram) × Passes chart rules x c d × NoPlan c d)
   pub eight : x .answer .number ≡ 8 → Refusal 8 0 0 (x .answer .count) (x .answer)
 
 -- ---- demand 3: sweep and guided search agree
@@ -228,17 +210,17 @@ module _ (c : Chart) (d : Diagram) where
 
 -- of a sweep and a guided search on the same files, by the slices that each was lent before and after
 pub record Demand3 (chart rules : List ℕ) (lent lent′ : SweepSlices) (r : Answer) (given given′ : GuidedSlices) (q : Answer) : Type 0 where
-  pub sweep-cheapest : (c : Chart) (d : Diagram) → Passes (sweepCall chart rules lent lent′ r) c d → Cheapest c d r
-  pub guided-cheapest : (c : Chart) (d : Diagram) → Passes (guidedCall chart rules given given′ q) c d → Cheapest c d q
+  pub sweep-cheapest : (c : Chart) (d : Diagram) → Passes chart rules (sweepCall lent lent′ r) c d → Cheapest c d r
+  pub guided-cheapest : (c : Chart) (d : Diagram) → Passes chart rules (guidedCall given given′ q) c d → Cheapest c d q
   pub agree : Agree r q
-  pub sweeps : (c : Chart) (d : Diagram) → Passes (sweepCall chart rules lent lent′ r) c d → Sweeps c d (lent′ .cost) r
-  pub settles : (c : Chart) (d : Diagram) → Passes (guidedCall chart rules given given′ q) c d → Settles c d (given .log) (given′ .log) q
+  pub sweeps : (c : Chart) (d : Diagram) → Passes chart rules (sweepCall lent lent′ r) c d → Sweeps c d (lent′ .cost) r
+  pub settles : (c : Chart) (d : Diagram) → Passes chart rules (guidedCall given given′ q) c d → Settles c d (given .log) (given′ .log) q
 
 -- ---- all demands, of both searches on the same files
 
 pub record Demands (chart rules : List ℕ) (lent lent′ : SweepSlices) (r : Answer) (given given′ : GuidedSlices) (q : Answer) : Type 0 where
-  pub sweep-1 : Demand1 (sweepCall chart rules lent lent′ r)
-  pub guided-1 : Demand1 (guidedCall chart rules given given′ q)
-  pub sweep-2 : Demand2 (sweepCall chart rules lent lent′ r)
-  pub guided-2 : Demand2 (guidedCall chart rules given given′ q)
+  pub sweep-1 : Demand1 chart rules (sweepCall lent lent′ r)
+  pub guided-1 : Demand1 chart rules (guidedCall given given′ q)
+  pub sweep-2 : Demand2 chart rules (sweepCall lent lent′ r)
+  pub guided-2 : Demand2 chart rules (guidedCall given given′ q)
   pub both-3 : Demand3 chart rules lent lent′ r given given′ q

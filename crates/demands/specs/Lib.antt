@@ -3,3 +3,5 @@ pub mod Numbers
 pub mod Checked
 pub mod Reached
 pub mod Counted
+pub mod Results
+pub mod Agreed
