@@ -5,3 +5,5 @@ pub mod Reached
 pub mod Counted
 pub mod Results
 pub mod Agreed
+pub mod Settled
+pub mod Demanded
