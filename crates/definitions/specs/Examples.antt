@@ -26,10 +26,10 @@ stepBytes x = 2 ∷ 8 ∷ 0 ∷ le2 (x .from) ++ le2 (x .to) ++ le4 (x .cost)
 abbrev nodeBytes : InnerNode → List ℕ
 nodeBytes x = 18 ∷ 6 ∷ 0 ∷ le2 (x .step) ++ le2 (x .lo) ++ le2 (x .hi)
 
-abbrev chartBytes : Chart → List ℕ
+abbrev pub chartBytes : Chart → List ℕ
 chartBytes c = headBytes (c .stages) (c .start) (c .end) ++ each stepBytes (c .steps)
 
-abbrev diagramBytes : ℕ → List InnerNode → List ℕ
+abbrev pub diagramBytes : ℕ → List InnerNode → List ℕ
 diagramBytes root nodes = (17 ∷ 2 ∷ 0 ∷ le2 root) ++ each nodeBytes nodes
 
 -- a chart of five stages with these steps
@@ -39,10 +39,10 @@ steps ss = headBytes 5 0 4 ++ each stepBytes ss
 abbrev chartRefusal : List ℕ → List ℕ
 chartRefusal s = readChart s .number ∷ readChart s .place ∷ []
 
-abbrev rulesRefusal : List ℕ → ℕ → List ℕ
+abbrev pub rulesRefusal : List ℕ → ℕ → List ℕ
 rulesRefusal s count = readDiagram s count .number ∷ readDiagram s count .place ∷ []
 
-abbrev loadRefusal : Load → List ℕ
+abbrev pub loadRefusal : Load → List ℕ
 loadRefusal (ready c d) = []
 loadRefusal (refused number file place) = number ∷ file ∷ place ∷ []
 

@@ -69,8 +69,8 @@ module _ (c : Chart) (d : Diagram) (v : Valid (graph c)) where
   pub pairs-all : (p m : ℕ) → Reached c d p m → (i : ℕ) × At (reachedPairs (graph c) (automaton c d)) i p
   pairs-all p m r =
       let t = member-at (reachedPairs (graph c) (automaton c d))
-              (reachedPairs-in (graph c) (automaton c d) p (reached-inside c d v p m r)
-              (cost-reached (graph c) (automaton c d) (p / size d) (p % size d) m (reached-is c d v p m r))) in
+      (reachedPairs-in (graph c) (automaton c d) p (reached-inside c d v p m r)
+      (cost-reached (graph c) (automaton c d) (p / size d) (p % size d) m (reached-is c d v p m r))) in
       (t .0, (t .1, t .2))
 
   pub pairs-only : (i p : ℕ) → At (reachedPairs (graph c) (automaton c d)) i p → (m : ℕ) × Reached c d p m
@@ -120,6 +120,6 @@ module _ (c : Chart) (d : Diagram) (v : Valid (graph c)) where
     pub cost-past : need c d ≤ length cost → StaysFrom (need c d) cost cost′
     cost-past h = record {
       long = ap (λ (l : List ℕ). length l) e ∙ length-append (leastCosts (graph c) (automaton c d)) (drop (need c d) cost)
-             ∙ omega (arith, costs-long, length-drop (need c d) cost);
+          ∙ omega (arith, costs-long, length-drop (need c d) cost);
       rest = ap (drop (need c d)) e ∙ drop-at (leastCosts (graph c) (automaton c d)) (drop (need c d) cost) (need c d) costs-long;
     }

@@ -119,9 +119,11 @@ module _ (chart rules : List ℕ) (given given′ : GuidedSlices) (q : Answer) w
         go : (o : Load) → loadOf chart rules guided ≡ o → GuidedParts o → Promised o guided
         go (refused n f p) e t =
             let tail = ap₂ (λ (x y : List ℕ). x ∷ y ∷ given′ .log ∷ []) (t .pos) (t .stack) ∙ ap (λ (x : List ℕ). given .pos ∷ given .stack ∷ x ∷ []) (t .search .2) in
-            let middle = ap₂ (λ (x : List ℕ) (y : List (List ℕ)). x ∷ y) (t .heap) tail in
-            (t .search .0, t .search .1,
-            ap₂ (λ (x : List ℕ) (y : List (List ℕ)). x ∷ y) (t .keys) (ap₂ (λ (x : List ℕ) (y : List (List ℕ)). x ∷ y) (t .via) middle))
+            let middle = ap₂ (λ (x : List ℕ) (y : List (List ℕ)). x ∷ y) (t .heap) tail in (
+              t .search .0,
+              t .search .1,
+              ap₂ (λ (x : List ℕ) (y : List (List ℕ)). x ∷ y) (t .keys) (ap₂ (λ (x : List ℕ) (y : List (List ℕ)). x ∷ y) (t .via) middle),
+            )
         go (ready c d) e t = (q .count, t .search .0, past)
           where
             v : Valid (graph c)
@@ -154,8 +156,8 @@ module _ (chart rules : List ℕ) (lent lent′ : SweepSlices) (r : Answer) (giv
       let p = sweep-promised chart rules lent lent′ r s in
       let p′ = guided-promised chart rules given given′ q g in
       let few : Searched r → Searched q → q .count ≤ r .count =
-          λ h i. let a = same-pass chart rules x y p p′ h i in
-          omega (arith, settled-few chart rules given given′ q g (a .0) (a .1) (a .3), swept-count chart rules lent lent′ r s (a .0) (a .1) (a .2)) in
+      λ h i. let a = same-pass chart rules x y p p′ h i in
+      omega (arith, settled-few chart rules given given′ q g (a .0) (a .1) (a .3), swept-count chart rules lent lent′ r s (a .0) (a .1) (a .2)) in
       record {
         sweep-1 = demand-1 chart rules x p;
         guided-1 = demand-1 chart rules y p′;

@@ -125,5 +125,5 @@ module _ (c : Chart) (d : Diagram) (v : Valid (graph c)) where
         let k : r .count ≤ need c d = omega (arith, l .few, pairs-few c d v) in
         let q : need c d ≡ r .count + (need c d - r .count) = omega arith in
         let cut : (x : List ℕ) → drop (need c d) x ≡ drop (need c d - r .count) (drop (r .count) x) =
-            λ x. ap (λ (n : ℕ). drop n x) q ∙ sym (drop-drop (need c d - r .count) (r .count) x) in
+        λ x. ap (λ (n : ℕ). drop n x) q ∙ sym (drop-drop (need c d - r .count) (r .count) x) in
         record { long = l .long; rest = cut log′ ∙ ap (drop (need c d - r .count)) (l .rest) ∙ sym (cut log) }
