@@ -84,6 +84,10 @@ abbrev Each : ℕ → (ℕ → Type 0) → Type 0
 Each zero P = Unit {0}
 Each (suc n) P = P 0 × Each n (λ i. P (suc i))
 
+infixr 4 _also_
+_also_ : {A B : Type 0} → A → B → A × B
+x also y = (x, y)
+
 each : (n : ℕ) (P : ℕ → Type 0) → Each n P → (i : ℕ) → i < n → P i
 each zero P t i l = absurd (omega arith)
 each (suc n) P t zero l = t .0
@@ -121,52 +125,40 @@ goodSum i = getD (120 ∷ 170 ∷ 170 ∷ 170 ∷ []) i 0
 
 good-sums : (i : ℕ) → i < 4 → sumAt g a h (getD good i 0) ≡ some (goodSum i)
 unfolding sums
-good-sums = each 4 (λ i. sumAt g a h (getD good i 0) ≡ some (goodSum i)) (sum-of 3, (sum-of 5, (sum-of 13, (sum-of 17, tt))))
+good-sums = each 4 (λ i. sumAt g a h (getD good i 0) ≡ some (goodSum i)) (sum-of 3 also sum-of 5 also sum-of 13 also sum-of 17 also tt)
 
 good-rises : (i j : ℕ) → i ≤ j → j < 4 → goodSum i ≤ goodSum j
 good-rises i j l u =
-    each 4 (λ j. (i : ℕ) → i < suc j → goodSum i ≤ goodSum j) (
-      each 1 (λ i. goodSum i ≤ 120) (omega arith, tt),
-      (
-        each 2 (λ i. goodSum i ≤ 170) (omega arith, (omega arith, tt)),
-        (
-          each 3 (λ i. goodSum i ≤ 170) (omega arith, (omega arith, (omega arith, tt))),
-          (each 4 (λ i. goodSum i ≤ 170) (omega arith, (omega arith, (omega arith, (omega arith, tt)))), tt),
-        ),
-      ),
-    ) j u i (omega arith)
+    each 4 (λ j. (i : ℕ) → i < suc j → goodSum i ≤ goodSum j)
+    (each 1 (λ i. goodSum i ≤ 120) (omega arith also tt)
+    also each 2 (λ i. goodSum i ≤ 170) (omega arith also omega arith also tt)
+    also each 3 (λ i. goodSum i ≤ 170) (omega arith also omega arith also omega arith also tt)
+    also each 4 (λ i. goodSum i ≤ 170) (omega arith also omega arith also omega arith also omega arith also tt)
+    also tt) j u i (omega arith)
 
 good-once : (j i : ℕ) → i < j → j < 4 → getD good i 0 ≡ getD good j 0 → ⊥
 good-once j i l u =
-    each 4 (λ j. (i : ℕ) → i < j → getD good i 0 ≡ getD good j 0 → ⊥) (
-      each 0 (λ i. getD good i 0 ≡ 3 → ⊥) tt,
-      (
-        each 1 (λ i. getD good i 0 ≡ 5 → ⊥) (λ e. omega arith, tt),
-        (
-          each 2 (λ i. getD good i 0 ≡ 13 → ⊥) (λ e. omega arith, (λ e. omega arith, tt)),
-          (each 3 (λ i. getD good i 0 ≡ 17 → ⊥) (λ e. omega arith, (λ e. omega arith, (λ e. omega arith, tt))), tt),
-        ),
-      ),
-    ) j u i l
+    each 4 (λ j. (i : ℕ) → i < j → getD good i 0 ≡ getD good j 0 → ⊥)
+    (each 0 (λ i. getD good i 0 ≡ 3 → ⊥) tt
+    also each 1 (λ i. getD good i 0 ≡ 5 → ⊥) ((λ e. omega arith) also tt)
+    also each 2 (λ i. getD good i 0 ≡ 13 → ⊥) ((λ e. omega arith) also (λ e. omega arith) also tt)
+    also each 3 (λ i. getD good i 0 ≡ 17 → ⊥) ((λ e. omega arith) also (λ e. omega arith) also (λ e. omega arith) also tt)
+    also tt) j u i l
 
 good-follows : (j : ℕ) → j < 4 → 0 < j → (i : ℕ) × (i < j) × Follows g a h (getD good i 0) (getD good j 0)
 unfolding costs pick descend descendIn advance
 good-follows =
-    each 4 (λ j. 0 < j → (i : ℕ) × (i < j) × Follows g a h (getD good i 0) (getD good j 0)) (
-      λ l. absurd (omega arith),
-      (
-        λ l. (0, omega arith, record { step = 1; exists = omega arith; leaves = refl; enters = refl; before = 0; least-before = cost-of 3; least = cost-of 5 }),
-        (
-          λ l. (1, omega arith, record { step = 3; exists = omega arith; leaves = refl; enters = refl; before = 90; least-before = cost-of 5; least = cost-of 13 }),
-          (λ l. (2, omega arith, record { step = 5; exists = omega arith; leaves = refl; enters = refl; before = 120; least-before = cost-of 13; least = cost-of 17 }), tt),
-        ),
-      ),
-    )
+    each 4 (λ j. 0 < j → (i : ℕ) × (i < j) × Follows g a h (getD good i 0) (getD good j 0))
+    ((λ l. absurd (omega arith))
+    also (λ l. (0, omega arith, record { step = 1; exists = omega arith; leaves = refl; enters = refl; before = 0; least-before = cost-of 3; least = cost-of 5 }))
+    also (λ l. (1, omega arith, record { step = 3; exists = omega arith; leaves = refl; enters = refl; before = 90; least-before = cost-of 5; least = cost-of 13 }))
+    also (λ l. (2, omega arith, record { step = 5; exists = omega arith; leaves = refl; enters = refl; before = 120; least-before = cost-of 13; least = cost-of 17 }))
+    also tt)
 
 pub good-settled : Settled g a h good
 good-settled = record {
   first = λ l. refl;
-  inside = each 4 (λ i. getD good i 0 < 20) (omega arith, (omega arith, (omega arith, (omega arith, tt))));
+  inside = each 4 (λ i. getD good i 0 < 20) (omega arith also omega arith also omega arith also omega arith also tt);
   sums = λ i l. (goodSum i, good-sums i l);
   rises = λ i j k m l u s t.
       let x = some-same (sym s ∙ good-sums i (omega arith)) in
@@ -180,55 +172,13 @@ good-settled = record {
 good-complete : (p : ℕ) → p < 20 → (k : ℕ) → sumAt g a h p ≡ some k → k < 170 → List·Memᴰ p good
 unfolding sums
 good-complete =
-    each 20 (λ p. (k : ℕ) → sumAt g a h p ≡ some k → k < 170 → List·Memᴰ p good) (
-      gone 0 (sum-of 0),
-      (
-        gone 1 (sum-of 1),
-        (
-          gone 2 (sum-of 2),
-          (
-            λ k e l. List·Memᴰ·head refl,
-            (
-              gone 4 (sum-of 4),
-              (
-                high 5 170 (sum-of 5) (omega arith),
-                (
-                  high 6 240 (sum-of 6) (omega arith),
-                  (
-                    gone 7 (sum-of 7),
-                    (
-                      gone 8 (sum-of 8),
-                      (
-                        high 9 310 (sum-of 9) (omega arith),
-                        (
-                          gone 10 (sum-of 10),
-                          (
-                            gone 11 (sum-of 11),
-                            (
-                              gone 12 (sum-of 12),
-                              (
-                                high 13 170 (sum-of 13) (omega arith),
-                                (
-                                  gone 14 (sum-of 14),
-                                  (
-                                    gone 15 (sum-of 15),
-                                    (gone 16 (sum-of 16), (high 17 170 (sum-of 17) (omega arith), (gone 18 (sum-of 18), (gone 19 (sum-of 19), tt)))),
-                                  ),
-                                ),
-                              ),
-                            ),
-                          ),
-                        ),
-                      ),
-                    ),
-                  ),
-                ),
-              ),
-            ),
-          ),
-        ),
-      ),
-    )
+    each 20 (λ p. (k : ℕ) → sumAt g a h p ≡ some k → k < 170 → List·Memᴰ p good)
+    (gone 0 (sum-of 0) also gone 1 (sum-of 1) also gone 2 (sum-of 2) also (λ k e l. List·Memᴰ·head refl)
+    also gone 4 (sum-of 4) also high 5 170 (sum-of 5) (omega arith) also high 6 240 (sum-of 6) (omega arith) also gone 7 (sum-of 7)
+    also gone 8 (sum-of 8) also high 9 310 (sum-of 9) (omega arith) also gone 10 (sum-of 10) also gone 11 (sum-of 11)
+    also gone 12 (sum-of 12) also high 13 170 (sum-of 13) (omega arith) also gone 14 (sum-of 14) also gone 15 (sum-of 15)
+    also gone 16 (sum-of 16) also high 17 170 (sum-of 17) (omega arith) also gone 18 (sum-of 18) also gone 19 (sum-of 19)
+    also tt)
   where
     gone : (p : ℕ) → sumAt g a h p ≡ none → (k : ℕ) → sumAt g a h p ≡ some k → k < 170 → List·Memᴰ p good
     gone p n k e l = absurd (none-some (sym n ∙ e))
@@ -243,7 +193,7 @@ pub good-found : Found g a h 170 good
 unfolding costs
 good-found = record {
   some-entry = omega arith;
-  only-goal = each 4 (λ i. goalAt g a h (getD good i 0) ≡ eqb (suc i) 4) (goal-of 0, (goal-of 1, (goal-of 3, (goal-of 4, tt))));
+  only-goal = each 4 (λ i. goalAt g a h (getD good i 0) ≡ eqb (suc i) 4) (goal-of 0 also goal-of 1 also goal-of 3 also goal-of 4 also tt);
   goal-cost = cost-of 17;
   below = λ p l k e u. good-complete p l k e (omega arith);
   none-above = λ i k l e. let x = some-same (sym e ∙ good-sums i l) in omega (arith, x, good-rises i 3 (omega arith) (omega arith));
@@ -276,17 +226,17 @@ Apart s n e = g .from e ≡ s → 17 ≡ g .to e * 4 + advance rules e n → ⊥
 apart : Each 6 (Apart 0 3) × Each 6 (Apart 1 1)
 unfolding pick descend descendIn advance
 apart = (
-  (λ l e. omega arith, (λ l e. omega arith, (λ l e. omega arith, (λ l e. omega arith, (λ l e. omega arith, (λ l e. omega arith, tt)))))),
-  (λ l e. omega arith, (λ l e. omega arith, (λ l e. omega arith, (λ l e. omega arith, (λ l e. omega arith, (λ l e. omega arith, tt)))))),
+  (λ l e. omega arith) also (λ l e. omega arith) also (λ l e. omega arith) also (λ l e. omega arith) also (λ l e. omega arith) also (λ l e. omega arith) also tt,
+  (λ l e. omega arith) also (λ l e. omega arith) also (λ l e. omega arith) also (λ l e. omega arith) also (λ l e. omega arith) also (λ l e. omega arith) also tt,
 )
 
 pub skips : Settled g a h (3 ∷ 5 ∷ 17 ∷ []) → ⊥
 skips s =
     let t = s .follows 2 (omega arith) (omega arith) in
-    each 2 (λ i. Follows g a h (getD (3 ∷ 5 ∷ 17 ∷ []) i 0) 17 → ⊥) (
-      λ f. each 6 (Apart 0 3) (apart .0) (f .step) (f .exists) (f .leaves) (f .enters),
-      (λ f. each 6 (Apart 1 1) (apart .1) (f .step) (f .exists) (f .leaves) (f .enters), tt),
-    ) (t .0) (t .1) (t .2)
+    each 2 (λ i. Follows g a h (getD (3 ∷ 5 ∷ 17 ∷ []) i 0) 17 → ⊥)
+    ((λ f. each 6 (Apart 0 3) (apart .0) (f .step) (f .exists) (f .leaves) (f .enters))
+    also (λ f. each 6 (Apart 1 1) (apart .1) (f .step) (f .exists) (f .leaves) (f .enters))
+    also tt) (t .0) (t .1) (t .2)
 
 pub empty : Found g a h 170 [] → ⊥
 empty f = omega (arith, f .some-entry)
@@ -301,7 +251,9 @@ other-cost f = omega (arith, some-same (sym (cost-of 17) ∙ f .goal-cost))
 -- pair 3 has the sum 120
 pub misses : Found g a h 170 (5 ∷ 13 ∷ 17 ∷ []) → ⊥
 unfolding sums
-misses f = outside 3 (5 ∷ 13 ∷ 17 ∷ []) (λ e. omega arith, (λ e. omega arith, (λ e. omega arith, tt))) (f .below 3 (omega arith) 120 (sum-of 3) (omega arith))
+misses f =
+    outside 3 (5 ∷ 13 ∷ 17 ∷ []) ((λ e. omega arith) also (λ e. omega arith) also (λ e. omega arith) also tt)
+    (f .below 3 (omega arith) 120 (sum-of 3) (omega arith))
 
 -- pair 6 has the sum 240
 pub above : Found g a h 170 (3 ∷ 5 ∷ 6 ∷ 13 ∷ 17 ∷ []) → ⊥
