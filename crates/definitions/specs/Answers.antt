@@ -50,4 +50,4 @@ refusal number file place count = record { number = number; file = file; place =
 
 -- an accepted answer has number, file and place 0
 abbrev pub accepted : ℕ → ℕ → ℕ → Answer
-accepted cost length count = record { number = 0; file = 0; place = 0; cost = cost; length = length; count = count }
+accepted cost steps count = record { number = 0; file = 0; place = 0; cost = cost; length = steps; count = count }

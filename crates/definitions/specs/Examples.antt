@@ -14,7 +14,7 @@ use Rattle.definitions.specs.Bytes.{headBytes, stepBytes, chartBytes, di
 use Rattle.definitions.specs.Answers.{Load, ready, refused, readFiles, load}
 use Rattle.definitions.specs.Marked.{st, nd, chart, rules}
 
-abbrev rooted : ℕ → List InnerNode → Diagram
+abbrev pub rooted : ℕ → List InnerNode → Diagram
 rooted root nodes = record { root = root; nodes = nodes }
 
 -- a chart of five stages with these steps
@@ -24,10 +24,10 @@ steps ss = headBytes 5 0 4 ++ each stepBytes ss
 abbrev chartRefusal : List ℕ → List ℕ
 chartRefusal s = readChart s .number ∷ readChart s .place ∷ []
 
-abbrev rulesRefusal : List ℕ → ℕ → List ℕ
+abbrev pub rulesRefusal : List ℕ → ℕ → List ℕ
 rulesRefusal s count = readDiagram s count .number ∷ readDiagram s count .place ∷ []
 
-abbrev loadRefusal : Load → List ℕ
+abbrev pub loadRefusal : Load → List ℕ
 loadRefusal (ready c d) = []
 loadRefusal (refused number file place) = number ∷ file ∷ place ∷ []
 

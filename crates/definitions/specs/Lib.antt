@@ -10,3 +10,6 @@ pub mod Answers
 pub mod Promises
 pub mod Examples
 pub mod Marked
+pub mod Logs
+pub mod Slices
+pub mod Corners

@@ -26,13 +26,13 @@ abbrev pub rules : Diagram
 rules = record { root = 3; nodes = nd 2 0 1 ∷ nd 0 1 2 ∷ [] }
 
 -- (g), (h): one stage, no steps; (j): two stages, from the second to the first; a diagram with no inner node
-abbrev single : Chart
+abbrev pub single : Chart
 single = record { stages = 1; start = 0; end = 0; steps = [] }
 
 abbrev backward : Chart
 backward = record { stages = 2; start = 1; end = 0; steps = [] }
 
-abbrev leaf : ℕ → Diagram
+abbrev pub leaf : ℕ → Diagram
 leaf n = record { root = n; nodes = [] }
 
 -- (i): the chart and the diagram whose goal pair is not at node 1
