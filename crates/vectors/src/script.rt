@@ -1,221 +1,198 @@
-// The script of cases: commands of one letter, each with up to three numbers, that make a file or show an answer.
+// A script of cases: commands that make the two files, say what is lent, or show what a call answers.
+use crate::read::Command;
+use crate::read::first;
+use crate::read::line_end;
+use crate::read::read_command;
+use crate::searches::Lent;
+use crate::searches::show_guided;
+use crate::searches::show_sweep;
 use crate::show::show_chart;
 use crate::show::show_diagram;
 use crate::show::show_field;
-use crate::write::Kind;
+use crate::show::show_space;
+use crate::write::add;
 use crate::write::copy;
 use crate::write::put;
-use crate::write::put_field;
-use crate::write::put_nodes;
-use crate::write::put_steps;
 
-// A number and the place after it.
-pub struct Number {
-    pub value: u64,
-    pub next: usize,
-}
-
-fn digit(x: u8) -> bool {
-    if x < b'0' {
-        return false;
-    }
-    x <= b'9'
-}
-
-// The number at a place, 0 where none stands there. A comma or a blank after it is passed.
-fn read_number(s: &[u8], at: usize) -> Number {
-    let mut next = at;
-    let mut value: u64 = 0;
-    while next < s.len() {
-        let x = s[next];
-        if x == b',' || x == b' ' {
-            return Number {
-                value,
-                next: next + 1,
-            };
-        }
-        if !digit(x) {
-            return Number { value, next };
-        }
-        value = value % 1000000000000000000 * 10 + (x % 16) as u64;
-        next += 1;
-    }
-    Number { value, next }
-}
-
-// A command: its letter, its numbers and the place after it.
-pub struct Command {
-    pub letter: u8,
-    pub a: u64,
-    pub b: u64,
-    pub c: u64,
-    pub next: usize,
-}
-
-// The command of a letter whose numbers stand at a place.
-fn read_command(s: &[u8], letter: u8, at: usize) -> Command {
-    let a = read_number(s, at);
-    let b = read_number(s, a.next);
-    let c = read_number(s, b.next);
-    Command {
-        letter,
-        a: a.value,
-        b: b.value,
-        c: c.value,
-        next: c.next,
-    }
-}
-
-// The field that a letter stands for; no field has length 0.
-fn kind(letter: u8) -> Kind {
-    match letter {
-        b'h' => Kind { tag: 1, length: 6 },
-        b's' => Kind { tag: 2, length: 8 },
-        b'r' => Kind { tag: 17, length: 2 },
-        b'n' => Kind { tag: 18, length: 6 },
-        _ => Kind { tag: 0, length: 0 },
-    }
-}
-
-// A command that adds fields at the file's end; its end then.
-fn added(c: Command, file: &mut [u8], at: usize) -> usize {
-    if c.letter == b'S' {
-        return put_steps(file, at, c.a);
-    }
-    if c.letter == b'N' {
-        return put_nodes(file, at, c.a);
-    }
-    let k = kind(c.letter);
-    if k.length == 0 {
-        return at;
-    }
-    put_field(file, at, k, c.a, c.b, c.c)
-}
-
-// Where the next command stands, and how many bytes the file and the kept file have.
-pub struct State {
-    pub at: usize,
+// How many bytes the file in the making, the chart and the diagram have.
+pub struct Sizes {
     pub file: usize,
-    pub kept: usize,
+    pub chart: usize,
+    pub rules: usize,
 }
 
-// A command that changes a file.
-fn made(c: Command, file: &mut [u8], kept: &mut [u8], z: State) -> State {
+// A command that makes a file.
+fn made(c: Command, file: &mut [u8], chart: &mut [u8], rules: &mut [u8], z: Sizes) -> Sizes {
     let letter = c.letter;
-    let at = c.next;
     match letter {
         b'b' => {
             put(file, c.a as usize, (c.b % 256) as u8);
-            State {
-                at,
-                file: z.file,
-                kept: z.kept,
-            }
+            z
         }
-        b'k' => State {
-            at,
+        b'k' => Sizes {
             file: c.a as usize,
-            kept: z.kept,
+            ..z
         },
         b'w' => {
-            copy(file, kept);
-            State {
-                at,
+            copy(file, chart);
+            Sizes {
                 file: 0,
-                kept: z.file,
+                chart: z.file,
+                ..z
+            }
+        }
+        b'v' => {
+            copy(file, rules);
+            Sizes {
+                file: 0,
+                rules: z.file,
+                ..z
             }
         }
         b'o' => {
-            copy(kept, file);
-            State {
-                at,
-                file: z.kept,
-                kept: z.kept,
+            copy(chart, file);
+            Sizes {
+                file: z.chart,
+                ..z
             }
         }
-        _ => State {
-            at,
-            file: added(c, file, z.file),
-            kept: z.kept,
+        _ => Sizes {
+            file: add(file, z.file, c),
+            ..z
         },
     }
 }
 
-// A command that shows an answer: the label, then the answer.
-fn shown<'a>(c: Command, label: &[u8], file: &'a [u8], kept: &'a [u8]) {
+// What is lent from here on.
+fn lent(c: Command, l: Lent) -> Lent {
     let letter = c.letter;
-    io::write_all(1, label);
+    match letter {
+        b'l' => Lent {
+            work: c.a as usize,
+            plan: c.b as usize,
+            fill: (c.c % 4294967296) as u32,
+            other: 0,
+            size: 0,
+        },
+        b'x' => Lent {
+            other: c.a,
+            size: c.b as usize,
+            ..l
+        },
+        _ => l,
+    }
+}
+
+// A command that shows what a call answers: of the file in the making, or of the chart and the diagram.
+fn shown<'a>(c: Command, file: &'a [u8], chart: &'a [u8], rules: &'a [u8], l: Lent) {
+    let letter = c.letter;
     match letter {
         b'C' => show_chart(file),
         b'D' => show_diagram(file, c.a as usize),
-        _ => show_field(file, kept, (c.a % 4294967296) as u32, c.b as usize),
+        b'F' => show_field(chart, rules, (c.a % 4294967296) as u32, c.b as usize),
+        b'P' => show_space(chart, rules),
+        b'W' => show_sweep(chart, rules, l, c.a as usize, c.b),
+        _ => show_guided(chart, rules, l, c.a as usize, c.b),
     }
-    io::write_all(1, b"\n");
-}
-
-// Where the line of a place ends.
-fn line_end(s: &[u8], at: usize) -> usize {
-    let mut end = at;
-    while end < s.len() {
-        if s[end] == b'\n' {
-            return end;
-        }
-        end += 1;
-    }
-    end
-}
-
-// A command with a label that ends the line; the place after it.
-fn labelled<'a>(s: &[u8], c: Command, file: &'a [u8], kept: &'a [u8], z: State) -> usize {
-    let start = c.next;
-    let end = line_end(s, start);
-    let size = z.file;
-    let kept_size = z.kept;
-    if c.letter == b'#' {
-        return end;
-    }
-    if end < start || s.len() < end {
-        return end;
-    }
-    if file.len() < size || kept.len() < kept_size {
-        return end;
-    }
-    shown(c, &s[start..end], &file[0..size], &kept[0..kept_size]);
-    end
 }
 
 fn takes_label(letter: u8) -> bool {
     match letter {
-        b'C' | b'D' | b'F' | b'#' => true,
+        b'C' | b'D' | b'F' | b'P' | b'W' | b'G' => true,
         _ => false,
     }
 }
 
-// The next command, where one is left. After a label the file is empty.
-fn turn(s: &[u8], file: &mut [u8], kept: &mut [u8], z: State) -> State {
+// A command with a label, which ends its line: writes the label and what the call answers; the line's end.
+fn labelled<'a>(
+    s: &[u8],
+    c: Command,
+    file: &'a [u8],
+    chart: &'a [u8],
+    rules: &'a [u8],
+    z: Sizes,
+    l: Lent,
+) -> usize {
+    let start = c.next;
+    let end = line_end(s, start);
+    if end < start || s.len() < end {
+        return end;
+    }
+    io::write_all(1, &s[start..end]);
+    shown(
+        c,
+        first(file, z.file),
+        first(chart, z.chart),
+        first(rules, z.rules),
+        l,
+    );
+    io::write_all(1, b"\n");
+    end
+}
+
+// The place after a command without a label: a comment goes to the line's end.
+fn after(s: &[u8], c: Command) -> usize {
+    if c.letter == b'#' {
+        return line_end(s, c.next);
+    }
+    c.next
+}
+
+// Where the next command stands, and what the commands so far have made.
+pub struct State {
+    pub at: usize,
+    pub sizes: Sizes,
+    pub lent: Lent,
+}
+
+// The next command. After a label the file in the making is empty, and every work slice is lent alike again.
+fn turn(
+    s: &[u8],
+    file: &mut [u8],
+    chart: &mut [u8],
+    rules: &mut [u8],
+    z: State,
+) -> State {
     let at = z.at;
+    let sizes = z.sizes;
+    let l = z.lent;
     if s.len() <= at {
         return z;
     }
     let c = read_command(s, s[at], at + 1);
     if takes_label(c.letter) {
+        let end = labelled(s, c, file, chart, rules, sizes, l);
         return State {
-            at: labelled(s, c, file, kept, z),
-            file: 0,
-            kept: z.kept,
+            at: end,
+            sizes: Sizes { file: 0, ..sizes },
+            lent: Lent { other: 0, ..l },
         };
     }
-    made(c, file, kept, z)
+    State {
+        at: after(s, c),
+        sizes: made(c, file, chart, rules, sizes),
+        lent: lent(c, l),
+    }
 }
 
 // Every command of a script, in order.
-pub fn run(s: &[u8], file: &mut [u8], kept: &mut [u8]) {
+pub fn run(s: &[u8], file: &mut [u8], chart: &mut [u8], rules: &mut [u8]) {
     let mut z = State {
         at: 0,
-        file: 0,
-        kept: 0,
+        sizes: Sizes {
+            file: 0,
+            chart: 0,
+            rules: 0,
+        },
+        lent: Lent {
+            work: 0,
+            plan: 0,
+            fill: 0,
+            other: 0,
+            size: 0,
+        },
     };
     for _ in 0..s.len() {
-        z = turn(s, file, kept, z);
+        z = turn(s, file, chart, rules, z);
     }
 }

@@ -1,23 +1,26 @@
--- `vectors::write::put_steps` is safe and ends: the buffer keeps its length, and each turn leaves fewer steps.
+-- `vectors::write::put_many` is safe and ends: the buffer keeps its length, and each turn leaves fewer fields.
 -- Assumes nothing.
 use borrow.Author.Needs.{needs}
 use mathlib.Core.Path.{_≡_}
 use Prim.Native.Nat.{_≤_, _-_}
 use lib.ListN.{length}
-use Rattle.vectors.proofs.write.put_steps.Statement.{statement}
-use Rattle.vectors.proofs.write.put_steps.Tie as tie
+use Rattle.vectors.proofs.write.put_many.Statement.{statement}
+use Rattle.vectors.proofs.write.put_many.Tie as tie
 
 abbrev Inv-loop : tie.InvT-loop
-Inv-loop buf₀ at count next₀ i₀ buf next i = (i ≤ count) × (length buf ≡ length buf₀)
+Inv-loop buf₀ at c next₀ i₀ i-end buf next i = (i ≤ i-end) × (length buf ≡ length buf₀)
 
 abbrev μ-loop : tie.MeasureT-loop
-μ-loop buf₀ at count next₀ i₀ buf next i = count - i
+μ-loop buf₀ at c next₀ i₀ i-end buf next i = i-end - i
+
+cut-requires : tie.Need-cut-requires Inv-loop μ-loop
+cut-requires c κs = search needs
 
 loop-holds : tie.Need-loop-holds Inv-loop μ-loop
 loop-holds c = search needs
 
-put-field-requires : tie.Need-put-field-requires Inv-loop μ-loop
-put-field-requires c κs = search needs
+put-ith-requires : tie.Need-put-ith-requires Inv-loop μ-loop
+put-ith-requires c κs = search needs
 
 add-i : tie.Need-add-i Inv-loop μ-loop
 add-i c = search needs
@@ -34,14 +37,15 @@ same-length c = search needs
 returns : tie.Need-returns Inv-loop μ-loop
 returns c = search needs
 
-pub put-steps-spec : {M : Type 1} → statement M
-put-steps-spec =
+pub put-many-spec : {M : Type 1} → statement M
+put-many-spec =
     tie.close
     (tie.spec
     Inv-loop
     μ-loop
+    cut-requires
     loop-holds
-    put-field-requires
+    put-ith-requires
     add-i
     loop-less
     loop-again

@@ -1,10 +1,10 @@
--- `vectors::script::line_end` is safe and ends: each turn leaves fewer bytes.
+-- `vectors::read::line_end` is safe and ends: each turn leaves fewer bytes.
 -- Assumes nothing.
 use borrow.Author.Needs.{needs}
 use Prim.Native.Nat.{_-_}
 use lib.ListN.{length}
-use Rattle.vectors.proofs.script.line_end.Statement.{statement}
-use Rattle.vectors.proofs.script.line_end.Tie as tie
+use Rattle.vectors.proofs.read.line_end.Statement.{statement}
+use Rattle.vectors.proofs.read.line_end.Tie as tie
 
 abbrev Inv-loop : tie.InvT-loop
 Inv-loop s at end₀ end = Unit {0}
