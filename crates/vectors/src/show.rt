@@ -2,7 +2,6 @@
 use chart::ChartRead;
 use definitions::NONE;
 use diagram::DiagramRead;
-use planner::Space;
 
 pub fn text(word: &[u8]) {
     io::write_all(1, word);
@@ -70,19 +69,6 @@ fn hexadecimal(bytes: &[u8]) {
     for i in 0..bytes.len() {
         byte(bytes[i]);
     }
-}
-
-fn space_answer(r: Space) {
-    named(b" number ", r.number as u64);
-    named(b" file ", r.file as u64);
-    named(b" place ", r.place as u64);
-    named(b" work ", r.work as u64);
-    named(b" plan ", r.plan as u64);
-}
-
-// The space that the searches need.
-pub fn show_space<'a>(chart: &'a [u8], rules: &'a [u8]) {
-    space_answer(planner::space_needed(chart, rules));
 }
 
 // How the entries of a slice are written.
