@@ -16,10 +16,8 @@ fn play(path: &[u8]) {
     let mut text = io::large_buffer();
     let n = io::read_full(fd, &mut text);
     libc::close(fd);
-    let mut file = [0u8; 12288];
-    let mut chart = [0u8; 12288];
-    let mut rules = [0u8; 12288];
-    script::run(&text[..n], &mut file, &mut chart, &mut rules);
+    let mut buf = [0u8; script::BUFFER];
+    script::run(&text[..n], &mut buf);
 }
 
 fn main() {

@@ -1,4 +1,5 @@
 // The commands of a script: a letter, and up to six numbers after it.
+use std::num::wrapping_add_usize;
 
 // A number and the place after it.
 pub struct Number {
@@ -78,10 +79,20 @@ pub fn line_end(s: &[u8], at: usize) -> usize {
     end
 }
 
-// The first n bytes of a file, or all of it.
-pub fn first(file: &[u8], n: usize) -> &[u8] {
-    if n <= file.len() {
-        return &file[0..n];
+// What is left of the line of a place.
+pub fn rest_of_line(s: &[u8], at: usize) -> &[u8] {
+    let end = line_end(s, at);
+    if at <= end && end <= s.len() {
+        return &s[at..end];
     }
-    file
+    s
+}
+
+// So many bytes from a place on, or all where there are not so many.
+pub fn part(buf: &[u8], at: usize, size: usize) -> &[u8] {
+    let end = wrapping_add_usize(at, size);
+    if at <= end && end <= buf.len() {
+        return &buf[at..end];
+    }
+    buf
 }

@@ -1,8 +1,9 @@
 // A script of cases: commands that make the two files, say what is lent, or show what a call answers.
 use crate::read::Command;
-use crate::read::first;
 use crate::read::line_end;
+use crate::read::part;
 use crate::read::read_command;
+use crate::read::rest_of_line;
 use crate::searches::show_guided;
 use crate::searches::show_sweep;
 use crate::show::show_chart;
@@ -12,6 +13,13 @@ use crate::write::add;
 use crate::write::copy;
 use crate::write::put;
 
+// The buffer has the file in the making at its start, and after it the chart and the diagram.
+const CHART: usize = 12288;
+
+const RULES: usize = 24576;
+
+pub const BUFFER: usize = 36864;
+
 // Where the next command stands, and how many bytes the file in the making, the chart and the diagram have.
 pub struct State {
     pub at: usize,
@@ -20,43 +28,31 @@ pub struct State {
     pub rules: usize,
 }
 
-// A command that makes a file.
-fn made(c: Command, file: &mut [u8], chart: &mut [u8], rules: &mut [u8], z: State) -> State {
+// What a command makes of the file in the making: how many bytes it has then.
+fn made(c: Command, buf: &mut [u8], z: State) -> usize {
     let letter = c.letter;
     match letter {
         b'b' => {
-            put(file, c.a as usize, (c.b % 256) as u8);
-            z
+            put(buf, c.a as usize, (c.b % 256) as u8);
+            z.file
         }
-        b'k' => State {
-            file: c.a as usize,
-            ..z
-        },
-        b'w' => {
-            copy(file, chart);
-            State {
-                file: 0,
-                chart: z.file,
-                ..z
-            }
-        }
-        b'v' => {
-            copy(file, rules);
-            State {
-                file: 0,
-                rules: z.file,
-                ..z
-            }
-        }
+        b'k' => c.a as usize,
         b'o' => {
-            copy(chart, file);
-            State { file: z.chart, ..z }
+            copy(buf, CHART, 0);
+            z.chart
         }
-        _ => State {
-            file: add(file, z.file, c),
-            ..z
-        },
+        b'w' | b'v' => 0,
+        _ => add(buf, z.file, c),
     }
+}
+
+// Takes the file in the making for another one where the command has this letter: how many bytes that has then.
+fn taken(c: Command, letter: u8, buf: &mut [u8], to: usize, size: usize, old: usize) -> usize {
+    if c.letter != letter {
+        return old;
+    }
+    copy(buf, 0, to);
+    size
 }
 
 // A command that shows what a call answers: of the file in the making, or of the chart and the diagram.
@@ -79,57 +75,51 @@ fn takes_label(letter: u8) -> bool {
 }
 
 // A command with a label, which ends its line: writes the label and what the call answers.
-fn labelled<'a>(
-    s: &[u8],
-    c: Command,
-    file: &'a [u8],
-    chart: &'a [u8],
-    rules: &'a [u8],
-    z: State,
-) {
-    let start = c.next;
-    let end = z.at;
-    if end < start || s.len() < end {
-        return;
-    }
-    io::write_all(1, &s[start..end]);
+fn labelled(label: &[u8], c: Command, buf: &[u8], z: State) {
+    io::write_all(1, label);
     shown(
         c,
-        first(file, z.file),
-        first(chart, z.chart),
-        first(rules, z.rules),
+        part(buf, 0, z.file),
+        part(buf, CHART, z.chart),
+        part(buf, RULES, z.rules),
     );
     io::write_all(1, b"\n");
 }
 
-// The place after a command: after a label and after a comment, the line's end.
+// The place after a command without a label; a comment goes to the line's end.
 fn after(s: &[u8], c: Command) -> usize {
-    if c.letter == b'#' || takes_label(c.letter) {
+    if c.letter == b'#' {
         return line_end(s, c.next);
     }
     c.next
 }
 
 // The next command, where one is left. After a label the file in the making is empty.
-fn turn(s: &[u8], file: &mut [u8], chart: &mut [u8], rules: &mut [u8], z: State) -> State {
+fn turn(s: &[u8], buf: &mut [u8], z: State) -> State {
     let at = z.at;
     if s.len() <= at {
         return z;
     }
     let c = read_command(s, s[at], at + 1);
-    let y = State {
-        at: after(s, c),
-        ..z
-    };
     if takes_label(c.letter) {
-        labelled(s, c, file, chart, rules, y);
-        return State { file: 0, ..y };
+        labelled(rest_of_line(s, c.next), c, buf, z);
+        return State {
+            at: line_end(s, c.next),
+            file: 0,
+            chart: z.chart,
+            rules: z.rules,
+        };
     }
-    made(c, file, chart, rules, y)
+    State {
+        at: after(s, c),
+        chart: taken(c, b'w', buf, CHART, z.file, z.chart),
+        rules: taken(c, b'v', buf, RULES, z.file, z.rules),
+        file: made(c, buf, z),
+    }
 }
 
 // Every command of a script, in order.
-pub fn run(s: &[u8], file: &mut [u8], chart: &mut [u8], rules: &mut [u8]) {
+pub fn run(s: &[u8], buf: &mut [u8]) {
     let mut z = State {
         at: 0,
         file: 0,
@@ -137,6 +127,6 @@ pub fn run(s: &[u8], file: &mut [u8], chart: &mut [u8], rules: &mut [u8]) {
         rules: 0,
     };
     for _ in 0..s.len() {
-        z = turn(s, file, chart, rules, z);
+        z = turn(s, buf, z);
     }
 }

@@ -43,8 +43,8 @@ fn fill(c: Command) -> u32 {
     (c.c % 4294967296) as u32
 }
 
-fn fill_plan(c: Command) -> u16 {
-    (c.c % 65536) as u16
+fn short(x: u32) -> u16 {
+    (x % 65536) as u16
 }
 
 // How many entries of each work slice are the search's own: none where it is refused before it begins.
@@ -56,7 +56,7 @@ fn own<'a>(chart: &'a [u8], rules: &'a [u8], number: u32) -> usize {
 }
 
 // An answer and the plan. Where the plan is free neither its length nor its steps are shown.
-fn show_answer<'a>(a: Answer, plan: &'a [u16], c: Command) {
+fn show_answer<'a>(a: Answer, plan: &'a [u16; MOST_STEPS], c: Command) {
     named(b" number ", a.number as u64);
     named(b" file ", a.file as u64);
     named(b" place ", a.place as u64);
@@ -69,44 +69,45 @@ fn show_answer<'a>(a: Answer, plan: &'a [u16], c: Command) {
 }
 
 // Which entries of a work slice from a position on have changed.
-fn show_changed(s: &[u32], from: usize, c: Command) {
-    each(s, from, MOST, How::Changed(fill(c)));
+fn show_changed(s: &[u32; MOST], from: usize, full: u32) {
+    each(s, from, MOST, How::Changed(full));
 }
 
 // The same of a plan slice.
-fn show_changed_plan(s: &[u16], from: usize, c: Command) {
+fn show_changed_plan(s: &[u16; MOST_STEPS], from: usize, full: u32) {
     text(b" changed");
-    each_step(s, from, MOST_STEPS, How::Changed(fill(c) % 65536));
+    each_step(s, from, MOST_STEPS, How::Changed(full % 65536));
 }
 
 // The sweep's answer and its cost slice, and which entries past the plan have changed.
-fn show_swept<'a>(a: Answer, cost: &'a [u32], pairs: usize, plan: &'a [u16], c: Command) {
+fn show_swept<'a>(a: Answer, cost: &'a [u32; MOST], pairs: usize, plan: &'a [u16; MOST_STEPS], c: Command) {
     show_answer(a, plan, c);
     named(b" count ", a.count as u64);
     text(b" costs");
     each(cost, 0, pairs, How::Cost);
-    show_changed_plan(plan, a.length, c);
+    show_changed_plan(plan, a.length, fill(c));
 }
 
 // The guided search's answer and its log, and which entries past the plan and past the log have changed. Where the plan
 // is free the count and the log are free too, and not shown.
-fn show_found<'a>(a: Answer, log: &'a [u32], plan: &'a [u16], c: Command) {
+fn show_found<'a>(a: Answer, log: &'a [u32; MOST], plan: &'a [u16; MOST_STEPS], c: Command) {
     show_answer(a, plan, c);
     if c.d == 0 {
         named(b" count ", a.count as u64);
         text(b" log");
         each(log, 0, a.count, How::Entry);
     }
-    show_changed_plan(plan, a.length, c);
-    show_changed(log, a.count, c);
+    show_changed_plan(plan, a.length, fill(c));
+    show_changed(log, a.count, fill(c));
 }
 
 // The sweep.
 pub fn show_sweep<'a>(chart: &'a [u8], rules: &'a [u8], c: Command) {
-    let mut cost = [fill(c); MOST];
-    let mut via = [fill(c); MOST];
-    let mut nodes = [fill(c); MOST];
-    let mut plan = [fill_plan(c); MOST_STEPS];
+    let full = fill(c);
+    let mut cost = [full; MOST];
+    let mut via = [full; MOST];
+    let mut nodes = [full; MOST];
+    let mut plan = [short(full); MOST_STEPS];
     let a = sweep::sweep(
         chart,
         rules,
@@ -117,20 +118,21 @@ pub fn show_sweep<'a>(chart: &'a [u8], rules: &'a [u8], c: Command) {
     );
     let pairs = own(chart, rules, a.number);
     show_swept(a, &cost, pairs, &plan, c);
-    show_changed(&cost, pairs, c);
-    show_changed(&via, pairs, c);
-    show_changed(&nodes, pairs, c);
+    show_changed(&cost, pairs, full);
+    show_changed(&via, pairs, full);
+    show_changed(&nodes, pairs, full);
 }
 
 // The guided search.
 pub fn show_guided<'a>(chart: &'a [u8], rules: &'a [u8], c: Command) {
-    let mut keys = [fill(c); MOST];
-    let mut via = [fill(c); MOST];
-    let mut heap = [fill(c); MOST];
-    let mut pos = [fill(c); MOST];
-    let mut stack = [fill(c); MOST];
-    let mut log = [fill(c); MOST];
-    let mut plan = [fill_plan(c); MOST_STEPS];
+    let full = fill(c);
+    let mut keys = [full; MOST];
+    let mut via = [full; MOST];
+    let mut heap = [full; MOST];
+    let mut pos = [full; MOST];
+    let mut stack = [full; MOST];
+    let mut log = [full; MOST];
+    let mut plan = [short(full); MOST_STEPS];
     let a = guided::guided(
         chart,
         rules,
@@ -144,9 +146,9 @@ pub fn show_guided<'a>(chart: &'a [u8], rules: &'a [u8], c: Command) {
     );
     let pairs = own(chart, rules, a.number);
     show_found(a, &log, &plan, c);
-    show_changed(&keys, pairs, c);
-    show_changed(&via, pairs, c);
-    show_changed(&heap, pairs, c);
-    show_changed(&pos, pairs, c);
-    show_changed(&stack, pairs, c);
+    show_changed(&keys, pairs, full);
+    show_changed(&via, pairs, full);
+    show_changed(&heap, pairs, full);
+    show_changed(&pos, pairs, full);
+    show_changed(&stack, pairs, full);
 }

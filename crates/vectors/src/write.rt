@@ -139,9 +139,18 @@ pub fn add(buf: &mut [u8], at: usize, c: Command) -> usize {
     }
 }
 
-// All of one buffer into another.
-pub fn copy(from: &[u8], to: &mut [u8]) {
-    for i in 0..from.len() {
-        put(to, i, from[i]);
+// The byte at a place, 0 past the end.
+fn byte(buf: &[u8], at: usize) -> u8 {
+    if at < buf.len() {
+        return buf[at];
+    }
+    0
+}
+
+// The 12,288 bytes at a place, put at another.
+pub fn copy(buf: &mut [u8], from: usize, to: usize) {
+    for i in 0..12288 {
+        let x = byte(buf, wrapping_add_usize(from, i));
+        put(buf, wrapping_add_usize(to, i), x);
     }
 }
