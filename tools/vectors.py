@@ -111,7 +111,7 @@ class Searched(Planned):
         ends = {p: c for p, c in self.least.items() if self.goal(p)}
         self.best = min(ends.values(), default=None)
         self.plans = sum(self.least_ways[p] for p, c in ends.items() if c == self.best)
-        self.enumerate()
+        self.compare_with_all_ways()
 
     def goal(self, pair):
         return pair[0] == self.chart.end and self.finish(pair[1]) == 1
@@ -135,8 +135,8 @@ class Searched(Planned):
             counts[target] += counts[source]
         return sum(counts)
 
-    def enumerate(self):
-        """The same by all ways, where they are few."""
+    def compare_with_all_ways(self):
+        """The enumeration of all ways, where they are few, must find the same."""
         if self.way_count() > MOST_WAYS:
             return
         legal = [self.cost(way) for stage, way in self.ways() if self.legal(stage, way)]
@@ -245,6 +245,9 @@ def guided(chart, rules, call):
     return f"{answered(found, call)} count {len(log)} {words('log', map(found.number, log))} changed"
 
 
+SEARCHES = {"W": sweep, "G": guided}
+
+
 # ---- the scripts
 
 def put(buffer, at, content):
@@ -262,7 +265,7 @@ def field(letter, a, b, c):
 
 def many(letter, count, b, c, d, e, f):
     for i in range(count):
-        if letter == "S":
+        if letter == "t":
             start = min(i // b, 254)
             yield field("s", start, min(start + c + d * (i % b), 255), (e + f * i) % 1000001)
         else:
@@ -296,7 +299,7 @@ class Player:
         elif letter in "wv":
             self.copy("file", {"w": "chart", "v": "rules"}[letter])
             self.sizes["file"] = 0
-        elif letter in "SN":
+        elif letter in "tm":
             self.sizes["file"] = put(file, size, b"".join(many(letter, *numbers)))
         elif letter in "hsrn":
             self.sizes["file"] = put(file, size, field(letter, *numbers[:3]))
@@ -319,7 +322,9 @@ class Player:
         if letter == "F":
             found = refused_field(chart, rules, *numbers[:2])
             return words(f"bytes {len(found)}", [f"{x:02x}" for x in found])
-        return {"W": sweep, "G": guided}[letter](chart, rules, Call(*numbers))
+        if letter not in SEARCHES:
+            raise Faulty(f"no call {letter}")
+        return SEARCHES[letter](chart, rules, Call(*numbers))
 
 
 def play(text):
@@ -335,13 +340,13 @@ def play(text):
             at = found.end()
         end = (text + "\n").index("\n", at)
         try:
-            if letter in "CDFWG":
+            if letter.isupper():
                 yield f"{text[at:end]} {player.show(letter, numbers)}"
             elif letter != "#":
                 player.make(letter, numbers)
         except Faulty as fault:
             sys.exit(f"{text[start:end]}: {fault}")
-        if letter in "CDFWG#":
+        if letter.isupper() or letter == "#":
             at = end
 
 

@@ -9,16 +9,17 @@ use crate::searches::show_sweep;
 use crate::show::show_chart;
 use crate::show::show_diagram;
 use crate::show::show_field;
+use crate::write::LONGEST;
 use crate::write::add;
 use crate::write::copy;
 use crate::write::put;
 
 // The buffer has the file in the making at its start, and after it the chart and the diagram.
-const CHART: usize = 12288;
+const CHART: usize = LONGEST;
 
-const RULES: usize = 24576;
+const RULES: usize = 2 * LONGEST;
 
-pub const BUFFER: usize = 36864;
+pub const BUFFER: usize = 3 * LONGEST;
 
 // Where the next command stands, and how many bytes the file in the making, the chart and the diagram have.
 pub struct State {
@@ -63,13 +64,15 @@ fn shown<'a>(c: Command, file: &'a [u8], chart: &'a [u8], rules: &'a [u8]) {
         b'D' => show_diagram(file, c.a as usize),
         b'F' => show_field(chart, rules, (c.a % 4294967296) as u32, c.b as usize),
         b'W' => show_sweep(chart, rules, c),
-        _ => show_guided(chart, rules, c),
+        b'G' => show_guided(chart, rules, c),
+        _ => {}
     }
 }
 
+// A capital letter is a call, and a label follows it.
 fn takes_label(letter: u8) -> bool {
     match letter {
-        b'C' | b'D' | b'F' | b'W' | b'G' => true,
+        b'A'..=b'Z' => true,
         _ => false,
     }
 }

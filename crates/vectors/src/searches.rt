@@ -80,7 +80,13 @@ fn show_changed_plan(s: &[u16; MOST_STEPS], from: usize, full: u32) {
 }
 
 // The sweep's answer and its cost slice, and which entries past the plan have changed.
-fn show_swept<'a>(a: Answer, cost: &'a [u32; MOST], pairs: usize, plan: &'a [u16; MOST_STEPS], c: Command) {
+fn show_swept<'a>(
+    a: Answer,
+    cost: &'a [u32; MOST],
+    pairs: usize,
+    plan: &'a [u16; MOST_STEPS],
+    c: Command,
+) {
     show_answer(a, plan, c);
     named(b" count ", a.count as u64);
     text(b" costs");

@@ -3,6 +3,9 @@ ghost use Prim.Native.Nat.{_≤_, _<_};
 use crate::read::Command;
 use std::num::wrapping_add_usize;
 
+// How many bytes of the buffer a file has.
+pub const LONGEST: usize = 12288;
+
 // One byte at a place.
 pub fn put(buf: &mut [u8], at: usize, x: u8) {
     if at < buf.len() {
@@ -32,9 +35,9 @@ struct Kind {
 fn kind_of(letter: u8) -> Kind {
     match letter {
         b'h' => Kind { tag: 1, length: 6 },
-        b's' | b'S' => Kind { tag: 2, length: 8 },
+        b's' | b't' => Kind { tag: 2, length: 8 },
         b'r' => Kind { tag: 17, length: 2 },
-        b'n' | b'N' => Kind { tag: 18, length: 6 },
+        b'n' | b'm' => Kind { tag: 18, length: 6 },
         _ => Kind { tag: 0, length: 0 },
     }
 }
@@ -115,7 +118,7 @@ fn put_ith_node(buf: &mut [u8], at: usize, c: Command, i: u64) -> usize {
 }
 
 fn put_ith(buf: &mut [u8], at: usize, c: Command, i: u64) -> usize {
-    if c.letter == b'S' {
+    if c.letter == b't' {
         return put_ith_step(buf, at, c, i);
     }
     put_ith_node(buf, at, c, i)
@@ -134,7 +137,7 @@ fn put_many(buf: &mut [u8], at: usize, c: Command) -> usize {
 pub fn add(buf: &mut [u8], at: usize, c: Command) -> usize {
     let letter = c.letter;
     match letter {
-        b'S' | b'N' => put_many(buf, at, c),
+        b't' | b'm' => put_many(buf, at, c),
         _ => put_field(buf, at, letter, c.a, c.b, c.c),
     }
 }
@@ -147,9 +150,9 @@ fn byte(buf: &[u8], at: usize) -> u8 {
     0
 }
 
-// The 12,288 bytes at a place, put at another.
+// The file at a place, put at another.
 pub fn copy(buf: &mut [u8], from: usize, to: usize) {
-    for i in 0..12288 {
+    for i in 0..LONGEST {
         let x = byte(buf, wrapping_add_usize(from, i));
         put(buf, wrapping_add_usize(to, i), x);
     }
