@@ -13,6 +13,7 @@ import re
 import sys
 from typing import NamedTuple
 
+sys.dont_write_bytecode = True  # of the module beside this one
 from run_files import ROOT, Chart, Diagram, Planned
 
 CRATE = ROOT / "crates/vectors"
@@ -293,6 +294,7 @@ class Player:
         if letter == "b":
             put(file, numbers[0], bytes([numbers[1]]))
         elif letter == "k":
+            put(file, numbers[0], b"")
             self.sizes["file"] = numbers[0]
         elif letter == "o":
             self.copy("chart", "file")

@@ -1,4 +1,4 @@
-// A script of cases: commands that make the two files, say what is lent, or show what a call answers.
+// A script of cases: commands that make a file, take it for the chart or the diagram, or show what a call answers.
 use crate::read::Command;
 use crate::read::line_end;
 use crate::read::part;
