@@ -50,7 +50,7 @@ fn short(x: u32) -> u16 {
 // How many entries of each work slice are the search's own: none where it is refused before it begins.
 fn own<'a>(chart: &'a [u8], rules: &'a [u8], number: u32) -> usize {
     if number == 0 || number == 8 {
-        return planner::space_needed(chart, rules).work;
+        return space::space_needed(chart, rules).work;
     }
     0
 }
