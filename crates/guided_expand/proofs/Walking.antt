@@ -1,19 +1,20 @@
 -- The loop of `settle`: the steps before e have been offered, and the node is lowered for one of them.
 -- Assumes nothing.
 use Prim.Native.Nat.{ℕ, _+_, _≤_, _<_}
-use mathlib.Core.Path.{_≡_, sym, subst}
+use mathlib.Core.Path.{_≡_, sym, _∙_, subst}
 use native.Mathlib.Omega.{arith}
 use lib.ListN.{length, getD}
 use Rattle.queue.specs.declared.Counts.{Counts}
 use Rattle.definitions.specs.Ways.{Graph}
 use Rattle.definitions.specs.Pairs.{Automaton}
 use Rattle.definitions.specs.declared.Shape.{Shape}
+use Rattle.theory.specs.Variables.{next-is}
 use Rattle.diagram.specs.Files.{Nodes}
 use Rattle.diagram.specs.Tables.{Marked}
 use Rattle.nodes.specs.Walks.{Falls, Lowers, BranchesTo}
 use Rattle.nodes.specs.Falling.{lo-falls}
 use Rattle.nodes.specs.Advancing.{lowers-zero, lowers-on, advancing-dead}
-use Rattle.checks.specs.Tables.{Tables, diagramIn}
+use Rattle.checks.specs.Tables.{Tables, chartIn, diagramIn}
 use Rattle.checks.specs.Ready.{Walk, graphIn, automatonIn, width-is, few-stages, few-nodes, few-steps, first-leave, first-order}
 use Rattle.guided_model.specs.Bounds.{dead-steps}
 use Rattle.guided_model.specs.Moves.{expanded-none}
@@ -102,7 +103,8 @@ module _ {z : Shape} {on : Walk} {t : Estimates} {by : Guides z on t} {s n base 
       walk-dead q =
           opened-more by s n base p (w .opened)
           (opened-none (w .opens) e (firstOf on (s + 1))
-          (λ f i j. sym (advancing-dead (inner .step) (inner .lo) (inner .hi) e f n i (subst (Lowers (inner .step) (inner .lo) e n) q lowered) .is
+          (λ f i j. next-is (chartIn z (on .read)) (diagramIn z (on .read)) f n
+          ∙ sym (advancing-dead (inner .step) (inner .lo) (inner .hi) e f n i (subst (Lowers (inner .step) (inner .lo) e n) q lowered) .is
           (diagramIn z (on .read)) (tables .held) (w .opens .settling .node))))
 
       -- the step leads to node `to`
@@ -117,7 +119,9 @@ module _ {z : Shape} {on : Walk} {t : Estimates} {by : Guides z on t} {s n base 
           opens = w .opens;
           exists = leaving .0;
           leaves = leaving .1;
-          enters = b (inner .lo) n lowered .is (diagramIn z (on .read)) (tables .held) (w .opens .settling .node);
+          enters =
+              b (inner .lo) n lowered .is (diagramIn z (on .read)) (tables .held) (w .opens .settling .node)
+              ∙ sym (next-is (chartIn z (on .read)) (diagramIn z (on .read)) e n);
         }
 
         -- and is offered

@@ -21,6 +21,7 @@ use diagram::STEP;
 use nodes::branch;
 use nodes::descend_to;
 use queue::Counts;
+use trace::packed;
 use trace::pair_at;
 
 // A pair of a stage and a node.
@@ -61,15 +62,15 @@ fn offer<'a>(
         ⌝ }
 {
     let i = e.0 as usize;
-    let stage = Stage(steps[TO][i] as u16);
+    let entered = steps[TO][i] as u16;
+    let stage = Stage(entered);
     let rest = pair_estimate(by_stage, by_node, stage, t);
     if rest == NONE {
         return counts;
     }
     let y = pair_at(row, stage, t);
     let v = base + steps[COST][i] + rest;
-    let mark = e.0 as u32 * 512 + n.0 as u32;
-    relax(keys, via, heap, pos, stack, p, counts, y, v, mark)
+    relax(keys, via, heap, pos, stack, p, counts, y, v, packed(e, n))
 }
 
 // Offers the steps that leave the pair `at`, of the cost `base`. Its node is lowered from one step to the next; once it is
@@ -121,7 +122,21 @@ pub fn settle<'a>(
         }
         let t = branch(&inner[STEP], &inner[HI], key, m);
         left = offer(
-            keys, via, heap, pos, stack, p, left, steps, row, by_stage, by_node, n, base, key, t,
+            keys,
+            via,
+            heap,
+            pos,
+            stack,
+            p,
+            left,
+            steps,
+            row,
+            by_stage,
+            by_node,
+            n,
+            base,
+            key,
+            t,
         );
         e += 1;
     }

@@ -1,6 +1,6 @@
 -- One turn of the search: the pair y is taken, written to the log, and settled.
 -- Assumes nothing.
-use Prim.Native.Nat.{ℕ, _+_, _-_, _*_, _/_, _≤_, _<_}
+use Prim.Native.Nat.{ℕ, _+_, _-_, _*_, _≤_, _<_}
 use mathlib.Core.Path.{_≡_, refl, sym, _∙_, ap, ap₂, subst, subst₂}
 use mathlib.Core.Bool.{Bool, true, false, _&&_}
 use mathlib.Core.List.{List}
@@ -15,6 +15,7 @@ use Rattle.definitions.specs.Promises.{goalAt}
 use Rattle.definitions.specs.declared.Shape.{Shape}
 use Rattle.theory.specs.Basics.{either, same-or-not, both, true-not-false}
 use Rattle.theory.specs.Product.{startPair}
+use Rattle.trace.specs.Trails.{stepIn}
 use Rattle.queue.specs.declared.Counts.{Counts}
 use Rattle.queue.specs.Queue.{state, Contains, Taken}
 use Rattle.queue.proofs.Facts.{contains-none}
@@ -86,9 +87,9 @@ module _ {z : Shape} {on : Walk} {t : Estimates} {yes-at : List Bool} (prepared 
     abbrev At : ℕ → Type 0
     At s = (s * a by .size ≤ y) × Located (g by) (a by) y s (y - s * a by .size)
 
-    by-step : (y ≡ begin → ⊥) → (getD (x .via) y 0 / 512 < 1024) × At stage
+    by-step : (y ≡ begin → ⊥) → (stepIn (getD (x .via) y 0) < 1024) × At stage
     by-step q =
-        let e = getD (x .via) y 0 / 512 in
+        let e = stepIn (getD (x .via) y 0) in
         let v = located-via (by .guide) (w .running .searching) smallest (omega (arith, width by, narrow by)) (λ r. q (r ∙ sym eb)) in
         let to-is : getD (on .read .steps .to) e 0 ≡ g by .to e = to-at z (on .read) (tables by) e (omega (arith, v .0, count-is z (on .read) (tables by))) in
         (omega (arith, v .0, tables by .valid .few), subst At (sym to-is ∙ sym (at-step (x .via) (on .read .steps .to) begin (z .start .0) y q)) (v .1, v .2))

@@ -9,6 +9,7 @@ use convert::wide;
 use definitions::Node;
 use definitions::Stage;
 use guided_expand::Pair;
+use trace::step_in;
 
 // The stage and the node of pair x, which stands in the row of stage s.
 fn pair_in(row: &[u32; 256], s: Stage, x: usize) -> Pair
@@ -41,8 +42,9 @@ pub fn pair_of<'a>(
     if x == begin {
         return pair_in(row, start, x);
     }
-    let e = wide(via[x] / 512);
-    pair_in(row, Stage(to[e] as u16), x)
+    let e = step_in(via[x]).0 as usize;
+    let entered = to[e] as u16;
+    pair_in(row, Stage(entered), x)
 }
 
 // Whether an opened pair is a goal pair: it is one of the end stage, and its node finishes at 1.

@@ -77,8 +77,21 @@ fn settle_open<'a>(
             break 'search;
         }
         counts = settle(
-            keys, via, heap, pos, stack, p, next.counts, steps, first, row, inner, by_stage,
-            by_node, at, base,
+            keys,
+            via,
+            heap,
+            pos,
+            stack,
+            p,
+            next.counts,
+            steps,
+            first,
+            row,
+            inner,
+            by_stage,
+            by_node,
+            at,
+            base,
         );
     }
     Ended {
@@ -127,7 +140,20 @@ pub fn search<'a>(
     let begin = pair_at(row, z.start, z.root);
     let opened = queue::insert(keys, heap, pos, stack, p, queue::empty(), begin, rest);
     settle_open(
-        keys, via, heap, pos, stack, log, steps, first, row, inner, by_stage, by_node, yes, z,
+        keys,
+        via,
+        heap,
+        pos,
+        stack,
+        log,
+        steps,
+        first,
+        row,
+        inner,
+        by_stage,
+        by_node,
+        yes,
+        z,
         opened,
     )
 }

@@ -1,6 +1,6 @@
 -- The pair that is being settled, by its stage and node: where they come from, and what is asked of the steps from it.
 -- Assumes nothing.
-use Prim.Native.Nat.{ℕ, _+_, _-_, _*_, _/_, _≤_, _<_}
+use Prim.Native.Nat.{ℕ, _+_, _-_, _*_, _≤_, _<_}
 use mathlib.Core.Path.{_≡_, refl, sym, _∙_, ap, ap₂}
 use mathlib.Core.Bool.{Bool, true, false}
 use mathlib.Core.List.{List}
@@ -15,6 +15,7 @@ use Rattle.theory.specs.Ways.{step-cheap}
 use Rattle.theory.specs.Basics.{either, true-not-false}
 use Rattle.theory.specs.Pairs.{pair-inside, pair-of, stageOf-inside, goal-parts}
 use Rattle.theory.specs.Product.{startPair}
+use Rattle.trace.specs.Trails.{stepIn}
 use Rattle.guided_model.specs.State.{unopened, Guide, Marks, Smallest, Openable, costSoFar, Came, Searching}
 use Rattle.guided_model.specs.Bounds.{stage-is, node-is, node-inside, openable, step-rises}
 use Rattle.guided_model.specs.Chosen.{chosen-key, chosen-stage, chosen-cheap, chosen-inside}
@@ -95,15 +96,15 @@ module _ {g : Graph} {a : Automaton} {h : Estimate} (u : Guide g a h) where
 
     -- else the stage that the step in `via` enters
     pub located-via : a .size ≤ 512 → (x ≡ startPair g a → ⊥)
-        → (getD (now .via) x 0 / 512 < g .count) × (g .to (getD (now .via) x 0 / 512) * a .size ≤ x) × Located g a x (g .to (getD (now .via) x 0 / 512)) (x - g .to (getD (now .via) x 0 / 512) * a .size)
+        → (stepIn (getD (now .via) x 0) < g .count) × (g .to (stepIn (getD (now .via) x 0)) * a .size ≤ x) × Located g a x (g .to (stepIn (getD (now .via) x 0))) (x - g .to (stepIn (getD (now .via) x 0)) * a .size)
     located-via w f = by (either (s .came x (inr (o .is-open))) (λ q. absurd (f q)) (λ c. c))
       where
         by : Came g a h now log x
-            → (getD (now .via) x 0 / 512 < g .count) × (g .to (getD (now .via) x 0 / 512) * a .size ≤ x) × Located g a x (g .to (getD (now .via) x 0 / 512)) (x - g .to (getD (now .via) x 0 / 512) * a .size)
+            → (stepIn (getD (now .via) x 0) < g .count) × (g .to (stepIn (getD (now .via) x 0)) * a .size ≤ x) × Located g a x (g .to (stepIn (getD (now .via) x 0))) (x - g .to (stepIn (getD (now .via) x 0)) * a .size)
         by c =
             let m = nodeOf a (c .source) in
             let j = node-inside u (c .source) in
-            let e : getD (now .via) x 0 / 512 ≡ c .step = omega (arith, c .packs) in
+            let e : stepIn (getD (now .via) x 0) ≡ c .step = omega (arith, c .packs) in
             let t = located (g .to (c .step)) (stage-is a (g .to (c .step)) (a .next (c .step) m) x (u .lawful .next-inside (c .step) m (c .exists) j) (c .enters)) in
             rw e (c .exists, t .0, t .1)
 

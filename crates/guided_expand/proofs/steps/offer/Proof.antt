@@ -9,19 +9,19 @@ use Rattle.guided_expand.proofs.steps.offer.Tie as tie
 cast-i : tie.Need-cast-i
 cast-i c = search needs
 
-mul-t24 : tie.Need-mul-t24
-mul-t24 c = search needs
+mul-entered : tie.Need-mul-entered
+mul-entered c = search needs
 
-index-1-t27 : tie.Need-index-1-t27
-index-1-t27 c = search needs
+index-1-entered : tie.Need-index-1-entered
+index-1-entered c = search needs
 
-index-2-t27 : tie.Need-index-2-t27
-index-2-t27 c =
+index-2-entered : tie.Need-index-2-entered
+index-2-entered c =
     let start : tie.Start = search in
     step-small (start .pre)
 
-cast-t28 : tie.Need-cast-t28
-cast-t28 c =
+cast-entered : tie.Need-cast-entered
+cast-entered c =
     let start : tie.Start = search in
     omega (arith, stage-small (start .pre))
 
@@ -65,21 +65,8 @@ add-v-2 c =
     let start : tie.Start = search in
     omega (arith, leads-fit (start .pre) _ (rest .pair-estimate .ensures) (some .if1 .left))
 
-cast-mark : tie.Need-cast-mark
-cast-mark c = search needs
-
-mul-mark : tie.Need-mul-mark
-mul-mark c =
-    let start : tie.Start = search in
-    omega (arith, step-small (start .pre))
-
-cast-mark-2 : tie.Need-cast-mark-2
-cast-mark-2 c = search needs
-
-add-mark : tie.Need-add-mark
-add-mark c =
-    let start : tie.Start = search in
-    omega (arith, step-small (start .pre), node-small (start .pre))
+packed-requires : tie.Need-packed-requires
+packed-requires c κs = search needs
 
 relax-requires : tie.Need-relax-requires
 relax-requires c κs =
@@ -107,20 +94,21 @@ same-length-5 c = search needs
 returns-2 : tie.Need-returns-2
 returns-2 c =
     let relaxed : tie.After-relax = search in
+    let marked : tie.After-packed = search in
     let target : tie.After-pair-at = search in
     let some : tie.Else1 = search in
     let rest : tie.After-pair-estimate = search in
-    λ x. leads-some x _ (rest .pair-estimate .ensures) (some .if1 .left) _ _ (target .pair-at .ensures) refl refl (relaxed .relax .ensures)
+    λ x. leads-some x _ (rest .pair-estimate .ensures) (some .if1 .left) _ _ (target .pair-at .ensures) refl (marked .packed .ensures) (relaxed .relax .ensures)
 
 pub offer-spec : {M : Type 1} → statement M
 offer-spec =
     tie.close
     (tie.spec
     cast-i
-    mul-t24
-    index-1-t27
-    index-2-t27
-    cast-t28
+    mul-entered
+    index-1-entered
+    index-2-entered
+    cast-entered
     pair-estimate-requires
     returns
     pair-at-requires
@@ -129,10 +117,7 @@ offer-spec =
     index-2-v
     add-v
     add-v-2
-    cast-mark
-    mul-mark
-    cast-mark-2
-    add-mark
+    packed-requires
     relax-requires
     same-length
     same-length-2

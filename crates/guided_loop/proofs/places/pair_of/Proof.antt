@@ -16,45 +16,51 @@ returns c =
     let first : tie.Then1 = search in
     (c .pair-in .ensures .0 ∙ sym (at-begin _ _ _ _ _ (first .if1 .taken)), c .pair-in .ensures .1)
 
-mul-wide : tie.Need-mul-wide
-mul-wide c = search needs
+mul-step-in : tie.Need-mul-step-in
+mul-step-in c = search needs
 
-shared-slice-read-wide : tie.Need-shared-slice-read-wide
-shared-slice-read-wide c = search needs
+shared-slice-read-step-in : tie.Need-shared-slice-read-step-in
+shared-slice-read-step-in c = search needs
 
-wide-requires : tie.Need-wide-requires
-wide-requires c κs = search needs
-
-mul-t9 : tie.Need-mul-t9
-mul-t9 c = search needs
-
-element-copy-out-t12 : tie.Need-element-copy-out-t12
-element-copy-out-t12 c =
-    let step : tie.After-wide = search in
+step-in-requires : tie.Need-step-in-requires
+step-in-requires c κs =
     let later : tie.Else1 = search in
     let start : tie.Start = search in
-    omega (arith, step .wide .ensures .0, start .pre .by-step (later .if1 .left))
+    start .pre .by-step (later .if1 .left)
 
-cast-t15 : tie.Need-cast-t15
-cast-t15 c =
-    let step : tie.After-wide = search in
+cast-e : tie.Need-cast-e
+cast-e c = search needs
+
+mul-entered : tie.Need-mul-entered
+mul-entered c = search needs
+
+element-copy-out-entered : tie.Need-element-copy-out-entered
+element-copy-out-entered c =
+    let step : tie.After-step-in = search in
     let later : tie.Else1 = search in
     let start : tie.Start = search in
-    omega (arith, placed-step (start .pre) _ (later .if1 .left) (step .wide .ensures .0) .0)
+    omega (arith, step .step-in .ensures, start .pre .by-step (later .if1 .left))
+
+cast-entered : tie.Need-cast-entered
+cast-entered c =
+    let step : tie.After-step-in = search in
+    let later : tie.Else1 = search in
+    let start : tie.Start = search in
+    omega (arith, placed-step (start .pre) _ (later .if1 .left) (step .step-in .ensures) .0)
 
 pair-in-requires-2 : tie.Need-pair-in-requires-2
 pair-in-requires-2 c κs =
-    let step : tie.After-wide = search in
+    let step : tie.After-step-in = search in
     let later : tie.Else1 = search in
     let start : tie.Start = search in
-    placed-step (start .pre) _ (later .if1 .left) (step .wide .ensures .0)
+    placed-step (start .pre) _ (later .if1 .left) (step .step-in .ensures)
 
 returns-2 : tie.Need-returns-2
 returns-2 c =
-    let step : tie.After-wide = search in
+    let step : tie.After-step-in = search in
     let later : tie.Else1 = search in
     let start : tie.Start = search in
-    (c .pair-in2 .ensures .0 ∙ placed-stage (start .pre) _ (later .if1 .left) (step .wide .ensures .0), c .pair-in2 .ensures .1)
+    (c .pair-in2 .ensures .0 ∙ placed-stage (start .pre) _ (later .if1 .left) (step .step-in .ensures), c .pair-in2 .ensures .1)
 
 pub pair-of-spec : {M : Type 1} → statement M
 pair-of-spec =
@@ -62,11 +68,12 @@ pair-of-spec =
     (tie.spec
     pair-in-requires
     returns
-    mul-wide
-    shared-slice-read-wide
-    wide-requires
-    mul-t9
-    element-copy-out-t12
-    cast-t15
+    mul-step-in
+    shared-slice-read-step-in
+    step-in-requires
+    cast-e
+    mul-entered
+    element-copy-out-entered
+    cast-entered
     pair-in-requires-2
     returns-2)
