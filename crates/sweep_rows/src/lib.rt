@@ -21,6 +21,12 @@ use nodes::branch;
 use nodes::descend_to;
 use trace::packed;
 
+// The steps from `begin` to before `until`.
+struct Span {
+    begin: Step,
+    until: Step,
+}
+
 // The pair of stage s, whose row starts at `base`, and node t is offered the cost v. `mark` has the step and the node
 // that offer it.
 fn offer(
@@ -92,7 +98,7 @@ fn relax_step<'a>(
     offer(costs, via, nodes, counts, base, s, t, total, mark);
 }
 
-// Node n, at cost v, offers by the steps from `begin` to before `until`, which leave its stage.
+// Node n, at cost v, offers by the steps that leave its stage.
 fn relax_node<'a>(
     costs: &mut [u32],
     via: &mut [u32],
@@ -103,24 +109,23 @@ fn relax_node<'a>(
     inner: &'a [[u16; 512]; 3],
     n: Node,
     v: u32,
-    begin: Step,
-    until: Step,
+    leaving: Span,
 )
     requires { ⌜
         (let t = read (now steps) (now inner) in
-        Stands t (now row) (n .0) v (begin .0) (until .0) (rows (now costs) (now via) (now nodes) (now counts)))
+        Stands t (now row) (n .0) v (leaving .begin .0) (leaving .until .0) (rows (now costs) (now via) (now nodes) (now counts)))
         ⌝ }
     ensures { λ _. ⌜
         (let before = rows (now (costs .entry)) (now (via .entry)) (now (nodes .entry)) (now (counts .entry)) in
         let after = rows (now (costs .exit)) (now (via .exit)) (now (nodes .exit)) (now (counts .exit)) in
         let t = read (now (steps .entry)) (now (inner .entry)) in
-        (x : Stands t (now (row .entry)) (n .0) v (begin .0) (until .0) before)
-        → after ≡ relaxSteps (graphIn (x .z) t) (automatonIn (x .z) t) (n .0) v (begin .0) (until .0 - begin .0) before)
+        (x : Stands t (now (row .entry)) (n .0) v (leaving .begin .0) (leaving .until .0) before)
+        → after ≡ relaxSteps (graphIn (x .z) t) (automatonIn (x .z) t) (n .0) v (leaving .begin .0) (leaving .until .0 - leaving .begin .0) before)
         ⌝ }
 {
     let mut m = n;
-    let mut next = begin.0;
-    let end = until.0;
+    let mut next = leaving.begin.0;
+    let end = leaving.until.0;
     while next < end {
         let e = Step(next);
         m = descend_to(&inner[STEP], &inner[LO], e, m);
@@ -162,24 +167,13 @@ fn relax_row<'a>(
     let base = wide(row[stage]);
     let begin = Step(first[stage]);
     let until = Step(first[stage + 1]);
+    let leaving = Span { begin, until };
     let count = wide(counts[stage]);
     let mut k: usize = 0;
     while k < count {
-        let n = nodes[base + k];
-        let v = costs[base + wide(n)];
-        relax_node(
-            costs,
-            via,
-            nodes,
-            counts,
-            steps,
-            row,
-            inner,
-            Node(n as u16),
-            v,
-            begin,
-            until,
-        );
+        let n = Node(nodes[base + k] as u16);
+        let v = costs[base + n.0 as usize];
+        relax_node(costs, via, nodes, counts, steps, row, inner, n, v, leaving);
         k += 1;
     }
 }
@@ -210,17 +204,8 @@ pub fn relax_rows<'a>(
     let stages = z.stages;
     let mut s = z.start.0;
     while s < stages {
-        relax_row(
-            costs,
-            via,
-            nodes,
-            counts,
-            steps,
-            first,
-            row,
-            inner,
-            Stage(s),
-        );
+        let stage = Stage(s);
+        relax_row(costs, via, nodes, counts, steps, first, row, inner, stage);
         s += 1;
     }
 }
