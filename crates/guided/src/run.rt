@@ -2,7 +2,7 @@
 ghost use Rattle.definitions.specs.Promises.{guidedSlices, GuidedCall};
 ghost use Rattle.chart.specs.Tables.{stepsIn};
 ghost use Rattle.checks.specs.Tables.{read, Tables};
-ghost use Rattle.guided.specs.Runs.{Room, Runs, Traceables, Concludes};
+ghost use Rattle.guided.specs.Runs.{Room, Runs, Ending, Concludes};
 use crate::clear::clear_rows;
 use chart::COST;
 use chart::ChartRead;
@@ -37,10 +37,10 @@ fn conclude<'a>(
     ended: Ended,
     plan: &mut [u16],
 ) -> Answer
-    requires { ⌜ Traceables z (now via) (stepsIn (now steps)) (now row) ended (now plan) ⌝ }
+    requires { ⌜ Ending z (now via) (stepsIn (now steps)) (now row) ended (now plan) ⌝ }
     ensures { λ r. ⌜
-        (let from = stepsIn (now (steps .entry)) in
-        Concludes z (now (via .entry)) from (now (row .entry)) ended (now (plan .entry)) (now (plan .exit)) r)
+        (let table = stepsIn (now (steps .entry)) in
+        Concludes z (now (via .entry)) table (now (row .entry)) ended (now (plan .entry)) (now (plan .exit)) r)
         ⌝ }
 {
     if ended.found {
@@ -79,11 +79,11 @@ fn run<'a>(
         ⌝ }
     ensures { λ r. ⌜
         (let before =
-            guidedSlices (now (keys .entry)) (now (via .entry)) (now (heap .entry)) (now (pos .entry))
-            (now (stack .entry)) (now (log .entry)) (now (plan .entry)) in
+        guidedSlices (now (keys .entry)) (now (via .entry)) (now (heap .entry)) (now (pos .entry))
+        (now (stack .entry)) (now (log .entry)) (now (plan .entry)) in
         let after =
-            guidedSlices (now (keys .exit)) (now (via .exit)) (now (heap .exit)) (now (pos .exit))
-            (now (stack .exit)) (now (log .exit)) (now (plan .exit)) in
+        guidedSlices (now (keys .exit)) (now (via .exit)) (now (heap .exit)) (now (pos .exit))
+        (now (stack .exit)) (now (log .exit)) (now (plan .exit)) in
         Runs z (read (now (steps .entry)) (now (inner .entry))) before after r)
         ⌝ }
 {
@@ -96,13 +96,7 @@ fn run<'a>(
         steps: z.steps,
     };
     let by_stage = chart_estimates(sizes, steps);
-    let by_node = diagram_estimates(
-        &inner[STEP],
-        &inner[LO],
-        &inner[HI],
-        z.nodes,
-        &steps[COST],
-    );
+    let by_node = diagram_estimates(&inner[STEP], &inner[LO], &inner[HI], z.nodes, &steps[COST]);
     let rest = pair_estimate(&by_stage, &by_node, z.start, z.root);
     if rest == NONE {
         return refusal(8, 0, 0, 0);
@@ -112,7 +106,20 @@ fn run<'a>(
     let yes = finishing(&inner[LO], z.nodes);
     clear_rows(keys, &row, z.nodes + 2, z.start, z.end);
     let ended = search(
-        keys, via, heap, pos, stack, log, steps, &first, &row, inner, &by_stage, &by_node, &yes, z,
+        keys,
+        via,
+        heap,
+        pos,
+        stack,
+        log,
+        steps,
+        &first,
+        &row,
+        inner,
+        &by_stage,
+        &by_node,
+        &yes,
+        z,
         rest,
     );
     conclude(via, steps, &row, z, ended, plan)
@@ -133,11 +140,11 @@ pub fn guided(
 ) -> Answer
     ensures { λ r. ⌜
         (let before =
-            guidedSlices (now (keys .entry)) (now (via .entry)) (now (heap .entry)) (now (pos .entry))
-            (now (stack .entry)) (now (log .entry)) (now (plan .entry)) in
+        guidedSlices (now (keys .entry)) (now (via .entry)) (now (heap .entry)) (now (pos .entry))
+        (now (stack .entry)) (now (log .entry)) (now (plan .entry)) in
         let after =
-            guidedSlices (now (keys .exit)) (now (via .exit)) (now (heap .exit)) (now (pos .exit))
-            (now (stack .exit)) (now (log .exit)) (now (plan .exit)) in
+        guidedSlices (now (keys .exit)) (now (via .exit)) (now (heap .exit)) (now (pos .exit))
+        (now (stack .exit)) (now (log .exit)) (now (plan .exit)) in
         GuidedCall (now (chart .entry)) (now (rules .entry)) before after r)
         ⌝ }
 {
@@ -150,6 +157,15 @@ pub fn guided(
         return refusal(got.number, got.file, got.place, 0);
     }
     run(
-        keys, via, heap, pos, stack, log, plan, got.shape, &steps, &inner,
+        keys,
+        via,
+        heap,
+        pos,
+        stack,
+        log,
+        plan,
+        got.shape,
+        &steps,
+        &inner,
     )
 }

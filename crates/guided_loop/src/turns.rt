@@ -43,15 +43,15 @@ fn settle_open<'a>(
     requires { ⌜
         (let before = work (now keys) (now via) (now heap) (now pos) (now stack) in
         let on = walk (read (now steps) (now inner)) (now first) (now row) in
-        let guess = estimates (now «by_stage») (now «by_node») in
-        Begun z on guess (now yes) before opened (now log))
+        let estimated = estimates (now «by_stage») (now «by_node») in
+        Begun z on estimated (now yes) before opened (now log))
         ⌝ }
     ensures { λ r. ⌜
         (let before = work (now (keys .entry)) (now (via .entry)) (now (heap .entry)) (now (pos .entry)) (now (stack .entry)) in
         let after = work (now (keys .exit)) (now (via .exit)) (now (heap .exit)) (now (pos .exit)) (now (stack .exit)) in
         let on = walk (read (now (steps .entry)) (now (inner .entry))) (now (first .entry)) (now (row .entry)) in
-        let guess = estimates (now («by_stage» .entry)) (now («by_node» .entry)) in
-        (x : Begun z on guess (now (yes .entry)) before opened (now (log .entry)))
+        let estimated = estimates (now («by_stage» .entry)) (now («by_node» .entry)) in
+        (x : Begun z on estimated (now (yes .entry)) before opened (now (log .entry)))
         → Searched (x .prepared .by) before (now (log .entry)) after (now (log .exit)) r)
         ⌝ }
 {
@@ -77,8 +77,21 @@ fn settle_open<'a>(
             break 'search;
         }
         counts = settle(
-            keys, via, heap, pos, stack, p, next.counts, steps, first, row, inner, by_stage,
-            by_node, at, base,
+            keys,
+            via,
+            heap,
+            pos,
+            stack,
+            p,
+            next.counts,
+            steps,
+            first,
+            row,
+            inner,
+            by_stage,
+            by_node,
+            at,
+            base,
         );
     }
     Ended {
@@ -111,15 +124,15 @@ pub fn search<'a>(
     requires { ⌜
         (let before = work (now keys) (now via) (now heap) (now pos) (now stack) in
         let on = walk (read (now steps) (now inner)) (now first) (now row) in
-        let guess = estimates (now «by_stage») (now «by_node») in
-        Start z on guess (now yes) rest before (now log))
+        let estimated = estimates (now «by_stage») (now «by_node») in
+        Start z on estimated (now yes) rest before (now log))
         ⌝ }
     ensures { λ r. ⌜
         (let before = work (now (keys .entry)) (now (via .entry)) (now (heap .entry)) (now (pos .entry)) (now (stack .entry)) in
         let after = work (now (keys .exit)) (now (via .exit)) (now (heap .exit)) (now (pos .exit)) (now (stack .exit)) in
         let on = walk (read (now (steps .entry)) (now (inner .entry))) (now (first .entry)) (now (row .entry)) in
-        let guess = estimates (now («by_stage» .entry)) (now («by_node» .entry)) in
-        (x : Start z on guess (now (yes .entry)) rest before (now (log .entry)))
+        let estimated = estimates (now («by_stage» .entry)) (now («by_node» .entry)) in
+        (x : Start z on estimated (now (yes .entry)) rest before (now (log .entry)))
         → Searched (x .prepared .by) before (now (log .entry)) after (now (log .exit)) r)
         ⌝ }
 {
@@ -127,7 +140,20 @@ pub fn search<'a>(
     let begin = pair_at(row, z.start, z.root);
     let opened = queue::insert(keys, heap, pos, stack, p, queue::empty(), begin, rest);
     settle_open(
-        keys, via, heap, pos, stack, log, steps, first, row, inner, by_stage, by_node, yes, z,
+        keys,
+        via,
+        heap,
+        pos,
+        stack,
+        log,
+        steps,
+        first,
+        row,
+        inner,
+        by_stage,
+        by_node,
+        yes,
+        z,
         opened,
     )
 }

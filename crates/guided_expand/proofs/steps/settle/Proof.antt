@@ -151,8 +151,8 @@ loop-again c =
     let w = head .loop .inv .0 in
     let kept = done .offer .kept in (
       (λ x.
-      let led-to = walk-leading (w x) (turn .loop-test .taken) (low .descend-to .ensures) (led .branch .ensures) in
-      walk-more (w x) (turn .loop-test .taken) (low .descend-to .ensures) (led .branch .ensures) (kept .1 .0) (done .offer .ensures led-to)),
+          let led-to = walk-leading (w x) (turn .loop-test .taken) (low .descend-to .ensures) (led .branch .ensures) in
+          walk-more (w x) (turn .loop-test .taken) (low .descend-to .ensures) (led .branch .ensures) (kept .1 .0) (done .offer .ensures led-to)),
       omega (arith, turn .loop-test .taken),
       omega (arith, head .loop .inv .2, kept .0),
       omega (arith, head .loop .inv .3, kept .1 .0),

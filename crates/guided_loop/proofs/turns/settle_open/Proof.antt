@@ -216,8 +216,8 @@ search-again c =
     let begin = begin-is (start .pre .prepared .by) (first .pair-at .ensures) in
     let kept = settled .settle .kept in (
       (λ x.
-      turn-more (x .prepared) (head .search .inv .0 x) (begin-is (x .prepared .by) (first .pair-at .ensures)) (taken .take .ensures) (at .pair-of .result) (at .pair-of .ensures) (rest .pair-estimate .ensures)
-      (goal .is-goal .ensures) (no .if2 .left) (kept .1 .0) (settled .settle .ensures (turn-asks (x .prepared) (head .search .inv .0 x) (begin-is (x .prepared .by) (first .pair-at .ensures)) (taken .take .ensures) (at .pair-of .result) (at .pair-of .ensures) (rest .pair-estimate .ensures)))),
+          turn-more (x .prepared) (head .search .inv .0 x) (begin-is (x .prepared .by) (first .pair-at .ensures)) (taken .take .ensures) (at .pair-of .result) (at .pair-of .ensures) (rest .pair-estimate .ensures)
+          (goal .is-goal .ensures) (no .if2 .left) (kept .1 .0) (settled .settle .ensures (turn-asks (x .prepared) (head .search .inv .0 x) (begin-is (x .prepared .by) (first .pair-at .ensures)) (taken .take .ensures) (at .pair-of .result) (at .pair-of .ensures) (rest .pair-estimate .ensures)))),
       omega (arith, turn-room (start .pre .prepared) w begin (taken .take .ensures)),
       head .search .inv .2,
       kept .0 ∙ head .search .inv .3,
