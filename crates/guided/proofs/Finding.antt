@@ -1,7 +1,7 @@
 -- From the filled tables to the promise: what clearing and the search ask, and that the search's end is the promised one.
 -- Assumes nothing.
-use Prim.Native.Nat.{ℕ, _+_, _-_, _*_, _≤_, _<_}
-use mathlib.Core.Path.{_≡_, refl, sym, _∙_, ap, subst}
+use Prim.Native.Nat.{ℕ, _+_, _≤_, _<_}
+use mathlib.Core.Path.{_≡_, refl, sym, ap, subst}
 use mathlib.Core.Bool.{Bool, true, false}
 use mathlib.Core.List.{List}
 use mathlib.Core.Option.{some}
@@ -19,7 +19,7 @@ use Rattle.chart.specs.Estimates.{EstimateTable}
 use Rattle.nodes.specs.Walks.{Finishing}
 use Rattle.nodes.specs.Estimates.{Estimated}
 use Rattle.rows.specs.Rows.{rowStarts}
-use Rattle.trace.specs.Trails.{Trail, Traceable}
+use Rattle.trace.specs.Trails.{Trail}
 use Rattle.checks.specs.Tables.{Read, chartIn, diagramIn, Tables}
 use Rattle.checks.specs.Ready.{Walk, walk, Ready, graphIn, automatonIn, width-is}
 use Rattle.guided_model.specs.State.{unopened}
@@ -29,11 +29,11 @@ use Rattle.guided_model.specs.Charts.{GoalSettled, NoneSettled, none-begun}
 use Rattle.guided_model.specs.Guides.{estimate-until}
 use Rattle.guided_expand.specs.Estimates.{estimates, paired}
 use Rattle.guided_expand.specs.Work.{Work, work, Past, past-same, past-more}
-use Rattle.guided_expand.specs.Guides.{Guides, pairsIn}
+use Rattle.guided_expand.specs.Guides.{pairsIn}
 use Rattle.guided_loop.specs.Search.{Start, Searched}
 use Rattle.guided_loop.specs.declared.turns.Ended.{Ended}
 use Rattle.guided.specs.Clears.{Cleared}
-use Rattle.guided.specs.Runs.{estimateIn, workOf, Room, Trails, Traceables, Concludes, Runs}
+use Rattle.guided.specs.Runs.{estimateIn, workOf, Room, Trails, Ending, Concludes, Runs}
 use Rattle.guided.proofs.Clearing.{rows-ordered, rows-inside, rows-clear, rows-past}
 use Rattle.guided.proofs.Planning.{trail-short, outcome-some, outcome-none}
 use Rattle.guided.proofs.Preparing.{sound, run-narrow, run-root, run-guide, run-shown, run-prepared}
@@ -131,7 +131,7 @@ module _ {z : Shape} {t : Read} (in-tables : Tables z t) {byStage byNode : List 
           trail = subst (λ (k : ℕ). Trail (y .via) (t .steps .from) k (z .start .0) (z .end .0) (e .node .0) (settled f .steps)) (width-is z t in-tables) (settled f .trail);
         }
 
-        pub found-traceable : Traceables z (y .via) (t .steps) row e (x .plan)
+        pub found-traceable : Ending z (y .via) (t .steps) row e (x .plan)
         found-traceable = record { traceable = trail-of; fits = λ w. trail-in (w .trail) }
 
         pub found-runs : {plan′ : List ℕ} {r : Answer} → Concludes z (y .via) (t .steps) row e (x .plan) plan′ r → length plan′ ≡ length (x .plan)

@@ -20,7 +20,7 @@ use Rattle.theory.specs.Basics.{true-not-false}
 use Rattle.trace.specs.Trails.{Trail, begin, more}
 use Rattle.chart.specs.Tables.{Steps}
 use Rattle.guided_loop.specs.declared.turns.Ended.{Ended}
-use Rattle.guided.specs.Runs.{Trails, Traceables, Concludes}
+use Rattle.guided.specs.Runs.{Trails, Ending, Concludes}
 
 -- a trail climbs from stage to stage
 pub trail-short : {via from : List ℕ} {width start s n : ℕ} {w : List ℕ} → Trail via from width start s n w → start + length w ≤ s
@@ -29,7 +29,7 @@ trail-short (more {s} {n} {e} {m} {w} a b c d f t) = omega (arith, trail-short t
 
 -- ---- `conclude`
 
-module _ {z : Shape} {via : List ℕ} {steps : Steps} {row : List ℕ} {e : Ended} {plan : List ℕ} (t : Traceables z via steps row e plan) where
+module _ {z : Shape} {via : List ℕ} {steps : Steps} {row : List ℕ} {e : Ended} {plan : List ℕ} (t : Ending z via steps row e plan) where
   pub trail-fits : (f : e .found ≡ true) {l : ℕ} → ((x : Trails z via steps row e) → l ≡ length (x .steps)) → l ≤ length plan
   trail-fits f long = omega (arith, long (t .traceable f), t .fits (t .traceable f))
 

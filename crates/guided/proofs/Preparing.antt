@@ -1,25 +1,22 @@
 -- The tables of the search, from those of the chart and the diagram; the larger of both estimates guides it.
 -- Assumes nothing.
-use Prim.Native.Nat.{ℕ, _+_, _-_, _*_, _≤_, _<_, max}
-use mathlib.Core.Path.{_≡_, refl, sym, _∙_, ap}
+use Prim.Native.Nat.{ℕ, _+_, _≤_, _<_, max}
+use mathlib.Core.Path.{_≡_, refl, _∙_}
 use mathlib.Core.Bool.{Bool}
 use mathlib.Core.List.{List}
 use mathlib.Core.Option.{Option, none, some}
 use native.Mathlib.Omega.{arith}
-use native.Mathlib.Nat.{mul-le-mul-right}
-use lib.ListN.{length, getD, drop}
-use lib.Seq.{drop-drop}
+use lib.ListN.{length, getD}
 use Rattle.definitions.specs.Basics.{larger}
 use Rattle.definitions.specs.Charts.{Chart}
 use Rattle.definitions.specs.Diagrams.{Diagram, size}
 use Rattle.definitions.specs.Ways.{Graph}
-use Rattle.definitions.specs.Pairs.{Automaton, Estimate, stageOf, nodeOf}
+use Rattle.definitions.specs.Pairs.{Automaton}
 use Rattle.definitions.specs.Plans.{chartEstimate, diagramEstimate, estimate}
 use Rattle.definitions.specs.Promises.{shown}
 use Rattle.definitions.specs.declared.Shape.{Shape}
 use Rattle.theory.specs.Limits.{Sound}
 use Rattle.theory.specs.Estimates.{chart-bounded, diagram-bounded}
-use Rattle.theory.specs.Pairs.{pair-of, nodeOf-inside}
 use Rattle.chart.specs.FirstSteps.{SortedTable, FirstTable}
 use Rattle.chart.specs.HeldGraph.{held-sorted}
 use Rattle.chart.specs.Estimates.{EstimateTable}
@@ -29,14 +26,11 @@ use Rattle.nodes.specs.Estimates.{Priced, Costs, Estimated}
 use Rattle.nodes.specs.Prices.{priced}
 use Rattle.rows.specs.Rows.{rowStarts}
 use Rattle.checks.specs.Tables.{Read, chartIn, diagramIn, Tables}
-use Rattle.checks.specs.Ready.{walk, Ready, graphIn, automatonIn, count-is, width-is, sound-in, few-stages, few-nodes, cost-at, row-start}
-use Rattle.guided_model.specs.State.{unopened, Guide, Openable}
-use Rattle.guided_model.specs.Guides.{guide, estimate-until}
+use Rattle.checks.specs.Ready.{walk, graphIn, automatonIn, count-is, width-is, sound-in, few-stages, few-nodes, cost-at}
+use Rattle.guided_model.specs.State.{Guide}
+use Rattle.guided_model.specs.Guides.{guide}
 use Rattle.guided_expand.specs.Estimates.{estimates, paired, Holds}
-use Rattle.guided_expand.specs.Work.{Work, work}
-use Rattle.guided_expand.specs.Guides.{Guides, pairsIn}
-use Rattle.guided_loop.specs.Search.{Prepared, Space, Start}
-use Rattle.guided.specs.Clears.{Cleared}
+use Rattle.guided_loop.specs.Search.{Prepared}
 use Rattle.guided.specs.Runs.{estimateIn}
 
 -- the larger of two entries is that of the larger estimate, since none is shown by the largest number

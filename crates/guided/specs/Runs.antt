@@ -38,7 +38,7 @@ abbrev pub Trails : Shape → List ℕ → Steps → List ℕ → Ended → Type
 Trails z via steps row e = Traceable via (steps .from) row (z .start .0) (z .end .0) (e .node .0)
 
 -- where a goal pair was settled it can be traced back, and the plan slice has room for each trail
-pub record Traceables (z : Shape) (via : List ℕ) (steps : Steps) (row : List ℕ) (e : Ended) (plan : List ℕ) : Type 0 where
+pub record Ending (z : Shape) (via : List ℕ) (steps : Steps) (row : List ℕ) (e : Ended) (plan : List ℕ) : Type 0 where
   pub traceable : e .found ≡ true → Trails z via steps row e
   pub fits : (x : Trails z via steps row e) → length (x .steps) ≤ length plan
 

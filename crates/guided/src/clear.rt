@@ -27,8 +27,8 @@ pub fn clear_rows(keys: &mut [u32], row: &[u32; 256], width: usize, first: Stage
         (getD (now row) (first .0) 0 ≤ until) × (until ≤ length (now keys)))
         ⌝ }
     ensures { λ _. ⌜
-        (let row = now (row .entry) in
-        Cleared (getD row (first .0) 0) (getD row (last .0) 0 + width) (now (keys .entry)) (now (keys .exit)))
+        (let starts = now (row .entry) in
+        Cleared (getD starts (first .0) 0) (getD starts (last .0) 0 + width) (now (keys .entry)) (now (keys .exit)))
         ⌝ }
 {
     let low = pair_at(row, first, Node(0));

@@ -2,7 +2,7 @@
 ghost use Rattle.definitions.specs.Promises.{guidedSlices, GuidedCall};
 ghost use Rattle.chart.specs.Tables.{stepsIn};
 ghost use Rattle.checks.specs.Tables.{read, Tables};
-ghost use Rattle.guided.specs.Runs.{Room, Runs, Traceables, Concludes};
+ghost use Rattle.guided.specs.Runs.{Room, Runs, Ending, Concludes};
 use crate::clear::clear_rows;
 use chart::COST;
 use chart::ChartRead;
@@ -37,10 +37,10 @@ fn conclude<'a>(
     ended: Ended,
     plan: &mut [u16],
 ) -> Answer
-    requires { ⌜ Traceables z (now via) (stepsIn (now steps)) (now row) ended (now plan) ⌝ }
+    requires { ⌜ Ending z (now via) (stepsIn (now steps)) (now row) ended (now plan) ⌝ }
     ensures { λ r. ⌜
-        (let from = stepsIn (now (steps .entry)) in
-        Concludes z (now (via .entry)) from (now (row .entry)) ended (now (plan .entry)) (now (plan .exit)) r)
+        (let table = stepsIn (now (steps .entry)) in
+        Concludes z (now (via .entry)) table (now (row .entry)) ended (now (plan .entry)) (now (plan .exit)) r)
         ⌝ }
 {
     if ended.found {

@@ -5,7 +5,7 @@ use mathlib.Core.Path.{_≡_, sym, _∙_, ap, ap₂}
 use mathlib.Core.List.{List}
 use mathlib.Core.Option.{some}
 use native.Mathlib.Omega.{arith}
-use lib.ListN.{length, getD}
+use lib.ListN.{getD}
 use Rattle.queue.specs.declared.Counts.{Counts}
 use Rattle.definitions.specs.Ways.{Graph}
 use Rattle.definitions.specs.Pairs.{Automaton, Estimate, pair}
@@ -22,14 +22,14 @@ use Rattle.guided_model.specs.Moves.{offerable, step-none, step-relaxed}
 use Rattle.guided_model.specs.Settling.{Target, target}
 use Rattle.guided_expand.specs.Estimates.{Estimates, paired}
 use Rattle.guided_expand.specs.Work.{Work, marksIn, kept-same, Offering, Relaxes}
-use Rattle.guided_expand.specs.Opening.{Opened, both, Leading}
+use Rattle.guided_expand.specs.Opening.{Opened, tablesOf, Leading}
 
 module _ {steps : Steps} {row : List ℕ} {t : Estimates} {n base p e to : ℕ} {x : Work} {c : Counts} (l : Leading steps row t n base p e to x c) where
   abbrev z : Shape
   z = l .z
 
   abbrev on : Walk
-  on = walk (both steps (l .inner)) (l .first) row
+  on = walk (tablesOf steps (l .inner)) (l .first) row
 
   abbrev g : Graph
   g = graphIn z (on .read)

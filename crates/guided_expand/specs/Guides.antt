@@ -1,8 +1,7 @@
 -- What a search walks by: the chart and the diagram in tables, and an estimate that guides it, in tables too.
 -- Assumes nothing.
 use Prim.Native.Nat.{ℕ, _+_, _*_}
-use Rattle.definitions.specs.Ways.{Graph}
-use Rattle.definitions.specs.Pairs.{Automaton, Estimate}
+use Rattle.definitions.specs.Pairs.{Estimate}
 use Rattle.definitions.specs.declared.Shape.{Shape}
 use Rattle.checks.specs.Ready.{Walk, Ready, graphIn, automatonIn}
 use Rattle.guided_model.specs.State.{Guide}

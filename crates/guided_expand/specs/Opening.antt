@@ -1,6 +1,6 @@
 -- What opening the pairs that follow from the pair of stage s and node n, of the cost `base`, rests on, and what it leaves.
 -- Assumes nothing.
-use Prim.Native.Nat.{ℕ, _+_, _≤_, _<_}
+use Prim.Native.Nat.{ℕ, _≤_, _<_}
 use mathlib.Core.Path.{_≡_, sym, subst}
 use mathlib.Core.List.{List}
 use native.Mathlib.Omega.{arith}
@@ -64,9 +64,9 @@ pub record Opening (on : Walk) (t : Estimates) (s n base p : ℕ) (x : Work) (c 
   pub by : Guides z on t
   pub opens : Opens by s n base p x c
 
--- both tables
-abbrev pub both : Steps → Nodes → Read
-both steps inner = record { steps = steps; inner = inner }
+-- both tables as one
+abbrev pub tablesOf : Steps → Nodes → Read
+tablesOf steps inner = record { steps = steps; inner = inner }
 
 -- step e leads to node `to` from the pair of some stage and node n, and can be offered, in the tables of some chart and diagram by some guide
 pub record Leading (steps : Steps) (row : List ℕ) (t : Estimates) (n base p e to : ℕ) (x : Work) (c : Counts) : Type 0 where
@@ -74,8 +74,8 @@ pub record Leading (steps : Steps) (row : List ℕ) (t : Estimates) (n base p e 
   pub first : List ℕ
   pub s : ℕ
   pub z : Shape
-  pub by : Guides z (walk (both steps inner) first row) t
+  pub by : Guides z (walk (tablesOf steps inner) first row) t
   pub opens : Opens by s n base p x c
   pub exists : e < z .steps
-  pub leaves : graphIn z (both steps inner) .from e ≡ s
-  pub enters : to ≡ automatonIn z (both steps inner) .next e n
+  pub leaves : graphIn z (tablesOf steps inner) .from e ≡ s
+  pub enters : to ≡ automatonIn z (tablesOf steps inner) .next e n

@@ -50,14 +50,14 @@ fn offer<'a>(
 ) -> Counts
     requires { ⌜
         (let before = work (now keys) (now via) (now heap) (now pos) (now stack) in
-        let guess = estimates (now «by_stage») (now «by_node») in
-        Leading (stepsIn (now steps)) (now row) guess (n .0) base p (e .0) (t .0) before counts)
+        let estimated = estimates (now «by_stage») (now «by_node») in
+        Leading (stepsIn (now steps)) (now row) estimated (n .0) base p (e .0) (t .0) before counts)
         ⌝ }
     ensures { λ r. ⌜
         (let before = work (now (keys .entry)) (now (via .entry)) (now (heap .entry)) (now (pos .entry)) (now (stack .entry)) in
         let after = work (now (keys .exit)) (now (via .exit)) (now (heap .exit)) (now (pos .exit)) (now (stack .exit)) in
-        let guess = estimates (now («by_stage» .entry)) (now («by_node» .entry)) in
-        (x : Leading (stepsIn (now (steps .entry))) (now (row .entry)) guess (n .0) base p (e .0) (t .0) before counts)
+        let estimated = estimates (now («by_stage» .entry)) (now («by_node» .entry)) in
+        (x : Leading (stepsIn (now (steps .entry))) (now (row .entry)) estimated (n .0) base p (e .0) (t .0) before counts)
         → Opened (x .by) (x .s) (n .0) base p (e .0) (e .0 + 1) before counts after r)
         ⌝ }
 {
@@ -95,16 +95,16 @@ pub fn settle<'a>(
     requires { ⌜
         (let before = work (now keys) (now via) (now heap) (now pos) (now stack) in
         let on = walk (read (now steps) (now inner)) (now first) (now row) in
-        let guess = estimates (now «by_stage») (now «by_node») in
-        Opening on guess (at .stage .0) (at .node .0) base p before counts)
+        let estimated = estimates (now «by_stage») (now «by_node») in
+        Opening on estimated (at .stage .0) (at .node .0) base p before counts)
         ⌝ }
     ensures { λ r. ⌜
         (let before = work (now (keys .entry)) (now (via .entry)) (now (heap .entry)) (now (pos .entry)) (now (stack .entry)) in
         let after = work (now (keys .exit)) (now (via .exit)) (now (heap .exit)) (now (pos .exit)) (now (stack .exit)) in
         let on = walk (read (now (steps .entry)) (now (inner .entry))) (now (first .entry)) (now (row .entry)) in
-        let guess = estimates (now («by_stage» .entry)) (now («by_node» .entry)) in
+        let estimated = estimates (now («by_stage» .entry)) (now («by_node» .entry)) in
         let s = at .stage .0 in
-        (x : Opening on guess s (at .node .0) base p before counts)
+        (x : Opening on estimated s (at .node .0) base p before counts)
         → Opened (x .by) s (at .node .0) base p (getD (on .first) s 0) (getD (on .first) (s + 1) 0) before counts after r)
         ⌝ }
 {

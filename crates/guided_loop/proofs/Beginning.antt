@@ -24,7 +24,7 @@ use Rattle.guided_model.specs.Charts.{Running, running-start}
 use Rattle.guided_expand.specs.Estimates.{Estimates}
 use Rattle.guided_expand.specs.Work.{Work, work, queueIn, marksIn, Past, past-same, past-more}
 use Rattle.guided_expand.specs.Guides.{Guides, pairsIn}
-use Rattle.guided_loop.specs.Search.{Start, Turning, Begun, Searched}
+use Rattle.guided_loop.specs.Search.{Start, Begun, Searched}
 use Rattle.guided_loop.specs.declared.turns.Ended.{Ended}
 
 module _ {z : Shape} {on : Walk} {t : Estimates} (by : Guides z on t) where

@@ -25,9 +25,9 @@ use Rattle.guided_model.specs.State.{Smallest, Without, costSoFar}
 use Rattle.guided_model.specs.Moves.{Frontier}
 use Rattle.guided_model.specs.Chosen.{chosen-frontier}
 use Rattle.guided_model.specs.Settling.{Located, Settling, located-start, located-via, chosen-settling, no-goal-stage, no-goal-node}
-use Rattle.guided_model.specs.Charts.{Running, GoalSettled, running-room, running-turn, running-goal, running-empty}
+use Rattle.guided_model.specs.Charts.{Running, running-room, running-turn, running-goal, running-empty}
 use Rattle.guided_expand.specs.Estimates.{Estimates, paired}
-use Rattle.guided_expand.specs.Work.{Work, work, queueIn, marksIn, Past, past-same, past-more}
+use Rattle.guided_expand.specs.Work.{Work, work, queueIn, marksIn, Past, past-more}
 use Rattle.guided_expand.specs.Guides.{Guides, pairsIn}
 use Rattle.guided_expand.specs.declared.steps.Pair.{Pair}
 use Rattle.guided_expand.specs.Opening.{Opens, Opened, Opening}

@@ -43,15 +43,15 @@ fn settle_open<'a>(
     requires { ⌜
         (let before = work (now keys) (now via) (now heap) (now pos) (now stack) in
         let on = walk (read (now steps) (now inner)) (now first) (now row) in
-        let guess = estimates (now «by_stage») (now «by_node») in
-        Begun z on guess (now yes) before opened (now log))
+        let estimated = estimates (now «by_stage») (now «by_node») in
+        Begun z on estimated (now yes) before opened (now log))
         ⌝ }
     ensures { λ r. ⌜
         (let before = work (now (keys .entry)) (now (via .entry)) (now (heap .entry)) (now (pos .entry)) (now (stack .entry)) in
         let after = work (now (keys .exit)) (now (via .exit)) (now (heap .exit)) (now (pos .exit)) (now (stack .exit)) in
         let on = walk (read (now (steps .entry)) (now (inner .entry))) (now (first .entry)) (now (row .entry)) in
-        let guess = estimates (now («by_stage» .entry)) (now («by_node» .entry)) in
-        (x : Begun z on guess (now (yes .entry)) before opened (now (log .entry)))
+        let estimated = estimates (now («by_stage» .entry)) (now («by_node» .entry)) in
+        (x : Begun z on estimated (now (yes .entry)) before opened (now (log .entry)))
         → Searched (x .prepared .by) before (now (log .entry)) after (now (log .exit)) r)
         ⌝ }
 {
@@ -124,15 +124,15 @@ pub fn search<'a>(
     requires { ⌜
         (let before = work (now keys) (now via) (now heap) (now pos) (now stack) in
         let on = walk (read (now steps) (now inner)) (now first) (now row) in
-        let guess = estimates (now «by_stage») (now «by_node») in
-        Start z on guess (now yes) rest before (now log))
+        let estimated = estimates (now «by_stage») (now «by_node») in
+        Start z on estimated (now yes) rest before (now log))
         ⌝ }
     ensures { λ r. ⌜
         (let before = work (now (keys .entry)) (now (via .entry)) (now (heap .entry)) (now (pos .entry)) (now (stack .entry)) in
         let after = work (now (keys .exit)) (now (via .exit)) (now (heap .exit)) (now (pos .exit)) (now (stack .exit)) in
         let on = walk (read (now (steps .entry)) (now (inner .entry))) (now (first .entry)) (now (row .entry)) in
-        let guess = estimates (now («by_stage» .entry)) (now («by_node» .entry)) in
-        (x : Start z on guess (now (yes .entry)) rest before (now (log .entry)))
+        let estimated = estimates (now («by_stage» .entry)) (now («by_node» .entry)) in
+        (x : Start z on estimated (now (yes .entry)) rest before (now (log .entry)))
         → Searched (x .prepared .by) before (now (log .entry)) after (now (log .exit)) r)
         ⌝ }
 {

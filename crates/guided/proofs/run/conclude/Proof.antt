@@ -1,5 +1,4 @@
 -- `guided::conclude` meets its contract.
-use mathlib.Core.Path.{refl}
 use Rattle.guided.proofs.Planning.{trail-fits, concludes-found, concludes-none}
 use borrow.Author.Needs.{needs}
 use Rattle.guided.proofs.run.conclude.Statement.{statement}

@@ -1,6 +1,6 @@
 -- `guided_expand::relax` meets its contract: one law for each way.
 use native.Mathlib.Omega.{arith}
-use Rattle.guided_expand.proofs.Relaxing.{relax-none, relax-fits, relax-inserts, relax-decreases, relax-inside}
+use Rattle.guided_expand.proofs.Relaxing.{relax-none, relax-inserts, relax-decreases, relax-inside}
 use borrow.Author.Needs.{needs}
 use Rattle.guided_expand.proofs.relax.relax.Statement.{statement}
 use Rattle.guided_expand.proofs.relax.relax.Tie as tie
