@@ -14,8 +14,8 @@ use Rattle.definitions.specs.Answers.{refusal}
 use Rattle.definitions.specs.Promises.{Logged, GuidedSlices, guidedSlices}
 use Rattle.definitions.specs.declared.Answer.{Answer}
 use Rattle.definitions.specs.declared.Shape.{Shape}
-use Rattle.chart.specs.FirstSteps.{FirstTable}
-use Rattle.chart.specs.Estimates.{EstimateTable}
+use Rattle.chart_stages.specs.FirstSteps.{FirstTable}
+use Rattle.chart_stages.specs.Estimates.{EstimateTable}
 use Rattle.nodes.specs.Walks.{Finishing}
 use Rattle.nodes.specs.Estimates.{Estimated}
 use Rattle.rows.specs.Rows.{rowStarts}
@@ -132,7 +132,7 @@ module _ {z : Shape} {t : Read} (in-tables : Tables z t) {byStage byNode : List 
         }
 
         pub found-traceable : Ending z (y .via) (t .steps) row e (x .plan)
-        found-traceable = record { traceable = trail-of; fits = λ w. trail-in (w .trail) }
+        found-traceable = record { traceable = trail-of; fits = omega (arith, in-tables .valid .end-inside, room .plan-fits) }
 
         pub found-runs : {plan′ : List ℕ} {r : Answer} → Concludes z (y .via) (t .steps) row e (x .plan) plan′ r → length plan′ ≡ length (x .plan)
             → Runs z t x (guidedSlices (y .keys) (y .via) (y .heap) (y .pos) (y .stack) log′ plan′) r

@@ -30,13 +30,12 @@ trail-short (more {s} {n} {e} {m} {w} a b c d f t) = omega (arith, trail-short t
 -- ---- `conclude`
 
 module _ {z : Shape} {via : List ℕ} {steps : Steps} {row : List ℕ} {e : Ended} {plan : List ℕ} (t : Ending z via steps row e plan) where
-  pub trail-fits : (f : e .found ≡ true) {l : ℕ} → ((x : Trails z via steps row e) → l ≡ length (x .steps)) → l ≤ length plan
-  trail-fits f long = omega (arith, long (t .traceable f), t .fits (t .traceable f))
-
-  pub concludes-found : e .found ≡ true → {l : ℕ} → ((x : Trails z via steps row e) → l ≡ length (x .steps)) → {plan′ : List ℕ}
-      → ((x : Trails z via steps row e) → plan′ ≡ x .steps ++ drop l plan) → {r : Answer} → r ≡ accepted (e .cost) l (e .count) → Concludes z via steps row e plan plan′ r
-  concludes-found f long written er = record {
-    found = λ q x. (er ∙ ap (λ (k : ℕ). accepted (e .cost) k (e .count)) (long x), written x ∙ ap (λ (k : ℕ). x .steps ++ drop k plan) (long x));
+  pub concludes-found : e .found ≡ true → {l : ℕ} {plan′ : List ℕ} → ((x : Trails z via steps row e) → (l ≡ length (x .steps)) × (plan′ ≡ x .steps ++ drop l plan)) → {r : Answer}
+      → r ≡ accepted (e .cost) l (e .count) → Concludes z via steps row e plan plan′ r
+  concludes-found f written er = record {
+    found = λ q x.
+        let w = written x in
+        (er ∙ ap (λ (k : ℕ). accepted (e .cost) k (e .count)) (w .0), w .1 ∙ ap (λ (k : ℕ). x .steps ++ drop k plan) (w .0));
     not-found = λ q. absurd (true-not-false (sym f ∙ q));
   }
 

@@ -17,13 +17,13 @@ use Rattle.definitions.specs.Promises.{shown}
 use Rattle.definitions.specs.declared.Shape.{Shape}
 use Rattle.theory.specs.Limits.{Sound}
 use Rattle.theory.specs.Estimates.{chart-bounded, diagram-bounded}
-use Rattle.chart.specs.FirstSteps.{SortedTable, FirstTable}
-use Rattle.chart.specs.HeldGraph.{held-sorted}
-use Rattle.chart.specs.Estimates.{EstimateTable}
+use Rattle.chart_stages.specs.FirstSteps.{SortedTable, FirstTable}
+use Rattle.chart_stages.specs.HeldGraph.{held-sorted}
+use Rattle.chart_stages.specs.Estimates.{EstimateTable}
 use Rattle.nodes.specs.Walks.{Falls, Finishing}
 use Rattle.nodes.specs.Falling.{lo-falls, hi-falls}
 use Rattle.nodes.specs.Estimates.{Priced, Costs, Estimated}
-use Rattle.nodes.specs.Prices.{priced}
+use Rattle.nodes.specs.Prices.{costs-of, priced}
 use Rattle.rows.specs.Rows.{rowStarts}
 use Rattle.checks.specs.Tables.{Read, chartIn, diagramIn, Tables}
 use Rattle.checks.specs.Ready.{walk, graphIn, automatonIn, count-is, width-is, sound-in, few-stages, few-nodes, cost-at}
@@ -62,7 +62,7 @@ module _ {z : Shape} {t : Read} (in-tables : Tables z t) where
   width = width-is z t in-tables
 
   prices : Costs C (t .steps .cost)
-  prices k h = cost-at z t in-tables k (omega (arith, count-is z t in-tables))
+  prices = costs-of C (t .steps .cost) (λ k h. cost-at z t in-tables k (omega (arith, count-is z t in-tables)))
 
   -- what the calls that fill tables ask
   pub run-lo : Falls (t .inner .lo) (z .nodes + 1)
@@ -76,7 +76,7 @@ module _ {z : Shape} {t : Read} (in-tables : Tables z t) where
   )
 
   pub run-sorted : SortedTable (z .steps) (t .steps .from) × (z .stages ≤ 256)
-  run-sorted = (held-sorted (z .stages) (z .start .0) (z .end .0) (z .steps) (t .steps) (in-tables .valid), few-stages z t in-tables)
+  run-sorted = (held-sorted z (t .steps) (in-tables .valid), few-stages z t in-tables)
 
   pub run-narrow : (z .stages ≤ 256) × (z .nodes + 2 ≤ 512)
   run-narrow = (few-stages z t in-tables, omega (arith, few-nodes z t in-tables))

@@ -40,7 +40,7 @@ Trails z via steps row e = Traceable via (steps .from) row (z .start .0) (z .end
 -- where a goal pair was settled it can be traced back, and the plan slice has room for each trail
 pub record Ending (z : Shape) (via : List ℕ) (steps : Steps) (row : List ℕ) (e : Ended) (plan : List ℕ) : Type 0 where
   pub traceable : e .found ≡ true → Trails z via steps row e
-  pub fits : (x : Trails z via steps row e) → length (x .steps) ≤ length plan
+  pub fits : z .end .0 - z .start .0 ≤ length plan
 
 -- the answer and the plan slice, by how the search ended
 pub record Concludes (z : Shape) (via : List ℕ) (steps : Steps) (row : List ℕ) (e : Ended) (plan plan′ : List ℕ) (r : Answer) : Type 0 where

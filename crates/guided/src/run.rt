@@ -5,10 +5,9 @@ ghost use Rattle.checks.specs.Tables.{read, Tables};
 ghost use Rattle.guided.specs.Runs.{Room, Runs, Ending, Concludes};
 use crate::clear::clear_rows;
 use chart::COST;
-use chart::ChartRead;
 use chart::FROM;
-use chart::chart_estimates;
-use chart::first_steps;
+use chart_stages::chart_estimates;
+use chart_stages::first_steps;
 use checks::accepted;
 use checks::load;
 use checks::refusal;
@@ -16,17 +15,14 @@ use convert::lesser;
 use definitions::Answer;
 use definitions::NONE;
 use definitions::Shape;
-use diagram::HI;
 use diagram::LO;
-use diagram::STEP;
 use guided_expand::pair_estimate;
 use guided_loop::Ended;
 use guided_loop::search;
 use nodes::diagram_estimates;
 use nodes::finishing;
 use rows::row_starts;
-use trace::trail_length;
-use trace::write_trail;
+use trace::write_plan;
 
 // The answer by how the search ended; where a goal pair was settled, the trail from the start to it is written as the plan.
 fn conclude<'a>(
@@ -44,17 +40,7 @@ fn conclude<'a>(
         ⌝ }
 {
     if ended.found {
-        let length = trail_length(via, &steps[FROM], row, z.start, z.end, ended.node);
-        write_trail(
-            via,
-            &steps[FROM],
-            row,
-            z.start,
-            z.end,
-            ended.node,
-            length,
-            plan,
-        );
+        let length = write_plan(via, &steps[FROM], row, z.start, z.end, ended.node, plan);
         return accepted(ended.cost, length, ended.count);
     }
     refusal(8, 0, 0, ended.count)
@@ -87,16 +73,8 @@ fn run<'a>(
         Runs z (read (now (steps .entry)) (now (inner .entry))) before after r)
         ⌝ }
 {
-    let sizes = ChartRead {
-        number: 0,
-        place: 0,
-        stages: z.stages,
-        start: z.start.0,
-        end: z.end.0,
-        steps: z.steps,
-    };
-    let by_stage = chart_estimates(sizes, steps);
-    let by_node = diagram_estimates(&inner[STEP], &inner[LO], &inner[HI], z.nodes, &steps[COST]);
+    let by_stage = chart_estimates(z, steps);
+    let by_node = diagram_estimates(z, inner, &steps[COST]);
     let rest = pair_estimate(&by_stage, &by_node, z.start, z.root);
     if rest == NONE {
         return refusal(8, 0, 0, 0);

@@ -1,27 +1,17 @@
 -- `guided::conclude` meets its contract.
-use Rattle.guided.proofs.Planning.{trail-fits, concludes-found, concludes-none}
+use Rattle.guided.proofs.Planning.{concludes-found, concludes-none}
 use borrow.Author.Needs.{needs}
 use Rattle.guided.proofs.run.conclude.Statement.{statement}
 use Rattle.guided.proofs.run.conclude.Tie as tie
 
-index-1-trail-length : tie.Need-index-1-trail-length
-index-1-trail-length c = search needs
+index-1-write-plan : tie.Need-index-1-write-plan
+index-1-write-plan c = search needs
 
-trail-length-requires : tie.Need-trail-length-requires
-trail-length-requires c κs =
+write-plan-requires : tie.Need-write-plan-requires
+write-plan-requires c κs =
     let found : tie.Then1 = search in
     let start : tie.Start = search in
-    start .pre .traceable (found .if1 .taken)
-
-index-1-write-trail : tie.Need-index-1-write-trail
-index-1-write-trail c = search needs
-
-write-trail-requires : tie.Need-write-trail-requires
-write-trail-requires c κs =
-    let long : tie.After-trail-length = search in
-    let found : tie.Then1 = search in
-    let start : tie.Start = search in
-    (start .pre .traceable (found .if1 .taken), (trail-fits (start .pre) (found .if1 .taken) (long .trail-length .ensures), long .trail-length .ensures))
+    (start .pre .traceable (found .if1 .taken), start .pre .fits)
 
 accepted-requires : tie.Need-accepted-requires
 accepted-requires c κs = search needs
@@ -32,11 +22,10 @@ same-length c = search needs
 returns : tie.Need-returns
 returns c =
     let answer : tie.After-accepted = search in
-    let written : tie.After-write-trail = search in
-    let long : tie.After-trail-length = search in
+    let written : tie.After-write-plan = search in
     let found : tie.Then1 = search in
     let start : tie.Start = search in
-    concludes-found (start .pre) (found .if1 .taken) (long .trail-length .ensures) (written .write-trail .ensures) (answer .accepted .ensures)
+    concludes-found (start .pre) (found .if1 .taken) (written .write-plan .ensures) (answer .accepted .ensures)
 
 refusal-requires : tie.Need-refusal-requires
 refusal-requires c κs = search needs
@@ -52,10 +41,8 @@ pub conclude-spec : {M : Type 1} → statement M
 conclude-spec =
     tie.close
     (tie.spec
-    index-1-trail-length
-    trail-length-requires
-    index-1-write-trail
-    write-trail-requires
+    index-1-write-plan
+    write-plan-requires
     accepted-requires
     same-length
     returns

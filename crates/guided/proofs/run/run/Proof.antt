@@ -46,15 +46,6 @@ chart-estimates-requires c κs =
 index-1-diagram-estimates : tie.Need-index-1-diagram-estimates
 index-1-diagram-estimates c = search needs
 
-index-1-diagram-estimates-2 : tie.Need-index-1-diagram-estimates-2
-index-1-diagram-estimates-2 c = search needs
-
-index-1-diagram-estimates-3 : tie.Need-index-1-diagram-estimates-3
-index-1-diagram-estimates-3 c = search needs
-
-index-1-diagram-estimates-4 : tie.Need-index-1-diagram-estimates-4
-index-1-diagram-estimates-4 c = search needs
-
 diagram-estimates-requires : tie.Need-diagram-estimates-requires
 diagram-estimates-requires c κs =
     let start : tie.Start = search in
@@ -224,9 +215,6 @@ run-spec =
     (tie.spec
     chart-estimates-requires
     index-1-diagram-estimates
-    index-1-diagram-estimates-2
-    index-1-diagram-estimates-3
-    index-1-diagram-estimates-4
     diagram-estimates-requires
     pair-estimate-requires
     refusal-requires
