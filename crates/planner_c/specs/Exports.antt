@@ -5,7 +5,8 @@ use mathlib.Core.Path.{_≡_}
 use mathlib.Core.List.{List, [], _∷_}
 use lib.ListN.{length}
 use Rattle.definitions.specs.declared.Answer.{Answer}
-use Rattle.planner.specs.declared.space.Space.{Space}
+use Rattle.space.specs.declared.Space.{Space}
+use Rattle.planner.specs.declared.Answers.{Answers}
 
 -- an answer and the space needed as arrays of numbers
 abbrev pub numbers : Answer → List ℕ
@@ -21,13 +22,10 @@ pub record Given (P : Answer → Type 0) (array : List ℕ) (r : ℕ) : Type 0 w
   pub held : array ≡ numbers answer
   pub returned : r ≡ answer .number
 
--- the same of both searches' answers, which agree; the call returns the guided search's number
-pub record BothGiven (P Q : Answer → Type 0) (A : Answer → Answer → Type 0) (swept found : List ℕ) (r : ℕ) : Type 0 where
-  pub sweep : Answer
-  pub guided : Answer
-  pub sweep-kept : P sweep
-  pub guided-kept : Q guided
-  pub agree : A sweep guided
-  pub sweep-held : swept ≡ numbers sweep
-  pub guided-held : found ≡ numbers guided
-  pub returned : r ≡ guided .number
+-- the same of both searches' answers; the call returns the guided search's number
+pub record BothGiven (P : Answers → Type 0) (swept found : List ℕ) (r : ℕ) : Type 0 where
+  pub answers : Answers
+  pub kept : P answers
+  pub sweep-held : swept ≡ numbers (answers .sweep)
+  pub guided-held : found ≡ numbers (answers .guided)
+  pub returned : r ≡ answers .guided .number

@@ -1,20 +1,20 @@
 // The library for C and Rust: the public calls under plain names, over numbers, slices and arrays of numbers. An answer
 // goes into an array that the caller lends, and its number is returned too. include/planner.h is the C declaration.
 ghost use mathlib.Core.Path.{_≡_};
-ghost use mathlib.Core.List.{[], _∷_};
 ghost use Prim.Native.Nat.{min};
 ghost use lib.ListN.{length};
 ghost use Rattle.definitions.specs.Fields.{refusedField};
-ghost use Rattle.definitions.specs.Answers.{load};
-ghost use Rattle.planner.specs.Both.{SweepKept, GuidedKept, AgreeOn};
-ghost use Rattle.planner.specs.Space.{filesOnly, spaceNeeded};
+ghost use Rattle.definitions.specs.Answers.{readFiles};
+ghost use Rattle.definitions.specs.Promises.{sweepSlices, SweepCall, guidedSlices, GuidedCall};
+ghost use Rattle.space.specs.Space.{spaceNeeded};
+ghost use Rattle.planner.specs.Both.{BothCall};
 ghost use Rattle.report.specs.Appending.{Appended};
 ghost use Rattle.planner_c.specs.Exports.{numbers, spaceNumbers, Given, BothGiven};
 use convert::wide;
 use definitions::Answer;
-use planner::Space;
+use space::Space;
 
-// Stores an answer in document 01's order: number, file, place, cost, length, count.
+// Stores an answer: number, file, place, cost, length, count.
 fn store(a: Answer, array: &mut [usize; 6])
     ensures { λ _. ⌜ now (array .exit) ≡ numbers a ⌝ }
 {
@@ -37,10 +37,12 @@ fn store_space(s: Space, array: &mut [usize; 5])
 // each work slice and the plan slice need.
 #[no_mangle]
 pub extern "C" fn planner_space_needed(chart: &[u8], rules: &[u8], space: &mut [usize; 5]) -> u32
-    ensures { λ r. ⌜ r ≡ spaceNeeded (filesOnly (now (chart .entry)) (now (rules .entry))) .number ⌝ }
-    ensures { λ r. ⌜ now (space .exit) ≡ spaceNumbers (spaceNeeded (filesOnly (now (chart .entry)) (now (rules .entry)))) ⌝ }
+    ensures { λ r. ⌜
+        (let needed = spaceNeeded (readFiles (now (chart .entry)) (now (rules .entry))) in
+        (r ≡ needed .number) × (now (space .exit) ≡ spaceNumbers needed))
+        ⌝ }
 {
-    let s = planner::space_needed(chart, rules);
+    let s = space::space_needed(chart, rules);
     store_space(s, space);
     s.number
 }
@@ -56,7 +58,11 @@ pub extern "C" fn planner_sweep(
     plan: &mut [u16],
     answer: &mut [usize; 6],
 ) -> u32
-    ensures { λ r. ⌜ Given (λ a. SweepKept (now (chart .entry)) (now (rules .entry)) (now (plan .entry)) (now (plan .exit)) (now (cost .entry)) (now (cost .exit)) (now (via .entry)) (now (via .exit)) (now (nodes .entry)) (now (nodes .exit)) a) (now (answer .exit)) r ⌝ }
+    ensures { λ r. ⌜
+        (let before = sweepSlices (now (cost .entry)) (now (via .entry)) (now (nodes .entry)) (now (plan .entry)) in
+        let after = sweepSlices (now (cost .exit)) (now (via .exit)) (now (nodes .exit)) (now (plan .exit)) in
+        Given (SweepCall (now (chart .entry)) (now (rules .entry)) before after) (now (answer .exit)) r)
+        ⌝ }
 {
     let swept = sweep::sweep(chart, rules, cost, via, nodes, plan);
     store(swept, answer);
@@ -77,7 +83,15 @@ pub extern "C" fn planner_guided(
     plan: &mut [u16],
     answer: &mut [usize; 6],
 ) -> u32
-    ensures { λ r. ⌜ Given (λ a. GuidedKept (now (chart .entry)) (now (rules .entry)) (now (plan .entry)) (now (plan .exit)) (now (keys .entry)) (now (keys .exit)) (now (via .entry)) (now (via .exit)) (now (heap .entry)) (now (heap .exit)) (now (pos .entry)) (now (pos .exit)) (now (stack .entry)) (now (stack .exit)) (now (log .entry)) (now (log .exit)) a) (now (answer .exit)) r ⌝ }
+    ensures { λ r. ⌜
+        (let before =
+        guidedSlices (now (keys .entry)) (now (via .entry)) (now (heap .entry)) (now (pos .entry))
+        (now (stack .entry)) (now (log .entry)) (now (plan .entry)) in
+        let after =
+        guidedSlices (now (keys .exit)) (now (via .exit)) (now (heap .exit)) (now (pos .exit))
+        (now (stack .exit)) (now (log .exit)) (now (plan .exit)) in
+        Given (GuidedCall (now (chart .entry)) (now (rules .entry)) before after) (now (answer .exit)) r)
+        ⌝ }
 {
     let found = guided::guided(chart, rules, keys, via, heap, pos, stack, log, plan);
     store(found, answer);
@@ -103,7 +117,18 @@ pub extern "C" fn planner_both(
     sweep_answer: &mut [usize; 6],
     guided_answer: &mut [usize; 6],
 ) -> u32
-    ensures { λ r. ⌜ BothGiven (λ a. SweepKept (now (chart .entry)) (now (rules .entry)) (now («cost_plan» .entry)) (now («cost_plan» .exit)) (now (cost .entry)) (now (cost .exit)) (now («cost_via» .entry)) (now («cost_via» .exit)) (now (nodes .entry)) (now (nodes .exit)) a) (λ a. GuidedKept (now (chart .entry)) (now (rules .entry)) (now (plan .entry)) (now (plan .exit)) (now (keys .entry)) (now (keys .exit)) (now (via .entry)) (now (via .exit)) (now (heap .entry)) (now (heap .exit)) (now (pos .entry)) (now (pos .exit)) (now (stack .entry)) (now (stack .exit)) (now (log .entry)) (now (log .exit)) a) (λ a g. AgreeOn (load (now (chart .entry)) (now (rules .entry)) (length (now (cost .entry)) ∷ length (now («cost_via» .entry)) ∷ length (now (nodes .entry)) ∷ []) (length (now («cost_plan» .entry)))) (load (now (chart .entry)) (now (rules .entry)) (length (now (keys .entry)) ∷ length (now (via .entry)) ∷ length (now (heap .entry)) ∷ length (now (pos .entry)) ∷ length (now (stack .entry)) ∷ length (now (log .entry)) ∷ []) (length (now (plan .entry)))) a g) (now («sweep_answer» .exit)) (now («guided_answer» .exit)) r ⌝ }
+    ensures { λ r. ⌜
+        (let lent = sweepSlices (now (cost .entry)) (now («cost_via» .entry)) (now (nodes .entry)) (now («cost_plan» .entry)) in
+        let lent′ = sweepSlices (now (cost .exit)) (now («cost_via» .exit)) (now (nodes .exit)) (now («cost_plan» .exit)) in
+        let given =
+        guidedSlices (now (keys .entry)) (now (via .entry)) (now (heap .entry)) (now (pos .entry))
+        (now (stack .entry)) (now (log .entry)) (now (plan .entry)) in
+        let given′ =
+        guidedSlices (now (keys .exit)) (now (via .exit)) (now (heap .exit)) (now (pos .exit))
+        (now (stack .exit)) (now (log .exit)) (now (plan .exit)) in
+        BothGiven (BothCall (now (chart .entry)) (now (rules .entry)) lent lent′ given given′)
+        (now («sweep_answer» .exit)) (now («guided_answer» .exit)) r)
+        ⌝ }
 {
     let answers = planner::both(
         chart,
@@ -137,8 +162,11 @@ pub extern "C" fn planner_refused_field<'a>(
     place: usize,
     field: &mut [u8],
 ) -> usize
-    ensures { λ r. ⌜ r ≡ length (refusedField (now (chart .entry)) (now (rules .entry)) file place) ⌝ }
-    ensures { λ r. ⌜ Appended (now (field .entry)) 0 (refusedField (now (chart .entry)) (now (rules .entry)) file place) (now (field .exit)) (min r (length (now (field .entry)))) ⌝ }
+    ensures { λ r. ⌜
+        (let bytes = refusedField (now (chart .entry)) (now (rules .entry)) file place in
+        (r ≡ length bytes)
+        × Appended (now (field .entry)) 0 bytes (now (field .exit)) (min r (length (now (field .entry)))))
+        ⌝ }
 {
     let bytes = fields::refused_field(chart, rules, file, place);
     report::copy(field, 0, bytes);

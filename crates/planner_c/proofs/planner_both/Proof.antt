@@ -51,7 +51,16 @@ same-length-11 : tie.Need-same-length-11
 same-length-11 c = search needs
 
 returns : tie.Need-returns
-returns c = record { sweep = c .before .before .before .before .before .before .before .before .before .before .before .before .before .before .before .before .before .before .before .before .before .before .before .before .before .before .before .before .both .result .sweep; guided = c .before .before .before .before .before .before .before .before .before .before .before .before .before .before .before .before .before .before .before .before .before .before .before .before .before .before .before .before .both .result .guided; sweep-kept = c .before .before .before .before .before .before .before .before .before .before .before .before .before .before .before .before .before .before .before .before .before .before .before .before .before .before .before .before .both .ensures .0; guided-kept = c .before .before .before .before .before .before .before .before .before .before .before .before .before .before .before .before .before .before .before .before .before .before .before .before .before .before .before .before .both .ensures .1 .0; agree = c .before .before .before .before .before .before .before .before .before .before .before .before .before .before .before .before .before .before .before .before .before .before .before .before .before .before .before .before .both .ensures .1 .1; sweep-held = c .before .before .store .ensures; guided-held = c .store2 .ensures; returned = refl }
+returns c =
+    let stored : tie.After-store = search in
+    let got : tie.After-both = search in
+    record {
+      answers = got .both .result;
+      kept = got .both .ensures;
+      sweep-held = stored .store .ensures;
+      guided-held = c .store2 .ensures;
+      returned = refl;
+    }
 
 pub planner-both-spec : {M : Type 1} → statement M
 planner-both-spec =

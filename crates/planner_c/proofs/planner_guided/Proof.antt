@@ -36,7 +36,10 @@ same-length-7 : tie.Need-same-length-7
 same-length-7 c = search needs
 
 returns : tie.Need-returns
-returns c = record { answer = c .before .before .before .before .before .before .before .before .before .before .before .before .before .before .before .before .guided .result; kept = record { answers = c .before .before .before .before .before .before .before .before .before .before .before .before .before .before .before .before .guided .ensures .0; keys-kept = c .before .before .before .before .before .before .before .before .before .before .before .before .before .before .before .before .guided .ensures .1 .0; via-kept = c .before .before .before .before .before .before .before .before .before .before .before .before .before .before .before .before .guided .ensures .1 .1 .0; heap-kept = c .before .before .before .before .before .before .before .before .before .before .before .before .before .before .before .before .guided .ensures .1 .1 .1 .0; pos-kept = c .before .before .before .before .before .before .before .before .before .before .before .before .before .before .before .before .guided .ensures .1 .1 .1 .1 .0; stack-kept = c .before .before .before .before .before .before .before .before .before .before .before .before .before .before .before .before .guided .ensures .1 .1 .1 .1 .1 }; held = c .store .ensures; returned = refl }
+returns c =
+    let stored : tie.After-store = search in
+    let found : tie.After-guided = search in
+    record { answer = found .guided .result; kept = found .guided .ensures; held = stored .store .ensures; returned = refl }
 
 pub planner-guided-spec : {M : Type 1} → statement M
 planner-guided-spec =

@@ -20,7 +20,10 @@ same-length : tie.Need-same-length
 same-length c = search needs
 
 returns : tie.Need-returns
-returns c = (ap length (c .before .before .before .before .refused-field .ensures .0), copied _ _ _ _ _ (c .before .before .before .before .refused-field .ensures .0) (c .before .before .copy .ensures))
+returns c =
+    let copied-there : tie.After-copy = search in
+    let found : tie.After-refused-field = search in
+    (ap length (found .refused-field .ensures .0), copied _ _ _ _ _ (found .refused-field .ensures .0) (copied-there .copy .ensures))
 
 pub planner-refused-field-spec : {M : Type 1} → statement M
 planner-refused-field-spec =

@@ -1,13 +1,13 @@
 -- `planner_c::planner_space_needed` meets its contract.
 use mathlib.Core.Path.{_∙_, ap}
-use Rattle.planner.specs.declared.space.Space.{Space}
+use Rattle.space.specs.declared.Space.{Space}
 use Rattle.planner_c.specs.Exports.{spaceNumbers}
 use borrow.Author.Needs.{needs}
 use Rattle.planner_c.proofs.planner_space_needed.Statement.{statement}
 use Rattle.planner_c.proofs.planner_space_needed.Tie as tie
 use Rattle.planner_c.proofs.planner_space_needed.Reads as reads
 use Rattle.planner_c.proofs.planner_space_needed.Lts as lts
-use Rattle.planner.proofs.space_needed.Reads as space-needed-reads
+use Rattle.space.proofs.space_needed.Reads as space-needed-reads
 use Rattle.planner_c.proofs.store_space.Reads as store-space-reads
 
 space-needed-requires : tie.Need-space-needed-requires
@@ -17,7 +17,10 @@ store-space-requires : tie.Need-store-space-requires
 store-space-requires c κs = search needs
 
 returns : tie.Need-returns
-returns c = (ap (λ (s : Space). s .number) (c .before .before .space-needed .ensures), (c .store-space .ensures ∙ ap spaceNumbers (c .before .before .space-needed .ensures)))
+returns c =
+    let stored : tie.After-store-space = search in
+    let got : tie.After-space-needed = search in
+    (ap (λ (s : Space). s .number) (got .space-needed .ensures), stored .store-space .ensures ∙ ap spaceNumbers (got .space-needed .ensures))
 
 pub planner-space-needed-spec : {M : Type 1} → statement M
 planner-space-needed-spec = tie.close (tie.spec space-needed-requires store-space-requires returns)
