@@ -7,7 +7,7 @@ use mathlib.Core.List.{List, [], _∷_}
 use native.Mathlib.Omega.{arith}
 use lib.Dec.{leb}
 use lib.ListN.{length}
-use borrow.Author.Tests.{le-leb, lt-leb, eq-eqb, ne-eqb, leb-true, leb-false, not-false}
+use borrow.Author.Tests.{le-leb, lt-leb, eq-eqb, ne-eqb, eqb-false, leb-true, leb-false, not-true, not-false}
 use Rattle.definitions.specs.Basics.{every}
 use Rattle.definitions.specs.Charts.{Chart, readChart}
 use Rattle.definitions.specs.Diagrams.{Diagram, DiagramRead, readDiagram}
@@ -128,3 +128,25 @@ pub ready-space : (s t : List ℕ) (work plan : ℕ) (c : Chart) (d : Diagram) �
 ready-space s t work plan c d e =
     let x = both (every (leb (workNeed c d)) (work ∷ [])) (leb (planNeed c) plan) (ready-parts s t (work ∷ []) plan c d e .2) in
     (leb-true (workNeed c d) work (one-of (leb (workNeed c d) work) (x .0)), leb-true (planNeed c) plan (x .1))
+
+-- ---- a refusal's number is not 0
+
+same-number : (n f p n′ f′ p′ : ℕ) → refused n f p ≡ refused n′ f′ p′ → n ≡ n′
+same-number n f p n′ f′ p′ e = cc
+
+files-numbered : (s t : List ℕ) (number file place : ℕ) → readFiles s t ≡ refused number file place → number ≡ 0 → ⊥
+unfolding readFiles
+files-numbered s t number file place e z =
+    either (pick-cases _ _ _ _ e) (λ x. eqb-false _ 0 (not-true _ (x .0)) (same-number _ _ _ _ _ _ (x .1) ∙ z))
+    (λ x. either (pick-cases _ _ _ _ (x .1)) (λ y. eqb-false _ 0 (not-true _ (y .0)) (same-number _ _ _ _ _ _ (y .1) ∙ z))
+    (λ y. absurd (refused-not-ready _ _ _ _ _ (sym (y .1)))))
+
+pub load-numbered : (s t works : List ℕ) (plan number file place : ℕ) → load s t works plan ≡ refused number file place → number ≡ 0 → ⊥
+unfolding load
+load-numbered s t works plan number file place = go (readFiles s t) refl
+  where
+    go : (o : Load) → readFiles s t ≡ o → withSpace works plan o ≡ refused number file place → number ≡ 0 → ⊥
+    go (refused n f p) e q z = files-numbered s t n f p e (same-number n f p number file place q ∙ z)
+    go (ready c d) e q z =
+        either (pick-cases _ _ _ _ q) (λ x. refused-not-ready number file place c d (sym (x .1)))
+        (λ x. let seven : 7 ≡ 0 = same-number 7 0 0 number file place (x .1) ∙ z in omega arith)

@@ -14,13 +14,23 @@ write-report-requires c κs = search needs
 same-length : tie.Need-same-length
 same-length c = search needs
 
+-- the places before the end
+abbrev start-of : tie.After-slice-known2 → tie.Start
+start-of c = search
+
+abbrev plan-of : tie.After-slice-known2 → tie.After-shared-slice-known
+plan-of c = search
+
+abbrev written-of : tie.After-slice-known2 → tie.After-write-report
+written-of c = search
+
 returns : tie.Need-returns
 returns c = (
-  c .before .before .write-report .ensures,
-  report-short (c .before .before .before .before .before .before .args .both .guided) (c .before .before .before .before .before .before .args .both .sweep) (c .before .before .before .before .before .before .args .plan .now)
+  written-of c .write-report .ensures,
+  report-short (start-of c .args .both .guided) (start-of c .args .both .sweep) (start-of c .args .plan .now)
       (record { number = omega arith; file = omega arith; place = omega arith; cost = omega arith; count = omega arith })
       (record { number = omega arith; file = omega arith; place = omega arith; cost = omega arith; count = omega arith })
-      (λ k. omega (arith, c .before .before .before .before .before .shared-slice-known .given k)),
+      (λ k. omega (arith, plan-of c .shared-slice-known .given k)),
 )
 
 pub write-answers-spec : {M : Type 1} → statement M

@@ -1,5 +1,7 @@
 -- `program::write_text` meets its contract: the promises of both searches, and the text of their answers.
+use mathlib.Core.List.{[], _∷_}
 use native.Mathlib.Omega.{arith}
+use Rattle.checks.specs.Outcome.{load-shortest}
 use borrow.Author.Needs.{needs}
 use Rattle.program.proofs.write_text.Statement.{statement}
 use Rattle.program.proofs.write_text.Tie as tie
@@ -53,25 +55,27 @@ write-answers-requires c κs = search needs
 same-length : tie.Need-same-length
 same-length c = search needs
 
+-- the start, before both searches
+abbrev start-of : tie.After-both → tie.Start
+start-of c = search
+
 returns : tie.Need-returns
-returns c = let b = c .before .before .before .before .before .before .before .before .before .before .before .before .before .before .before .before .both in
-    let w = c .before .before .write-answers in
+returns c =
+    let written : tie.After-write-answers = search in
+    let lent : tie.After-plan2 = search in
+    let planned : tie.After-both = search in
+    let start = start-of planned in
     record {
-      sweep = b .result .sweep;
-      guided = b .result .guided;
-      sweepPlan = _;
-      sweepPlan′ = _;
-      costs = _;
-      costs′ = _;
-      plan = _;
-      plan′ = _;
-      log = _;
-      log′ = _;
-      swept = b .ensures .0 .answers;
-      searched = b .ensures .1 .0 .answers;
-      agreed = b .ensures .1 .1;
-      text = w .ensures .0;
-      short = omega (arith, w .ensures .1, c .before .before .before .before .before .plan2 .given);
+      answers = planned .both .result;
+      lent = _;
+      lent′ = _;
+      given = _;
+      given′ = _;
+      both = planned .both .ensures;
+      sweep-space = load-shortest (start .args .chart .now) (start .args .rules .now) 4096 (4096 ∷ 4096 ∷ []) 255;
+      guided-space = load-shortest (start .args .chart .now) (start .args .rules .now) 4096 (4096 ∷ 4096 ∷ 4096 ∷ 4096 ∷ 4096 ∷ []) 255;
+      text = written .write-answers .ensures .0;
+      short = omega (arith, written .write-answers .ensures .1, lent .plan2 .given);
     }
 
 pub write-text-spec : {M : Type 1} → statement M
