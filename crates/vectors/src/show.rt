@@ -39,18 +39,14 @@ fn diagram_answer(r: DiagramRead) {
 
 // A chart file.
 pub fn show_chart(file: &[u8]) {
-    let mut from = [0u16; 1024];
-    let mut to = [0u16; 1024];
-    let mut cost = [0u32; 1024];
-    chart_answer(chart::read_chart(file, &mut from, &mut to, &mut cost));
+    let mut table = [[0u32; 1024]; 3];
+    chart_answer(chart::read_chart(file, &mut table));
 }
 
 // A diagram file over a chart of so many steps.
 pub fn show_diagram(file: &[u8], steps: usize) {
-    let mut step = [0u16; 512];
-    let mut lo = [0u16; 512];
-    let mut hi = [0u16; 512];
-    diagram_answer(diagram::read_diagram(file, steps, &mut step, &mut lo, &mut hi));
+    let mut table = [[0u16; 512]; 3];
+    diagram_answer(diagram::read_diagram(file, steps, &mut table));
 }
 
 // The refused field of a file mark and a place: how many bytes, and each in hexadecimal.
