@@ -1,4 +1,4 @@
--- The loop over the steps: its invariant, with one law for each way on.
+-- The walk over the steps: one law for each way out of a turn, and what the turns come to.
 -- Assumes nothing.
 use Prim.Native.Nat.{ℕ, _+_, _-_, _*_, _<_}
 use mathlib.Core.Path.{_≡_, refl, sym, _∙_, ap}
