@@ -15,7 +15,7 @@ use Rattle.definitions.specs.declared.Field.{Field}
 use Rattle.definitions.specs.declared.Field.the-variants.{Absent, Faulty, Whole}
 use Rattle.fields.specs.Positions.{only-gives, body-less}
 use Rattle.fields.specs.Scans.{leftOf, left-less, reading-start, reading-done, reading-faulty, reading-bad, reading-step}
-use Rattle.chart.specs.Tables.{stepsIn, heldSteps, Room, Filled, stepBody}
+use Rattle.chart.specs.Tables.{stepsIn, heldSteps, Filled, stepBody}
 use Rattle.chart.specs.Held.{stored, stored-room, held-grown, from-kept, to-kept, cost-kept, nothing-filled}
 use Rattle.chart.specs.Limits.{step-fits}
 use Rattle.chart.specs.declared.reader.StepBody.{StepBody}

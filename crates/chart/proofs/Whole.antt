@@ -7,7 +7,6 @@ use borrow.Author.Tests.{eq-eqb, ne-eqb}
 use Rattle.definitions.specs.Basics.{pick}
 use Rattle.definitions.specs.Fields.{part, only, fieldAt, onField}
 use Rattle.definitions.specs.Charts.{headFault, badHead, withSteps, scanSteps, readChart}
-use Rattle.definitions.specs.Charts as charts
 use Rattle.definitions.specs.declared.Field.{Field}
 use Rattle.definitions.specs.declared.Field.the-variants.{Absent, Faulty, Whole}
 use Rattle.chart.specs.Held.{nothing-filled}

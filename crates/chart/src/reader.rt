@@ -133,7 +133,13 @@ fn stopped(steps: usize, number: u8, place: usize) -> StepsRead
 }
 
 // One turn of the walk: what was found at its place is taken, a step into the table.
-fn take_step(file: &[u8], found: Field, read: StepsRead, stages: u16, steps: &mut [[u32; 1024]; 3]) -> StepsRead
+fn take_step(
+    file: &[u8],
+    found: Field,
+    read: StepsRead,
+    stages: u16,
+    steps: &mut [[u32; 1024]; 3],
+) -> StepsRead
     requires { ⌜ found ≡ fieldAt (now file) (read .place) (only 2 8) ⌝ }
     ensures { λ r. ⌜ Takes (now (file .entry)) stages read (now (steps .entry)) (now (steps .exit)) r ⌝ }
 {

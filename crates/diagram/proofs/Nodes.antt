@@ -1,5 +1,5 @@
 -- The walk over the nodes: one law for each way out of a turn, and what the turns come to.
-use Prim.Native.Nat.{ℕ, _+_, _-_, _≤_, _<_}
+use Prim.Native.Nat.{ℕ, _+_, _-_, _<_}
 use mathlib.Core.Path.{_≡_, refl, sym, _∙_, ap}
 use mathlib.Core.Bool.{true, false}
 use mathlib.Core.List.{List, [], _∷_, _++_}
@@ -17,7 +17,7 @@ use Rattle.fields.specs.Positions.{only-gives, body-less}
 use Rattle.fields.specs.Scans.{leftOf, left-less, reading-start, reading-done, reading-faulty, reading-bad, reading-step}
 use Rattle.diagram.specs.Tables.{heldNodes}
 use Rattle.diagram.specs.Held.{getD-held, held-grown}
-use Rattle.diagram.specs.Files.{Nodes, nodesIn, nodesHeld, Room, stored, Filled}
+use Rattle.diagram.specs.Files.{Nodes, nodesIn, nodesHeld, stored, Filled}
 use Rattle.diagram.specs.Turns.{Halfway, SoFar, Stands, Takes}
 use Rattle.diagram.specs.declared.reader.NodesRead.{NodesRead}
 use Rattle.diagram.specs.Limits.{NodeFits, node-fits, nodeFault-same}

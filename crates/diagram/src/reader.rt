@@ -94,7 +94,13 @@ fn stopped(nodes: usize, number: u8, place: usize) -> NodesRead
 }
 
 // One turn of the walk: what was found at its place is taken, a node into the table.
-fn take_node(file: &[u8], found: Field, read: NodesRead, steps: usize, inner: &mut [[u16; 512]; 3]) -> NodesRead
+fn take_node(
+    file: &[u8],
+    found: Field,
+    read: NodesRead,
+    steps: usize,
+    inner: &mut [[u16; 512]; 3],
+) -> NodesRead
     requires { ⌜ found ≡ fieldAt (now file) (read .place) (only 18 6) ⌝ }
     ensures { λ r. ⌜ Takes (now (file .entry)) steps read (now (inner .entry)) (now (inner .exit)) r ⌝ }
 {

@@ -32,7 +32,7 @@ use denote.Laws.{Is, shows}
 use denote.Plain.{uint-makes, uint-vals, uint-tells}
 use denote.Builtin.{u8, u16, u32, usize}
 use denote.Ref.{RefT, NamedLft, MutRef, now, ptr-vals, mut-tells}
-use denote.Slice.{sliceTy, sliceVal, ShrSlice, slice-vals, shr-slice-tells, shr-slice-lawful, shr-slice-copy}
+use denote.Slice.{sliceTy, ShrSlice, slice-vals, shr-slice-tells, shr-slice-lawful, shr-slice-copy}
 use denote.Lend.{LentAgain, lends-again, comes-back}
 use denote.Steps.{owned, peeks, heard, nothing}
 use denote.Enum.Laws as EL
@@ -318,13 +318,13 @@ module _ {M : Type 1} (𝓤 : URA M) (H : Heap 𝓤) (A : Atoms 𝓤) (W : Given
       → Triple 𝓤 (𝓣 .C #fields·reader·moved) (Moved 𝓤 H A mem run) → Triple 𝓤 (𝓣 .C #chart·reader·take-step) (Take 𝓤 H A mem run)
       → ent 𝓤 (onEntry 𝓤 H A reads.signature (κ, (κ′, tt)) (q, (q′, tt)) a vals) (WpFn 𝓤 H (𝓣 .C) (𝓣 .Λ) code.function (v ∷ vint w64 start ∷ vint w16 stages ∷ vptr b o ∷ []) Post)
   walk p 𝓣 known-new known-next known-moved known-take =
-        qed W ((‵ (flft κ q) ⊛ ‵ (flft κ′ q′) ⊛ ‵ ftrue) ∷ ‵ (owns (ShrSlice (named 0) κ u8 ∷ usize ∷ u16 ∷ MutRef (named 1) κ′ TB ∷ []) a vals) ∷ []) ∵
-        split ! $ move ! (1 ∷ []) $ split ! $ move ! (2 ∷ 1 ∷ []) $ join ! $ move ! (2 ∷ []) $ fsplit ! $ move ! (1 ∷ []) $ fsplit ! $ move ! (0 ∷ []) $ drops ! $ move ! (0 ∷ []) $ fsplit ! $ move ! (0 ∷ []) $ drops ! $ move ! (0 ∷ []) $
-        fsplit ! $ move ! (1 ∷ []) $ drops ! $ enter ! (𝓣 .C) (𝓣 .Λ) code.function (v ∷ vint w64 start ∷ vint w16 stages ∷ vptr b o ∷ []) _ $ alloc1 ! (λ l₀. alloc1 ! (λ l₁. alloc1 ! (λ l₂. alloc1 ! (λ l₃. alloc1 ! (λ l₄. alloc1 ! (λ l₅.
-        alloc1 ! (λ l₆. alloc1 ! (λ l₇. alloc1 ! (λ l₈. alloc1 ! (λ l₉. alloc1 ! (λ l₁₀. alloc1 ! (λ l₁₁. alloc1 ! (λ l₁₂. alloc0 ! $ params1 ! $ pass1 ! (init ! 22 refl (shr-slice-lawful 𝓤 H A W (named 0) κ u8 .typed s (v ∷ []) p .0)) $
-        pass1 ! (init ! 20 refl (tt, record { fits = start-fits })) $ pass1 ! (init ! 18 refl (tt, record { fits = stages-fits })) $ pass1 ! (init ! 16 refl (tt, tt)) $ pass0 ! $
-        keep ! (27 ∷ 28 ∷ 26 ∷ 29 ∷ 0 ∷ 1 ∷ 2 ∷ 3 ∷ 4 ∷ 5 ∷ 6 ∷ 7 ∷ 8 ∷ 9 ∷ 10 ∷ 11 ∷ 12 ∷ 13 ∷ 14 ∷ 15 ∷ 16 ∷ 17 ∷ 18 ∷ 19 ∷ 20 ∷ 21 ∷ 22 ∷ 23 ∷ 24 ∷ 25 ∷ []) $
-        begins 𝓣 known-new known-next known-moved known-take l₀ l₁ l₂ l₃ l₄ l₅ l₆ l₇ l₈ l₉ l₁₀ l₁₁ l₁₂)))))))))))))
+      qed W ((‵ (flft κ q) ⊛ ‵ (flft κ′ q′) ⊛ ‵ ftrue) ∷ ‵ (owns (ShrSlice (named 0) κ u8 ∷ usize ∷ u16 ∷ MutRef (named 1) κ′ TB ∷ []) a vals) ∷ []) ∵
+      split ! $ move ! (1 ∷ []) $ split ! $ move ! (2 ∷ 1 ∷ []) $ join ! $ move ! (2 ∷ []) $ fsplit ! $ move ! (1 ∷ []) $ fsplit ! $ move ! (0 ∷ []) $ drops ! $ move ! (0 ∷ []) $ fsplit ! $ move ! (0 ∷ []) $ drops ! $ move ! (0 ∷ []) $
+      fsplit ! $ move ! (1 ∷ []) $ drops ! $ enter ! (𝓣 .C) (𝓣 .Λ) code.function (v ∷ vint w64 start ∷ vint w16 stages ∷ vptr b o ∷ []) _ $ alloc1 ! (λ l₀. alloc1 ! (λ l₁. alloc1 ! (λ l₂. alloc1 ! (λ l₃. alloc1 ! (λ l₄. alloc1 ! (λ l₅.
+      alloc1 ! (λ l₆. alloc1 ! (λ l₇. alloc1 ! (λ l₈. alloc1 ! (λ l₉. alloc1 ! (λ l₁₀. alloc1 ! (λ l₁₁. alloc1 ! (λ l₁₂. alloc0 ! $ params1 ! $ pass1 ! (init ! 22 refl (shr-slice-lawful 𝓤 H A W (named 0) κ u8 .typed s (v ∷ []) p .0)) $
+      pass1 ! (init ! 20 refl (tt, record { fits = start-fits })) $ pass1 ! (init ! 18 refl (tt, record { fits = stages-fits })) $ pass1 ! (init ! 16 refl (tt, tt)) $ pass0 ! $
+      keep ! (27 ∷ 28 ∷ 26 ∷ 29 ∷ 0 ∷ 1 ∷ 2 ∷ 3 ∷ 4 ∷ 5 ∷ 6 ∷ 7 ∷ 8 ∷ 9 ∷ 10 ∷ 11 ∷ 12 ∷ 13 ∷ 14 ∷ 15 ∷ 16 ∷ 17 ∷ 18 ∷ 19 ∷ 20 ∷ 21 ∷ 22 ∷ 23 ∷ 24 ∷ 25 ∷ []) $
+      begins 𝓣 known-new known-next known-moved known-take l₀ l₁ l₂ l₃ l₄ l₅ l₆ l₇ l₈ l₉ l₁₀ l₁₁ l₁₂)))))))))))))
 
 module _ {M : Type 1} (𝓤 : URA M) (H : Heap 𝓤) (A : Atoms 𝓤) (W : Given 𝓤 H A) (mem : Memory → SProp 𝓤) (run : Routine → Fun 𝓤) where
   reads-walks : (𝓣 : Tables 𝓤 H) → Triple 𝓤 (𝓣 .C #fields·reader·new) (New 𝓤 H A mem run) → Triple 𝓤 (𝓣 .C #fields·reader·next) (Next 𝓤 H A mem run)
