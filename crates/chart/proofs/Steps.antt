@@ -1,27 +1,37 @@
--- The loop over the steps: its invariant, with one law for each way on.
+-- The walk over the steps: one law for each way out of a turn, and what the turns come to.
 -- Assumes nothing.
-use Prim.Native.Nat.{ℕ, _+_, _-_, _<_}
+use Prim.Native.Nat.{ℕ, _+_, _-_, _*_, _<_}
 use mathlib.Core.Path.{_≡_, refl, sym, _∙_, ap}
+use mathlib.Core.Bool.{true, false}
 use mathlib.Core.List.{List, [], _∷_, _++_}
 use lib.ListN.{length, getD, length-append}
 use lib.Seq.{getD-append-seam}
 use native.Mathlib.Omega.{arith}
+use mir.Val.{Fits}
+use mir.Syntax.{w64}
 use Rattle.definitions.specs.Fields.{part, only, fieldAt, stopped}
 use Rattle.definitions.specs.Charts.{ChartStep, noStep, stepFault, stepOf, lastFrom, stepFaultAfter, stepGrammar, scanSteps}
 use Rattle.definitions.specs.declared.Field.{Field}
 use Rattle.definitions.specs.declared.Field.the-variants.{Absent, Faulty, Whole}
-use Rattle.fields.specs.Positions.{only-gives}
-use Rattle.fields.specs.Scans.{Reading, reading-start, reading-done, reading-faulty, reading-bad, reading-step}
-use Rattle.chart.specs.Tables.{stepsIn, heldSteps, Room, Filled, stepBody, stepsAnswer}
+use Rattle.fields.specs.Positions.{only-gives, body-less}
+use Rattle.fields.specs.Scans.{leftOf, left-less, reading-start, reading-done, reading-faulty, reading-bad, reading-step}
+use Rattle.chart.specs.Tables.{stepsIn, heldSteps, Filled, stepBody}
 use Rattle.chart.specs.Held.{stored, stored-room, held-grown, from-kept, to-kept, cost-kept, nothing-filled}
 use Rattle.chart.specs.Limits.{step-fits}
 use Rattle.chart.specs.declared.reader.StepBody.{StepBody}
+use Rattle.chart.specs.Turns.{SoFar, Stands, Takes}
 use Rattle.chart.specs.declared.reader.StepsRead.{StepsRead}
 
 -- a step that passes has room in the tables
 module _ (v stages last count : ℕ) (b : List ℕ) (judged : v ≡ stepFault stages last count b) (passes : v ≡ 0) where
   pub step-below : count < 1024
   step-below = step-fits stages last count b (sym passes ∙ judged) .below
+
+  pub step-place : Fits w64 (count * 4)
+  step-place = record { fits = omega (arith, step-below) }
+
+  pub step-more : Fits w64 (count + 1)
+  step-more = record { fits = omega (arith, step-below) }
 
 -- the last of some steps, with one more
 last-grown : (before : List ChartStep) (x : ChartStep) → lastFrom (before ++ x ∷ []) ≡ x .from
@@ -42,80 +52,84 @@ filled-grown before x count packed₀ packed counted below sofar =
       room = stored-room count packed x (sofar .room) below;
     }
 
--- what is read so far, and that the rest of the walk is still to come
-pub record SoFar (s : List ℕ) (first stages : ℕ) (packed₀ packed : List (List ℕ)) (at last count : ℕ) : Type 0 where
-  pub before : List ChartStep
-  pub reading : Reading s (stepGrammar stages) first at before
-  pub counted : length before ≡ count
-  pub latest : lastFrom before ≡ last
-  pub filled : Room packed₀ → Filled before packed₀ packed
+true-false : true ≡ false → ⊥
+true-false e = let z : _≡_ {A = ℕ} 0 1 = cc in omega arith
 
-module _ (s : List ℕ) (first stages : ℕ) (packed₀ : List (List ℕ)) where
-  pub steps-start : SoFar s first stages packed₀ packed₀ first 0 0
-  unfolding heldSteps
-  steps-start = record {
-    before = [];
-    reading = reading-start s (stepGrammar stages) first;
-    counted = refl;
-    latest = refl;
-    filled = nothing-filled packed₀;
-  }
+pub steps-start : (s : List ℕ) (first stages : ℕ) (packed : List (List ℕ)) → SoFar s first stages packed packed first 0 0
+unfolding heldSteps
+steps-start s first stages packed = record {
+  before = [];
+  reading = reading-start s (stepGrammar stages) first;
+  counted = refl;
+  latest = refl;
+  filled = nothing-filled packed;
+}
 
-  module _ (packed : List (List ℕ)) (at last count : ℕ) (sofar : SoFar s first stages packed₀ packed at last count) (r : Field)
-      (given : r ≡ fieldAt s at (only 2 8)) where
-    module _ (found : r ≡ Absent) where
-      done : scanSteps s stages first ≡ stopped (sofar .before) 0 0
-      done = reading-done s (stepGrammar stages) first at (sofar .before) (sofar .reading) r given found
+-- the ways out of a turn from t
+module _ (s : List ℕ) (stages : ℕ) (t : StepsRead) (packed : List (List ℕ)) (f : Field) (given : f ≡ fieldAt s (t .place) (only 2 8)) where
+  -- the walk stops
+  stops : (number place : ℕ) (x : StepsRead) → x ≡ record { number = number; place = place; steps = t .steps; last = 0; going = false }
+      → ((first : ℕ) (packed₀ : List (List ℕ)) (sofar : SoFar s first stages packed₀ packed (t .place) (t .last) (t .steps)) → scanSteps s stages first ≡ stopped (sofar .before) number place)
+      → Takes s stages t packed packed x
+  stops number place x e is = rw e (record {
+    nearer = λ g. absurd (true-false (sym g));
+    stands = λ first packed₀ sofar. record {
+      goes = λ g. absurd (true-false (sym g));
+      over = λ g.
+          let q = is first packed₀ sofar in
+          record { answer = rw (q, sofar .counted); filled = rw q (sofar .filled) };
+    };
+  })
 
-      pub steps-done : (x : StepsRead) → x ≡ record { number = 0; place = 0; steps = count } → x ≡ stepsAnswer (scanSteps s stages first)
-      steps-done x e = rw (done, sofar .counted) e
+  pub take-done : f ≡ Absent → (x : StepsRead) → x ≡ record { number = 0; place = 0; steps = t .steps; last = 0; going = false } → Takes s stages t packed packed x
+  take-done found x e =
+      stops 0 0 x e (λ first packed₀ sofar. reading-done s (stepGrammar stages) first (t .place) (sofar .before) (sofar .reading) f given found)
 
-      pub steps-done-filled : Room packed₀ → Filled (scanSteps s stages first .passed) packed₀ packed
-      steps-done-filled = rw done (sofar .filled)
+  pub take-faulty : (k : ℕ) → f ≡ Faulty k → (x : StepsRead) → x ≡ record { number = k; place = t .place; steps = t .steps; last = 0; going = false }
+      → Takes s stages t packed packed x
+  take-faulty k found x e =
+      stops k (t .place) x e (λ first packed₀ sofar. reading-faulty s (stepGrammar stages) first (t .place) (sofar .before) (sofar .reading) f given k found)
 
-    module _ (k : ℕ) (found : r ≡ Faulty k) where
-      faulty : scanSteps s stages first ≡ stopped (sofar .before) k at
-      faulty = reading-faulty s (stepGrammar stages) first at (sofar .before) (sofar .reading) r given k found
+  module _ (a e : ℕ) (found : f ≡ Whole a e) (v : ℕ) (judged : v ≡ stepFault stages (t .last) (t .steps) (part s a e)) where
+    same-fault : (first : ℕ) (packed₀ : List (List ℕ)) (sofar : SoFar s first stages packed₀ packed (t .place) (t .last) (t .steps))
+        → v ≡ stepFaultAfter stages (sofar .before) (part s a e)
+    same-fault first packed₀ sofar = rw (sofar .counted, sofar .latest) judged
 
-      pub steps-faulty : (x : StepsRead) → x ≡ record { number = k; place = at; steps = count } → x ≡ stepsAnswer (scanSteps s stages first)
-      steps-faulty x e = rw (faulty, sofar .counted) e
+    pub take-bad : (v ≡ 0 → ⊥) → (x : StepsRead) → x ≡ record { number = v; place = t .place; steps = t .steps; last = 0; going = false } → Takes s stages t packed packed x
+    take-bad fails x q =
+        stops v (t .place) x q (λ first packed₀ sofar.
+        reading-bad s (stepGrammar stages) first (t .place) (sofar .before) (sofar .reading) f given a e found (only-gives 2 8 (getD s (t .place) 0)) v (same-fault first packed₀ sofar) fails)
 
-      pub steps-faulty-filled : Room packed₀ → Filled (scanSteps s stages first .passed) packed₀ packed
-      steps-faulty-filled = rw faulty (sofar .filled)
+    pub take-step : v ≡ 0 → (x : StepBody) → x ≡ stepBody (part s a e)
+        → Takes s stages t packed (stored packed (t .steps) (record { from = x .from; to = x .to; cost = x .cost })) (record { number = 0; place = e; steps = t .steps + 1; last = x .from; going = true })
+    take-step passes x read = rw read (record {
+      nearer = λ g. body-less s (t .place) 2 8 a e f given found;
+      stands = λ first packed₀ sofar. record {
+        goes = λ g. record {
+          before = sofar .before ++ stepOf (part s a e) ∷ [];
+          reading = reading-step s (stepGrammar stages) first (t .place) (sofar .before) (sofar .reading) f given a e found (only-gives 2 8 (getD s (t .place) 0)) v (same-fault first packed₀ sofar) passes;
+          counted = omega (arith, length-append (sofar .before) (stepOf (part s a e) ∷ []), sofar .counted);
+          latest = last-grown (sofar .before) (stepOf (part s a e));
+          filled =
+              λ room.
+              filled-grown (sofar .before) (stepOf (part s a e)) (t .steps) packed₀ packed (sofar .counted) (step-below v stages (t .last) (t .steps) (part s a e) judged passes) (sofar .filled room);
+        };
+        over = λ g. absurd (true-false g);
+      };
+    })
 
-    module _ (a e : ℕ) (found : r ≡ Whole a e) (v : ℕ) (judged : v ≡ stepFault stages last count (part s a e)) where
-      same-fault : v ≡ stepFaultAfter stages (sofar .before) (part s a e)
-      same-fault = rw (sofar .counted, sofar .latest) judged
+-- ---- the whole walk
 
-      module _ (fails : v ≡ 0 → ⊥) where
-        bad : scanSteps s stages first ≡ stopped (sofar .before) v at
-        bad = reading-bad s (stepGrammar stages) first at (sofar .before) (sofar .reading) r given a e found (only-gives 2 8 (getD s at 0)) v same-fault fails
+pub stands-begin : (s : List ℕ) (first stages : ℕ) (packed : List (List ℕ))
+    → Stands s first stages packed packed (record { number = 0; place = first; steps = 0; last = 0; going = true })
+stands-begin s first stages packed = record { goes = λ g. steps-start s first stages packed; over = λ g. absurd (true-false g) }
 
-        pub steps-bad : (x : StepsRead) → x ≡ record { number = v; place = at; steps = count } → x ≡ stepsAnswer (scanSteps s stages first)
-        steps-bad x e = rw (bad, sofar .counted) e
+pub take-turn : (s : List ℕ) (first stages : ℕ) (packed₀ packed packed′ : List (List ℕ)) (t r : StepsRead) → Stands s first stages packed₀ packed t → t .going ≡ true
+    → Takes s stages t packed packed′ r → Stands s first stages packed₀ packed′ r
+take-turn s first stages packed₀ packed packed′ t r g going e = e .stands first packed₀ (g .goes going)
 
-        pub steps-bad-filled : Room packed₀ → Filled (scanSteps s stages first .passed) packed₀ packed
-        steps-bad-filled = rw bad (sofar .filled)
+pub take-nearer : (s : List ℕ) (stages : ℕ) (packed packed′ : List (List ℕ)) (t r : StepsRead) → t .going ≡ true → Takes s stages t packed packed′ r
+    → leftOf (r .going) (length s - r .place) < leftOf (t .going) (length s - t .place)
+take-nearer s stages packed packed′ t r going e = rw going (left-less (r .going) (length s - r .place) (length s - t .place) (e .nearer))
 
-      pub steps-step : v ≡ 0 → (x : StepBody) → x ≡ stepBody (part s a e)
-          → SoFar s first stages packed₀ (stored packed count (record { from = x .from; to = x .to; cost = x .cost })) e (x .from) (count + 1)
-      steps-step passes x read = rw read (record {
-        before = sofar .before ++ stepOf (part s a e) ∷ [];
-        reading = reading-step s (stepGrammar stages) first at (sofar .before) (sofar .reading) r given a e found (only-gives 2 8 (getD s at 0)) v same-fault passes;
-        counted = omega (arith, length-append (sofar .before) (stepOf (part s a e) ∷ []), sofar .counted);
-        latest = last-grown (sofar .before) (stepOf (part s a e));
-        filled =
-            λ room.
-            filled-grown (sofar .before) (stepOf (part s a e)) count packed₀ packed (sofar .counted) (step-below v stages last count (part s a e) judged passes) (sofar .filled room);
-      })
-
-pub ruleset steps-laws = (
-  steps-start,
-  steps-done,
-  steps-done-filled,
-  steps-faulty,
-  steps-faulty-filled,
-  steps-bad,
-  steps-bad-filled,
-  steps-step,
-)
+pub ruleset take-laws = (step-below, step-place, step-more, take-done, take-faulty, take-bad, take-step)

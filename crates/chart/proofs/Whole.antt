@@ -7,11 +7,11 @@ use borrow.Author.Tests.{eq-eqb, ne-eqb}
 use Rattle.definitions.specs.Basics.{pick}
 use Rattle.definitions.specs.Fields.{part, only, fieldAt, onField}
 use Rattle.definitions.specs.Charts.{headFault, badHead, withSteps, scanSteps, readChart}
-use Rattle.definitions.specs.Charts as charts
 use Rattle.definitions.specs.declared.Field.{Field}
 use Rattle.definitions.specs.declared.Field.the-variants.{Absent, Faulty, Whole}
 use Rattle.chart.specs.Held.{nothing-filled}
-use Rattle.chart.specs.Tables.{Room, Filled, headBody, stepsAnswer, chartAnswer}
+use Rattle.chart.specs.Tables.{Room, Filled, headBody, chartAnswer}
+use Rattle.chart.specs.Turns.{Over}
 use Rattle.chart.specs.declared.reader.ChartRead.{ChartRead}
 use Rattle.chart.specs.declared.reader.HeadBody.{HeadBody}
 use Rattle.chart.specs.declared.reader.StepsRead.{StepsRead}
@@ -61,13 +61,12 @@ module _ (s : List ℕ) (r : Field) (given : r ≡ fieldAt s 0 (only 1 6)) where
         unfolding readChart onField pick
         good = rw (← given, found, ← judged, eq-eqb v 0 passes, read)
 
-        pub chart-good : (y : StepsRead) → y ≡ stepsAnswer (scanSteps s (h .stages) e)
-            → record { number = y .number; place = y .place; stages = h .stages; start = h .start; end = h .end; steps = y .steps } ≡ chartAnswer (readChart s)
-        chart-good y ey = rw (good, ey, read)
+        module _ (y : StepsRead) (packed packed′ : List (List ℕ)) (over : Over s e (h .stages) packed packed′ y) where
+          pub chart-good : record { number = y .number; place = y .place; stages = h .stages; start = h .start; end = h .end; steps = y .steps } ≡ chartAnswer (readChart s)
+          chart-good = rw (good, over .answer, read)
 
-        pub chart-good-filled : (packed packed′ : List (List ℕ)) → (Room packed → Filled (scanSteps s (h .stages) e .passed) packed packed′)
-            → Room packed → Filled (readChart s .chart .steps) packed packed′
-        chart-good-filled packed packed′ f = rw good f
+          pub chart-good-filled : Room packed → Filled (readChart s .chart .steps) packed packed′
+          chart-good-filled = rw good (over .filled)
 
 pub ruleset chart-laws = (
   chart-empty,

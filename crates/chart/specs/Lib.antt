@@ -2,3 +2,4 @@ pub mod Tables
 pub mod Held
 pub mod Limits
 pub mod Accepted
+pub mod Turns

@@ -2,6 +2,7 @@
 -- Assumes nothing.
 use Prim.Native.Nat.{ℕ}
 use mathlib.Core.Path.{_≡_}
+use mathlib.Core.Bool.{false}
 use mathlib.Core.List.{List, [], map}
 use lib.ListN.{length, getD, drop}
 use Rattle.definitions.specs.Basics.{upto}
@@ -59,7 +60,7 @@ abbrev pub stepBody : List ℕ → StepBody
 stepBody b = record { from = two b 0; to = two b 2; cost = four b 4 }
 
 abbrev pub stepsAnswer : Scan ChartStep → StepsRead
-stepsAnswer x = record { number = x .number; place = x .place; steps = length (x .passed) }
+stepsAnswer x = record { number = x .number; place = x .place; steps = length (x .passed); last = 0; going = false }
 
 abbrev pub chartAnswer : charts.ChartRead → ChartRead
 chartAnswer x = record {

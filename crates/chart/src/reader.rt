@@ -1,12 +1,18 @@
 // The reader of the chart file: its steps go into a table with three columns.
 ghost use mathlib.Core.Path.{_≡_};
 ghost use lib.ListN.{length};
-ghost use Rattle.definitions.specs.Charts.{headFault, stepFault, badHead, scanSteps, readChart};
-ghost use Rattle.chart.specs.Tables.{Room, Filled, headBody, stepBody, stepsAnswer, chartAnswer};
+ghost use mathlib.Core.Bool.{true, false};
+ghost use Rattle.definitions.specs.Fields.{only, fieldAt};
+ghost use Rattle.definitions.specs.Charts.{headFault, stepFault, badHead, readChart};
+ghost use Rattle.chart.specs.Tables.{Room, Filled, headBody, stepBody, chartAnswer};
+ghost use Rattle.chart.specs.Turns.{Over, Takes};
 use definitions::Field;
 use fields::field_at;
 use fields::read_u16;
 use fields::read_u32;
+use fields::reader::moved;
+use fields::reader::new;
+use fields::reader::next;
 
 // The columns of the table of steps.
 pub const FROM: usize = 0;
@@ -100,54 +106,88 @@ fn step_of(b: &[u8]) -> StepBody
     }
 }
 
-// The refusal's number and place, 0 and 0 where there is none, and how many steps passed.
+// The steps read so far.
 pub struct StepsRead {
+    // the refusal's number, 0 where there is none
     pub number: u8,
+    // where the next field is due; once the walk is over, the refusal's place, 0 where there is none
     pub place: usize,
+    // how many steps passed
     pub steps: usize,
+    // the stage that the last of them leaves, 0 before the first and once the walk is over
+    pub last: u16,
+    // whether the walk goes on
+    pub going: bool,
 }
 
 fn stopped(steps: usize, number: u8, place: usize) -> StepsRead
-    ensures { λ r. ⌜ r ≡ record { number = number; place = place; steps = steps } ⌝ }
+    ensures { λ r. ⌜ r ≡ record { number = number; place = place; steps = steps; last = 0; going = false } ⌝ }
 {
     StepsRead {
         number,
         place,
         steps,
+        last: 0,
+        going: false,
     }
 }
 
-// The steps from a place on, into the table.
-fn read_steps(file: &[u8], first: usize, stages: u16, steps: &mut [[u32; 1024]; 3]) -> StepsRead
-    ensures { λ r. ⌜ r ≡ stepsAnswer (scanSteps (now (file .entry)) stages first) ⌝ }
-    ensures { λ r. ⌜
-        (let read = scanSteps (now (file .entry)) stages first in
-        Room (now (steps .entry)) → Filled (read .passed) (now (steps .entry)) (now (steps .exit)))
-        ⌝ }
+// One turn of the walk: what was found at its place is taken, a step into the table.
+fn take_step(
+    file: &[u8],
+    found: Field,
+    read: StepsRead,
+    stages: u16,
+    steps: &mut [[u32; 1024]; 3],
+) -> StepsRead
+    requires { ⌜ found ≡ fieldAt (now file) (read .place) (only 2 8) ⌝ }
+    ensures { λ r. ⌜ Takes (now (file .entry)) stages read (now (steps .entry)) (now (steps .exit)) r ⌝ }
 {
-    let mut at = first;
-    let mut last: u16 = 0;
-    let mut count: usize = 0;
-    loop {
-        match field_at(file, at, 2, 8) {
-            Field::Absent => return stopped(count, 0, 0),
-            Field::Faulty(number) => return stopped(count, number, at),
-            Field::Whole { start, end } => {
-                let body = &file[start..end];
-                let fault = step_fault(body, stages, last, count);
-                if fault != 0 {
-                    return stopped(count, fault, at);
-                }
-                let step = step_of(body);
-                steps[FROM][count] = step.from as u32;
-                steps[TO][count] = step.to as u32;
-                steps[COST][count] = step.cost;
-                last = step.from;
-                count += 1;
-                at = end;
+    let count = read.steps;
+    let at = read.place;
+    match found {
+        Field::Absent => stopped(count, 0, 0),
+        Field::Faulty(number) => stopped(count, number, at),
+        Field::Whole { start, end } => {
+            let body = &file[start..end];
+            let fault = step_fault(body, stages, read.last, count);
+            if fault != 0 {
+                return stopped(count, fault, at);
+            }
+            let step = step_of(body);
+            steps[FROM][count] = step.from as u32;
+            steps[TO][count] = step.to as u32;
+            steps[COST][count] = step.cost;
+            StepsRead {
+                number: 0,
+                place: end,
+                steps: count + 1,
+                last: step.from,
+                going: true,
             }
         }
     }
+}
+
+// The steps from a place on, into the table: a reader walks over them. It is kept in a local, so this thin loop is
+// proved by hand.
+fn read_steps(file: &[u8], first: usize, stages: u16, steps: &mut [[u32; 1024]; 3]) -> StepsRead
+    ensures { λ r. ⌜ Over (now (file .entry)) first stages (now (steps .entry)) (now (steps .exit)) r ⌝ }
+{
+    let mut reader = moved(new(file), first);
+    let mut read = StepsRead {
+        number: 0,
+        place: first,
+        steps: 0,
+        last: 0,
+        going: true,
+    };
+    while read.going {
+        let found = next(reader, 2, 8);
+        read = take_step(file, found, read, stages, steps);
+        reader = moved(reader, read.place);
+    }
+    read
 }
 
 // A chart file, read: the refusal's number and place, 0 and 0 where it is accepted, and the chart as far as its

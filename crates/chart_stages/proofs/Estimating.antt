@@ -21,6 +21,17 @@ pub sum-fits : (c rest : ℕ) → Adds c rest → (rest ≡ 4294967295 → ⊥) 
 sum-fits c rest (inl e) n = absurd (n e)
 sum-fits c rest (inr h) n = record { fits = omega arith }
 
+-- the number of a stage fits, and the place of its entry
+module _ (n : ℕ) (below : n < 256) where
+  pub stage-half : Fits w16 n
+  stage-half = record { fits = omega arith }
+
+  pub stage-fits : Fits w64 n
+  stage-fits = record { fits = omega arith }
+
+  pub stage-quad : Fits w64 (n * 4)
+  stage-quad = record { fits = omega arith }
+
 module _ (z : Shape) (packed : List (List ℕ)) (v : Valid (graph (chartIn z (stepsIn packed)))) where
   abbrev count : ℕ
   count = z .steps
@@ -49,22 +60,9 @@ module _ (z : Shape) (packed : List (List ℕ)) (v : Valid (graph (chartIn z (st
     pub to-below : getD (stepsIn packed .to) (count - 1 - i) 0 < 256
     to-below = omega (arith, held-to count (stepsIn packed) (count - 1 - i) (omega arith), v .inside (count - 1 - i) step, v .few-stages)
 
-    -- the places of the entries fit
+    -- the place of its entry fits
     pub step-quad : Fits w64 ((count - 1 - i) * 4)
     step-quad = record { fits = omega (arith, step-below) }
-
-    pub from-fits : Fits w64 (getD (stepsIn packed .from) (count - 1 - i) 0)
-    from-fits = record { fits = omega (arith, from-below) }
-
-    pub from-quad : Fits w64 (getD (stepsIn packed .from) (count - 1 - i) 0 * 4)
-    from-quad = record { fits = omega (arith, from-below) }
-
-    -- and the stages have numbers of two bytes
-    pub from-half : Fits w16 (getD (stepsIn packed .from) (count - 1 - i) 0)
-    from-half = record { fits = omega (arith, from-below) }
-
-    pub to-half : Fits w16 (getD (stepsIn packed .to) (count - 1 - i) 0)
-    to-half = record { fits = omega (arith, to-below) }
 
     module _ (estimates : List ℕ) (told : Told g (count - i) estimates) where
       told′ : Told g (suc (count - 1 - i)) estimates
@@ -102,10 +100,9 @@ pub ruleset estimates-laws = (
   from-below,
   to-below,
   step-quad,
-  from-fits,
-  from-quad,
-  from-half,
-  to-half,
+  stage-half,
+  stage-fits,
+  stage-quad,
   estimates-add,
   estimates-turn,
   estimates-done,

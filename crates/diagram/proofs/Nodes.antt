@@ -1,6 +1,7 @@
--- The loop over the nodes: its invariant, with one law for each way on.
-use Prim.Native.Nat.{ℕ, _+_, _-_, _≤_, _<_}
+-- The walk over the nodes: one law for each way out of a turn, and what the turns come to.
+use Prim.Native.Nat.{ℕ, _+_, _-_, _<_}
 use mathlib.Core.Path.{_≡_, refl, sym, _∙_, ap}
+use mathlib.Core.Bool.{true, false}
 use mathlib.Core.List.{List, [], _∷_, _++_}
 use lib.ListN.{length, getD, set, take, drop, length-append, length-set}
 use lib.Seq.{getD-set-other, take-set-le}
@@ -12,11 +13,13 @@ use Rattle.definitions.specs.Diagrams.{InnerNode, noNode, nodeFault, innerNodeO
 use Rattle.definitions.specs.declared.Field.{Field}
 use Rattle.definitions.specs.declared.Field.the-variants.{Absent, Faulty, Whole}
 use Rattle.theory.specs.Basics.{rest-kept}
-use Rattle.fields.specs.Positions.{only-gives}
-use Rattle.fields.specs.Scans.{Reading, reading-start, reading-done, reading-faulty, reading-bad, reading-step}
-use Rattle.diagram.specs.Tables.{heldNodes, Marked}
+use Rattle.fields.specs.Positions.{only-gives, body-less}
+use Rattle.fields.specs.Scans.{leftOf, left-less, reading-start, reading-done, reading-faulty, reading-bad, reading-step}
+use Rattle.diagram.specs.Tables.{heldNodes}
 use Rattle.diagram.specs.Held.{getD-held, held-grown}
-use Rattle.diagram.specs.Files.{Nodes, nodesIn, nodesHeld, Room, stored, Filled, ReadsNodes}
+use Rattle.diagram.specs.Files.{Nodes, nodesIn, nodesHeld, stored, Filled}
+use Rattle.diagram.specs.Turns.{Halfway, SoFar, Stands, Takes}
+use Rattle.diagram.specs.declared.reader.NodesRead.{NodesRead}
 use Rattle.diagram.specs.Limits.{NodeFits, node-fits, nodeFault-same}
 
 -- one more node stored: the columns
@@ -60,106 +63,114 @@ filled-grown before x count packed₀ packed counted below sofar =
       };
     }
 
--- what is read so far, and that the rest of the walk is still to come
-record Halfway (s : List ℕ) (first steps : ℕ) (packed₀ packed : List (List ℕ)) (at count : ℕ) : Type 0 where
-  before : List InnerNode
-  reading : Reading s (nodeGrammar steps) first at before
-  counted : length before ≡ count
-  filled : Filled before packed₀ packed
+true-false : true ≡ false → ⊥
+true-false e = let z : _≡_ {A = ℕ} 0 1 = cc in omega arith
 
--- the invariant. (The tables have room, by their type, and the step table is marked at the start.)
-pub record SoFar (s : List ℕ) (first steps : ℕ) (packed₀ packed : List (List ℕ)) (at count : ℕ) : Type 0 where
-  pub few : count ≤ 510
-  halfway : Room packed₀ → Marked (nodesIn packed₀ .step) → Halfway s first steps packed₀ packed at count
+nodes-start : (s : List ℕ) (first steps : ℕ) (packed : List (List ℕ)) → SoFar s first steps packed packed first 0
+unfolding heldNodes
+nodes-start s first steps packed = record {
+  few = omega arith;
+  halfway = λ room marked. record {
+    before = [];
+    reading = reading-start s (nodeGrammar steps) first;
+    counted = refl;
+    filled = record {
+      marked = marked;
+      held = refl;
+      lo-first = refl;
+      hi-first = refl;
+      step-rest = refl;
+      lo-rest = refl;
+      hi-rest = refl;
+      room = room;
+    };
+  };
+}
 
-module _ (s : List ℕ) (first steps : ℕ) (packed₀ : List (List ℕ)) where
-  pub nodes-start : SoFar s first steps packed₀ packed₀ first 0
-  unfolding heldNodes
-  nodes-start = record {
-    few = omega arith;
-    halfway = λ room marked. record {
-      before = [];
-      reading = reading-start s (nodeGrammar steps) first;
-      counted = refl;
-      filled = record {
-        marked = marked;
-        held = refl;
-        lo-first = refl;
-        hi-first = refl;
-        step-rest = refl;
-        lo-rest = refl;
-        hi-rest = refl;
-        room = room;
+-- a node that passes has room in the table
+module _ (v steps count : ℕ) (stepAt : ℕ → ℕ) (b : List ℕ) (judged : v ≡ nodeFault steps stepAt count b) (passes : v ≡ 0) where
+  node-room : NodeFits steps stepAt count b
+  node-room = node-fits steps stepAt count b (sym passes ∙ judged)
+
+  pub node-more : Fits w64 (count + 1)
+  node-more = omega (arith, node-room .few)
+
+  pub node-own : Fits w64 (count + 2)
+  node-own = omega (arith, node-room .few)
+
+  pub node-below : count + 2 < 512
+  node-below = omega (arith, node-room .few)
+
+-- the ways out of a turn from t
+module _ (s : List ℕ) (steps : ℕ) (t : NodesRead) (packed : List (List ℕ)) (f : Field) (given : f ≡ fieldAt s (t .place) (only 18 6)) where
+  -- the walk stops
+  stops : (number place : ℕ) (x : NodesRead) → x ≡ record { number = number; place = place; nodes = t .nodes; going = false }
+      → ((first : ℕ) (packed₀ : List (List ℕ)) (h : Halfway s first steps packed₀ packed (t .place) (t .nodes)) → scanNodes s steps first ≡ stopped (h .before) number place)
+      → Takes s steps t packed packed x
+  stops number place x e is = rw e (record {
+    nearer = λ g. absurd (true-false (sym g));
+    stands = λ first packed₀ sofar. record {
+      goes = λ g. absurd (true-false (sym g));
+      over = λ g. record {
+        few = sofar .few;
+        answer = λ room marked. let h = sofar .halfway room marked in rw (is first packed₀ h, h .counted);
+        filled = λ room marked. let h = sofar .halfway room marked in rw (is first packed₀ h) (h .filled);
       };
     };
-  }
+  })
 
-  module _ (packed : List (List ℕ)) (at count : ℕ) (sofar : SoFar s first steps packed₀ packed at count) (r : Field)
-      (given : r ≡ fieldAt s at (only 18 6)) where
-    -- the walk stops here
-    ends : (number place : ℕ)
-        → ((h : Halfway s first steps packed₀ packed at count) → scanNodes s steps first ≡ stopped (h .before) number place)
-        → ReadsNodes s steps first packed₀ packed (record { number = number; place = place; nodes = count })
-    ends number place stops = record {
-      few = sofar .few;
-      answer = λ room marked. let h = sofar .halfway room marked in rw (stops h, h .counted);
-      filled = λ room marked. let h = sofar .halfway room marked in rw (stops h) (h .filled);
-    }
+  pub take-done : f ≡ Absent → (x : NodesRead) → x ≡ record { number = 0; place = 0; nodes = t .nodes; going = false } → Takes s steps t packed packed x
+  take-done found x e = stops 0 0 x e (λ first packed₀ h. reading-done s (nodeGrammar steps) first (t .place) (h .before) (h .reading) f given found)
 
-    pub nodes-done : r ≡ Absent → ReadsNodes s steps first packed₀ packed (record { number = 0; place = 0; nodes = count })
-    nodes-done found = ends 0 0 (λ h. reading-done s (nodeGrammar steps) first at (h .before) (h .reading) r given found)
+  pub take-faulty : (k : ℕ) → f ≡ Faulty k → (x : NodesRead) → x ≡ record { number = k; place = t .place; nodes = t .nodes; going = false } → Takes s steps t packed packed x
+  take-faulty k found x e =
+      stops k (t .place) x e (λ first packed₀ h. reading-faulty s (nodeGrammar steps) first (t .place) (h .before) (h .reading) f given k found)
 
-    pub nodes-faulty : (k : ℕ) → r ≡ Faulty k → ReadsNodes s steps first packed₀ packed (record { number = k; place = at; nodes = count })
-    nodes-faulty k found = ends k at (λ h. reading-faulty s (nodeGrammar steps) first at (h .before) (h .reading) r given k found)
+  module _ (a e : ℕ) (found : f ≡ Whole a e) (v : ℕ) (judged : v ≡ nodeFault steps (λ k. getD (nodesIn packed .step) k 0) (t .nodes) (part s a e)) where
+    -- the step table holds the steps of the nodes before
+    same-fault : (first : ℕ) (packed₀ : List (List ℕ)) (h : Halfway s first steps packed₀ packed (t .place) (t .nodes)) → v ≡ nodeFaultAfter steps (h .before) (part s a e)
+    same-fault first packed₀ h =
+        let held : nodesHeld (t .nodes) packed ≡ h .before = rw (← h .counted) (h .filled .held) in
+        rw (h .counted)
+        (judged ∙ nodeFault-same steps (λ k. getD (nodesIn packed .step) k 0) (λ k. getD (h .before) (k - 2) noNode .step) (t .nodes) (part s a e)
+        (λ k i l. ap (λ (x : InnerNode). x .step) (sym (getD-held (t .nodes) (nodesIn packed .step) (nodesIn packed .lo) (nodesIn packed .hi) k i l)) ∙ ap (λ (x : List InnerNode). getD x (k - 2) noNode .step) held))
 
-    module _ (a e : ℕ) (found : r ≡ Whole a e) (v : ℕ) (judged : v ≡ nodeFault steps (λ k. getD (nodesIn packed .step) k 0) count (part s a e)) where
-      -- the step table holds the steps of the nodes before
-      same-fault : (h : Halfway s first steps packed₀ packed at count) → v ≡ nodeFaultAfter steps (h .before) (part s a e)
-      same-fault h =
-          let held : nodesHeld count packed ≡ h .before = rw (← h .counted) (h .filled .held) in
-          rw (h .counted)
-          (judged ∙ nodeFault-same steps (λ k. getD (nodesIn packed .step) k 0) (λ k. getD (h .before) (k - 2) noNode .step) count (part s a e)
-          (λ k i l. ap (λ (x : InnerNode). x .step) (sym (getD-held count (nodesIn packed .step) (nodesIn packed .lo) (nodesIn packed .hi) k i l)) ∙ ap (λ (x : List InnerNode). getD x (k - 2) noNode .step) held))
+    pub take-bad : (v ≡ 0 → ⊥) → (x : NodesRead) → x ≡ record { number = v; place = t .place; nodes = t .nodes; going = false } → Takes s steps t packed packed x
+    take-bad fails x q =
+        stops v (t .place) x q (λ first packed₀ h.
+        reading-bad s (nodeGrammar steps) first (t .place) (h .before) (h .reading) f given a e found (only-gives 18 6 (getD s (t .place) 0)) v (same-fault first packed₀ h) fails)
 
-      pub nodes-bad : (v ≡ 0 → ⊥) → ReadsNodes s steps first packed₀ packed (record { number = v; place = at; nodes = count })
-      nodes-bad fails =
-          ends v at (λ h. reading-bad s (nodeGrammar steps) first at (h .before) (h .reading) r given a e found (only-gives 18 6 (getD s at 0)) v (same-fault h) fails)
+    pub take-node : v ≡ 0 → (packed′ : List (List ℕ)) → packed′ ≡ stored packed (t .nodes + 2) (innerNodeOf (part s a e))
+        → Takes s steps t packed packed′ (record { number = 0; place = e; nodes = t .nodes + 1; going = true })
+    take-node passes packed′ is = rw is (record {
+      nearer = λ g. body-less s (t .place) 18 6 a e f given found;
+      stands = λ first packed₀ sofar. record {
+        goes = λ g. record {
+          few = omega (arith, node-room v steps (t .nodes) _ (part s a e) judged passes .few);
+          halfway = λ room marked.
+              let h = sofar .halfway room marked in
+              record {
+                before = h .before ++ innerNodeOf (part s a e) ∷ [];
+                reading = reading-step s (nodeGrammar steps) first (t .place) (h .before) (h .reading) f given a e found (only-gives 18 6 (getD s (t .place) 0)) v (same-fault first packed₀ h) passes;
+                counted = omega (arith, length-append (h .before) (innerNodeOf (part s a e) ∷ []), h .counted);
+                filled = filled-grown (h .before) (innerNodeOf (part s a e)) (t .nodes) packed₀ packed (h .counted) (node-room v steps (t .nodes) _ (part s a e) judged passes .few) (h .filled);
+              };
+        };
+        over = λ g. absurd (true-false g);
+      };
+    })
 
-      module _ (passes : v ≡ 0) where
-        fits : NodeFits steps (λ k. getD (nodesIn packed .step) k 0) count (part s a e)
-        fits = node-fits steps (λ k. getD (nodesIn packed .step) k 0) count (part s a e) (sym passes ∙ judged)
+-- ---- the whole walk
 
-        pub nodes-more : Fits w64 (count + 1)
-        nodes-more = omega (arith, fits .few)
+pub stands-begin : (s : List ℕ) (first steps : ℕ) (packed : List (List ℕ)) → Stands s first steps packed packed (record { number = 0; place = first; nodes = 0; going = true })
+stands-begin s first steps packed = record { goes = λ g. nodes-start s first steps packed; over = λ g. absurd (true-false g) }
 
-        pub nodes-own : Fits w64 (count + 1 + 1)
-        nodes-own = omega (arith, fits .few)
+pub take-turn : (s : List ℕ) (first steps : ℕ) (packed₀ packed packed′ : List (List ℕ)) (t r : NodesRead) → Stands s first steps packed₀ packed t → t .going ≡ true
+    → Takes s steps t packed packed′ r → Stands s first steps packed₀ packed′ r
+take-turn s first steps packed₀ packed packed′ t r g going e = e .stands first packed₀ (g .goes going)
 
-        pub nodes-below : count + 1 + 1 < 512
-        nodes-below = omega (arith, fits .few)
+pub take-nearer : (s : List ℕ) (steps : ℕ) (packed packed′ : List (List ℕ)) (t r : NodesRead) → t .going ≡ true → Takes s steps t packed packed′ r
+    → leftOf (r .going) (length s - r .place) < leftOf (t .going) (length s - t .place)
+take-nearer s steps packed packed′ t r going e = rw going (left-less (r .going) (length s - r .place) (length s - t .place) (e .nearer))
 
-        pub nodes-step : (packed′ : List (List ℕ)) → packed′ ≡ stored packed (count + 1 + 1) (innerNodeOf (part s a e)) → SoFar s first steps packed₀ packed′ e (count + 1)
-        nodes-step packed′ is =
-            let own : count + 1 + 1 ≡ count + 2 = omega arith in
-            rw (is, own) (record {
-              few = omega (arith, fits .few);
-              halfway = λ room marked.
-                  let h = sofar .halfway room marked in
-                  record {
-                    before = h .before ++ innerNodeOf (part s a e) ∷ [];
-                    reading = reading-step s (nodeGrammar steps) first at (h .before) (h .reading) r given a e found (only-gives 18 6 (getD s at 0)) v (same-fault h) passes;
-                    counted = omega (arith, length-append (h .before) (innerNodeOf (part s a e) ∷ []), h .counted);
-                    filled = filled-grown (h .before) (innerNodeOf (part s a e)) count packed₀ packed (h .counted) (fits .few) (h .filled);
-                  };
-            })
-
-pub ruleset nodes-laws = (
-  nodes-start,
-  nodes-done,
-  nodes-faulty,
-  nodes-bad,
-  nodes-own,
-  nodes-below,
-  nodes-more,
-  nodes-step,
-)
+pub ruleset take-laws = (take-done, take-faulty, take-bad, node-own, node-below, node-more, take-node)

@@ -13,7 +13,8 @@ use Rattle.definitions.specs.declared.Field.{Field}
 use Rattle.definitions.specs.declared.Field.the-variants.{Absent, Faulty, Whole}
 use Rattle.fields.specs.Positions.{body-length}
 use Rattle.diagram.specs.Tables.{heldNodes, Marked}
-use Rattle.diagram.specs.Files.{Nodes, nodesIn, Room, Filled, nodesAnswer, diagramAnswer, ReadsNodes, Reads}
+use Rattle.diagram.specs.Files.{Nodes, nodesIn, Room, Filled, nodesAnswer, diagramAnswer, Reads}
+use Rattle.diagram.specs.Turns.{Over}
 use Rattle.diagram.specs.declared.reader.NodesRead.{NodesRead}
 use Rattle.diagram.specs.declared.reader.DiagramRead.{DiagramRead}
 
@@ -114,7 +115,7 @@ module _ (s : List ℕ) (steps : ℕ) (packed : List (List ℕ)) (r : Field) (gi
     whole-word = omega (arith, body-length s 0 17 2 a e r given found)
 
     module _ (root : ℕ) (ro : root ≡ two (part s a e) 0) (packed′ : List (List ℕ)) (x : NodesRead)
-        (reads : ReadsNodes s steps e (marks packed) packed′ x) where
+        (reads : Over s e steps (marks packed) packed′ x) where
       read-is : readDiagram s steps ≡ withNodes root (scanNodes s steps e)
       unfolding readDiagram onField
       read-is = rw (← given, found, ro)

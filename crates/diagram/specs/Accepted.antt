@@ -11,7 +11,7 @@ use native.Mathlib.Omega.{arith}
 use borrow.Author.Tests.{leb-false, eqb-false}
 use Rattle.definitions.specs.Basics.{pick}
 use Rattle.definitions.specs.Fields.{two, part, only, fieldAt, onField, Scan}
-use Rattle.definitions.specs.Diagrams.{Diagram, InnerNode, noNode, inner, innerNodeOf, nodeFaultAfter, DiagramRead, diagramRead, withNodes, nodeGrammar, scanNodes, readDiagram}
+use Rattle.definitions.specs.Diagrams.{Diagram, InnerNode, noNode, inner, innerNodeOf, DiagramRead, diagramRead, withNodes, nodeGrammar, scanNodes, readDiagram}
 use Rattle.theory.specs.Limits.{Ordered, Sound}
 use Rattle.definitions.specs.declared.Field.{Field}
 use Rattle.definitions.specs.declared.Field.the-variants.{Absent, Faulty, Whole}

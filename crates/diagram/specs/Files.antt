@@ -1,11 +1,12 @@
 -- What the reader of the diagram file answers, and what it leaves in the table.
 -- Assumes nothing.
-use Prim.Native.Nat.{ℕ, _+_, _≤_}
+use Prim.Native.Nat.{ℕ, _+_}
 use mathlib.Core.Path.{_≡_}
+use mathlib.Core.Bool.{false}
 use mathlib.Core.List.{List, []}
 use lib.ListN.{length, getD, set, take, drop}
 use Rattle.definitions.specs.Fields.{Scan}
-use Rattle.definitions.specs.Diagrams.{InnerNode, scanNodes, readDiagram}
+use Rattle.definitions.specs.Diagrams.{InnerNode, readDiagram}
 use Rattle.definitions.specs.Diagrams as diagrams
 use Rattle.diagram.specs.Tables.{heldNodes, Marked}
 use Rattle.diagram.specs.declared.reader.NodesRead.{NodesRead}
@@ -51,16 +52,10 @@ pub record Filled (passed : List InnerNode) (packed packed′ : List (List ℕ))
 
 -- the answers, from what the definitions give
 abbrev pub nodesAnswer : Scan InnerNode → NodesRead
-nodesAnswer x = record { number = x .number; place = x .place; nodes = length (x .passed) }
+nodesAnswer x = record { number = x .number; place = x .place; nodes = length (x .passed); going = false }
 
 abbrev pub diagramAnswer : diagrams.DiagramRead → DiagramRead
 diagramAnswer x = record { number = x .number; place = x .place; root = x .diagram .root; nodes = length (x .diagram .nodes) }
-
--- The nodes of the file s from a place on are read into the table, the step column marked already
-pub record ReadsNodes (s : List ℕ) (steps first : ℕ) (packed packed′ : List (List ℕ)) (r : NodesRead) : Type 0 where
-  pub few : r .nodes ≤ 510
-  pub answer : Room packed → Marked (nodesIn packed .step) → r ≡ nodesAnswer (scanNodes s steps first)
-  pub filled : Room packed → Marked (nodesIn packed .step) → Filled (scanNodes s steps first .passed) packed packed′
 
 -- The diagram file s over a chart of so many steps is read into the table
 pub record Reads (s : List ℕ) (steps : ℕ) (packed packed′ : List (List ℕ)) (r : DiagramRead) : Type 0 where

@@ -1,5 +1,6 @@
 pub mod Tables
 pub mod Held
 pub mod Files
+pub mod Turns
 pub mod Limits
 pub mod Accepted

@@ -1,13 +1,19 @@
 // The reader of the diagram file: its inner nodes go into a table with three columns, each at its number.
 ghost use mathlib.Core.Path.{_≡_};
+ghost use mathlib.Core.Bool.{true, false};
 ghost use Prim.Native.Nat.{_≤_, _<_};
 ghost use lib.ListN.{length, getD};
 ghost use mathlib.Core.List.{[]};
+ghost use Rattle.definitions.specs.Fields.{only, fieldAt};
 ghost use Rattle.definitions.specs.Diagrams.{childFits, nodeFault, innerNodeOf, diagramRead};
-ghost use Rattle.diagram.specs.Files.{stored, ReadsNodes, Reads, diagramAnswer};
+ghost use Rattle.diagram.specs.Files.{stored, Reads, diagramAnswer};
+ghost use Rattle.diagram.specs.Turns.{Over, Takes};
 use definitions::Field;
 use fields::field_at;
 use fields::read_u16;
+use fields::reader::moved;
+use fields::reader::new;
+use fields::reader::next;
 
 // The columns of the table of inner nodes.
 pub const STEP: usize = 0;
@@ -64,52 +70,81 @@ fn store_node(b: &[u8], own: usize, inner: &mut [[u16; 512]; 3])
     inner[HI][own] = read_u16(b, 4);
 }
 
-// The refusal's number and place, 0 and 0 where there is none, and how many nodes passed.
+// The nodes read so far.
 pub struct NodesRead {
+    // the refusal's number, 0 where there is none
     pub number: u8,
+    // where the next field is due; once the walk is over, the refusal's place, 0 where there is none
     pub place: usize,
+    // how many nodes passed
     pub nodes: usize,
+    // whether the walk goes on
+    pub going: bool,
 }
 
-// The nodes from a place on, into the table.
-fn read_nodes(file: &[u8], first: usize, steps: usize, inner: &mut [[u16; 512]; 3]) -> NodesRead
-    ensures { λ r. ⌜ ReadsNodes (now (file .entry)) steps first (now (inner .entry)) (now (inner .exit)) r ⌝ }
+fn stopped(nodes: usize, number: u8, place: usize) -> NodesRead
+    ensures { λ r. ⌜ r ≡ record { number = number; place = place; nodes = nodes; going = false } ⌝ }
 {
-    let mut at = first;
-    let mut count: usize = 0;
-    loop {
-        match field_at(file, at, 18, 6) {
-            Field::Absent => {
-                return NodesRead {
-                    number: 0,
-                    place: 0,
-                    nodes: count,
-                };
+    NodesRead {
+        number,
+        place,
+        nodes,
+        going: false,
+    }
+}
+
+// One turn of the walk: what was found at its place is taken, a node into the table.
+fn take_node(
+    file: &[u8],
+    found: Field,
+    read: NodesRead,
+    steps: usize,
+    inner: &mut [[u16; 512]; 3],
+) -> NodesRead
+    requires { ⌜ found ≡ fieldAt (now file) (read .place) (only 18 6) ⌝ }
+    ensures { λ r. ⌜ Takes (now (file .entry)) steps read (now (inner .entry)) (now (inner .exit)) r ⌝ }
+{
+    let count = read.nodes;
+    let at = read.place;
+    match found {
+        Field::Absent => stopped(count, 0, 0),
+        Field::Faulty(number) => stopped(count, number, at),
+        Field::Whole { start, end } => {
+            let body = &file[start..end];
+            let fault = node_fault(body, steps, &inner[STEP], count);
+            if fault != 0 {
+                return stopped(count, fault, at);
             }
-            Field::Faulty(number) => {
-                return NodesRead {
-                    number,
-                    place: at,
-                    nodes: count,
-                };
-            }
-            Field::Whole { start, end } => {
-                let body = &file[start..end];
-                let fault = node_fault(body, steps, &inner[STEP], count);
-                if fault != 0 {
-                    return NodesRead {
-                        number: fault,
-                        place: at,
-                        nodes: count,
-                    };
-                }
-                count += 1;
-                at = end;
-                // The first node is 2.
-                store_node(body, count + 1, inner);
+            // The first node is 2.
+            store_node(body, count + 2, inner);
+            NodesRead {
+                number: 0,
+                place: end,
+                nodes: count + 1,
+                going: true,
             }
         }
     }
+}
+
+// The nodes from a place on, into the table: a reader walks over them. It is kept in a local, so this thin loop is
+// proved by hand.
+fn read_nodes(file: &[u8], first: usize, steps: usize, inner: &mut [[u16; 512]; 3]) -> NodesRead
+    ensures { λ r. ⌜ Over (now (file .entry)) first steps (now (inner .entry)) (now (inner .exit)) r ⌝ }
+{
+    let mut reader = moved(new(file), first);
+    let mut read = NodesRead {
+        number: 0,
+        place: first,
+        nodes: 0,
+        going: true,
+    };
+    while read.going {
+        let found = next(reader, 18, 6);
+        read = take_node(file, found, read, steps, inner);
+        reader = moved(reader, read.place);
+    }
+    read
 }
 
 // A diagram file, read: the refusal's number and place, 0 and 0 where it is accepted, and the diagram as far as its

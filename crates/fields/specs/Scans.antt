@@ -1,6 +1,6 @@
 -- The walk from field to field, over any grammar: one law for each case of a turn, what a reader's loop keeps, and an induction.
 -- Assumes nothing.
-use Prim.Native.Nat.{ℕ, zero, suc, pred, _+_, _≤_}
+use Prim.Native.Nat.{ℕ, zero, suc, pred, _+_, _≤_, _<_}
 use mathlib.Core.Path.{_≡_, refl, sym, _∙_}
 use mathlib.Core.Bool.{Bool, true, false}
 use mathlib.Core.List.{List, [], _∷_, _++_}
@@ -13,6 +13,15 @@ use Rattle.definitions.specs.Fields.{part, isPassedOver, fieldAt, onField, Gram
 use Rattle.definitions.specs.declared.Field.{Field}
 use Rattle.definitions.specs.declared.Field.the-variants.{Absent, Faulty, Whole}
 use Rattle.fields.specs.Positions.{field-absent, within}
+
+-- how far a walk is from its end: one turn more than the bytes left while it goes on, none once it is over
+abbrev pub leftOf : Bool → ℕ → ℕ
+leftOf true bytes = suc bytes
+leftOf false bytes = 0
+
+pub left-less : (going : Bool) (a b : ℕ) → (going ≡ true → a < b) → leftOf going a < suc b
+left-less true a b h = omega (arith, h refl)
+left-less false a b h = omega arith
 
 absent-faulty : {n : ℕ} → Absent ≡ Faulty n → ⊥
 absent-faulty p = let z : _≡_ {A = ℕ} 0 1 = cc in omega arith

@@ -21,7 +21,10 @@ part-result-end : tie.Need-part-result-end
 part-result-end c = search needs
 
 returns : tie.Need-returns
-returns c = (search refused-laws, lies-chart _ _ _ _ _ _ (c .before .before .before .if1 .taken) (c .before .before .if2 .taken))
+returns c =
+    let got-yes2 : tie.Then2 = search in
+    let got-yes1 : tie.Then1 = search in
+    (search refused-laws, lies-chart _ _ _ _ _ _ (got-yes1 .if1 .taken) (got-yes2 .if2 .taken))
 
 sub-result-2 : tie.Need-sub-result-2
 sub-result-2 c = search needs
@@ -33,7 +36,10 @@ part-result-end-2 : tie.Need-part-result-end-2
 part-result-end-2 c = search needs
 
 returns-2 : tie.Need-returns-2
-returns-2 c = (search refused-laws, lies-past-chart _ _ _ _ _ _ (c .before .before .if1 .taken) (c .before .if2 .left))
+returns-2 c =
+    let got-not2 : tie.Else2 = search in
+    let got-yes1 : tie.Then1 = search in
+    (search refused-laws, lies-past-chart _ _ _ _ _ _ (got-yes1 .if1 .taken) (got-not2 .if2 .left))
 
 field-end-requires-2 : tie.Need-field-end-requires-2
 field-end-requires-2 c κs = search needs
@@ -48,7 +54,11 @@ part-result-end-3 : tie.Need-part-result-end-3
 part-result-end-3 c = search needs
 
 returns-3 : tie.Need-returns-3
-returns-3 c = (search refused-laws, lies-rules _ _ _ _ _ _ (c .before .before .before .before .if1 .left) (c .before .before .before .if3 .taken) (c .before .before .if4 .taken))
+returns-3 c =
+    let got-yes4 : tie.Then4 = search in
+    let got-yes3 : tie.Then3 = search in
+    let got-not1 : tie.Else1 = search in
+    (search refused-laws, lies-rules _ _ _ _ _ _ (got-not1 .if1 .left) (got-yes3 .if3 .taken) (got-yes4 .if4 .taken))
 
 sub-result-4 : tie.Need-sub-result-4
 sub-result-4 c = search needs
@@ -60,7 +70,11 @@ part-result-end-4 : tie.Need-part-result-end-4
 part-result-end-4 c = search needs
 
 returns-4 : tie.Need-returns-4
-returns-4 c = (search refused-laws, lies-past-rules _ _ _ _ _ _ (c .before .before .before .if1 .left) (c .before .before .if3 .taken) (c .before .if4 .left))
+returns-4 c =
+    let got-not4 : tie.Else4 = search in
+    let got-yes3 : tie.Then3 = search in
+    let got-not1 : tie.Else1 = search in
+    (search refused-laws, lies-past-rules _ _ _ _ _ _ (got-not1 .if1 .left) (got-yes3 .if3 .taken) (got-not4 .if4 .left))
 
 sub-result-5 : tie.Need-sub-result-5
 sub-result-5 c = search needs
@@ -72,7 +86,10 @@ part-result-end-5 : tie.Need-part-result-end-5
 part-result-end-5 c = search needs
 
 returns-5 : tie.Need-returns-5
-returns-5 c = (search refused-laws, lies-none _ _ _ _ _ _ (c .before .before .if1 .left) (c .before .if3 .left))
+returns-5 c =
+    let got-not3 : tie.Else3 = search in
+    let got-not1 : tie.Else1 = search in
+    (search refused-laws, lies-none _ _ _ _ _ _ (got-not1 .if1 .left) (got-not3 .if3 .left))
 
 pub refused-field-spec : {M : Type 1} → statement M
 refused-field-spec =

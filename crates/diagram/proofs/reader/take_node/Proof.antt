@@ -1,0 +1,104 @@
+-- `diagram::take_node` meets its contract.
+use Rattle.fields.specs.Positions.{body-laws}
+use Prim.Native.Nat.{_+_, _<_}
+use native.Mathlib.Omega.{arith}
+use Rattle.diagram.proofs.Nodes.{node-below, take-node, take-laws}
+use borrow.Author.Needs.{needs}
+use Rattle.diagram.proofs.reader.take_node.Statement.{statement}
+use Rattle.diagram.proofs.reader.take_node.Tie as tie
+use Rattle.diagram.proofs.reader.node_fault.Reads as node-fault-reads
+use Rattle.diagram.proofs.reader.stopped.Reads as stopped-reads
+use Rattle.diagram.proofs.reader.store_node.Reads as store-node-reads
+
+-- the places on the way: the node has passed, it is stored
+abbrev start-of : tie.Else1 → tie.Start
+start-of c = search
+
+abbrev passed : tie.After-store-node-arg → tie.Else1
+passed c = search
+
+abbrev lent : tie.After-store-node → tie.After-store-node-arg
+lent c = search
+
+-- a node that passed has room in the table
+room : (c : tie.Else1) → start-of c .args .read .nodes + 2 < 512
+room c = node-below _ _ _ _ _ (c .before .node-fault .ensures) (c .if1 .left)
+
+enum-told : tie.Need-enum-told
+enum-told c = search needs
+
+stopped-requires : tie.Need-stopped-requires
+stopped-requires c κs = search needs
+
+enum-known-found : tie.Need-enum-known-found
+enum-known-found c = search needs
+
+stopped-requires-2 : tie.Need-stopped-requires-2
+stopped-requires-2 c κs = search needs
+
+enum-known-found-2 : tie.Need-enum-known-found-2
+enum-known-found-2 c = search needs
+
+sub-body : tie.Need-sub-body
+sub-body c = search (take-laws, body-laws, needs)
+
+part-body-start : tie.Need-part-body-start
+part-body-start c = search (take-laws, body-laws, needs)
+
+part-body-end : tie.Need-part-body-end
+part-body-end c = search (take-laws, body-laws, needs)
+
+index-1-node-fault : tie.Need-index-1-node-fault
+index-1-node-fault c = search needs
+
+node-fault-requires : tie.Need-node-fault-requires
+node-fault-requires c κs = search (take-laws, body-laws, needs)
+
+stopped-requires-3 : tie.Need-stopped-requires-3
+stopped-requires-3 c κs = search needs
+
+returns : tie.Need-returns
+returns c = search (take-laws, body-laws, needs)
+
+add-store-node : tie.Need-add-store-node
+add-store-node c = omega (arith, room c)
+
+store-node-requires : tie.Need-store-node-requires
+store-node-requires c κs = (search body-laws, room (passed c))
+
+add-t15 : tie.Need-add-t15
+add-t15 c = omega (arith, room (passed (lent c)))
+
+returns-2 : tie.Need-returns-2
+returns-2 c = search (take-laws, body-laws, needs)
+
+returns-3 : tie.Need-returns-3
+returns-3 c = search (take-laws, body-laws, needs)
+
+returns-4 : tie.Need-returns-4
+returns-4 c =
+    let p = passed (lent c) in
+    take-node _ _ _ (start-of p .args .inner .now) _ (start-of p .pre) _ _ (search needs) _ (p .before .node-fault .ensures) (p .if1 .left) _ (c .store-node .ensures)
+
+pub take-node-spec : {M : Type 1} → statement M
+take-node-spec =
+    tie.close
+    (tie.spec
+    enum-told
+    stopped-requires
+    enum-known-found
+    stopped-requires-2
+    enum-known-found-2
+    sub-body
+    part-body-start
+    part-body-end
+    index-1-node-fault
+    node-fault-requires
+    stopped-requires-3
+    returns
+    add-store-node
+    store-node-requires
+    add-t15
+    returns-2
+    returns-3
+    returns-4)
