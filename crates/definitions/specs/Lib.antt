@@ -12,3 +12,4 @@ pub mod Marked
 pub mod Logs
 pub mod Slices
 pub mod Corners
+pub mod Calls
