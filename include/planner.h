@@ -28,20 +28,23 @@ extern "C" {
 #endif
 
 /* Numbers of an answer: accepted, or the cause of the refusal. The chart is looked at before the diagram, each from
- * its front; then the space; then whether there is a plan. */
+ * its front; then the space; then whether there is a plan.
+ *
+ * Numbers from 9 on are coming: every number but PLANNER_ACCEPTED is a refusal, and a switch over them needs a default
+ * branch. */
 enum {
     PLANNER_ACCEPTED = 0,
     PLANNER_CUT = 1,     /* the file ends inside a field */
     PLANNER_TAG = 2,     /* empty file, a tag that is not of this file, the head not first or there again */
     PLANNER_LENGTH = 3,  /* the field's length is not that of its tag */
-    PLANNER_HEAD = 4,    /* a chart head beyond a limit */
-    PLANNER_STEP = 5,    /* a step beyond a limit, the 1,025th step included */
-    PLANNER_NODE = 6,    /* a node beyond a limit, the 511th included, or a root that is no node */
+    PLANNER_HEAD = 4,    /* the chart's head breaks a limit */
+    PLANNER_STEP = 5,    /* a step breaks a limit; there is a 1,025th step */
+    PLANNER_NODE = 6,    /* an inner node breaks a limit; there is a 511th; the root is no node */
     PLANNER_SPACE = 7,   /* a work slice or the plan slice is too short */
     PLANNER_NO_PLAN = 8  /* no legal plan exists */
 };
 
-/* Marks of a file. Where no field is at fault, file and place are 0. */
+/* Marks of a file. Where no field is at fault, file and place are 0. Marks from 3 on are coming with the numbers. */
 enum {
     PLANNER_FILE_NONE = 0,
     PLANNER_FILE_CHART = 1,
@@ -127,8 +130,8 @@ uint32_t planner_sweep(const uint8_t *chart, size_t chart_len,
  *   keys .. stack first space.work entries: free     as under 0           as they were
  *   plan          first answer.length entries: the   as it was            as it was
  *                 plan's step numbers in order
- * All further entries stay as they were, those of the log past answer.count included. Which of several cheapest plans
- * is given is left free.
+ * All further entries stay as they were, those of the log past answer.count included. Where several plans
+ * are cheapest, any of them may be given.
  */
 uint32_t planner_guided(const uint8_t *chart, size_t chart_len,
                         const uint8_t *rules, size_t rules_len,
@@ -162,9 +165,9 @@ uint32_t planner_both(const uint8_t *chart, size_t chart_len,
                       planner_answer *sweep, planner_answer *guided);
 
 /*
- * The bytes of the field at a place of a file (PLANNER_FILE_CHART or PLANNER_FILE_RULES): three header bytes and the
- * body by its length, cut at the file's end. The place need not be a field's start. A place at or past the file's end,
- * or another file mark, gives an empty field.
+ * The bytes of the field at a place of a file (PLANNER_FILE_CHART or PLANNER_FILE_RULES): its header and its body, or
+ * what the file has of them. The place need not be a field's start. A place at or past the file's end, or another file
+ * mark, gives an empty field.
  *
  * Returns the field's whole length and copies its bytes to the front of `field` as far as they fit; further entries of
  * `field` stay as they were. With field_len 0 the call only tells the length. The field is a part of the file: it

@@ -76,7 +76,6 @@ class Planned:
     def __init__(self, chart, diagram):
         self.chart, self.diagram = chart, diagram
         self.size = len(diagram.nodes) + 2
-        assert chart.stages * self.size <= MOST_PAIRS
         self.leaving = [[e for e, s in enumerate(chart.steps) if s[0] == stage] for stage in range(chart.stages)]
 
     def ways(self):
@@ -167,6 +166,7 @@ class Planned:
         return len(forced)
 
     def lines(self):
+        assert self.chart.stages * self.size <= MOST_PAIRS
         plans = [way for stage, way in self.ways() if self.legal(stage, way)]
         if not plans:
             return ["refused 8 file 0 place 0"]

@@ -1,12 +1,16 @@
-//! The cases of the differential test: first every systematic damage, then random ones. A case is
-//! fixed by the seed and its number.
+//! The cases of the differential test: first the corners of the limits, then every systematic damage,
+//! then random ones. A case is fixed by the seed and its number.
+
+use std::ops::Range;
 
 use crate::files::{write_chart, write_diagram, Chart, Diagram, Node, Problem, Step};
 use crate::files::{MAX_NODES, MAX_STAGES, MAX_STEPS};
 use crate::generate::broken::{at_limits, damaged, noise, systematic, Files};
 use crate::generate::charts::{long_steps, random_chart, Costs, Ends, Shape, Spans};
+use crate::generate::corners::{self, Size};
 use crate::generate::diagrams::{layers_of_width, random_diagram, scattered};
 use crate::generate::load::load;
+use crate::generate::mutate::mutated;
 use crate::generate::Random;
 
 /// Two files, and the seed from which the lent slices and their content are drawn.
@@ -15,40 +19,66 @@ pub struct Case {
     pub kind: &'static str,
     pub chart: Vec<u8>,
     pub rules: Vec<u8>,
+    /// Where it is odd, no slice is too short.
     pub dirt: u64,
+}
+
+impl Case {
+    pub fn lends_enough(&self) -> bool {
+        self.dirt % 2 == 1
+    }
 }
 
 /// All cases of one seed.
 pub struct Cases {
     seed: u64,
+    corners: Vec<Files>,
     systematic: Vec<Files>,
 }
 
 impl Cases {
     pub fn new(seed: u64) -> Cases {
+        let mut random = Random::of(seed, u64::MAX);
         let mut files = at_limits();
         files.extend(systematic(&document_problem()));
-        let mut random = Random::of(seed, u64::MAX);
         for _ in 0..3 {
             files.extend(systematic(&small_problem(&mut random)));
         }
-        Cases { seed, systematic: files }
+        let corner = |shape: &corners::Shape| written(&shape(&mut random, Size::FULL));
+        Cases { seed, corners: corners::SHAPES.iter().map(corner).collect(), systematic: files }
     }
 
-    /// How many of the cases are systematic damage.
-    pub fn systematic(&self) -> usize {
-        self.systematic.len()
+    /// How many cases are in the corners; they come first.
+    pub fn corners(&self) -> usize {
+        self.corners.len()
+    }
+
+    /// The cases of systematic damage.
+    pub fn systematic(&self) -> Range<usize> {
+        self.corners()..self.first_random()
+    }
+
+    /// The first random case.
+    pub fn first_random(&self) -> usize {
+        self.corners() + self.systematic.len()
     }
 
     /// The case with a number.
     pub fn case(&self, number: usize) -> Case {
         let mut random = Random::of(self.seed, number as u64);
-        let (kind, (chart, rules)) = match self.systematic.get(number) {
+        if let Some((chart, rules)) = self.corners.get(number).cloned() {
+            return Case { kind: "corner", chart, rules, dirt: random.word() | 1 };
+        }
+        let (kind, (chart, rules)) = match self.systematic.get(number - self.corners()) {
             Some(files) => ("systematic damage", files.clone()),
             None => random_files(&mut random),
         };
         Case { kind, chart, rules, dirt: random.word() }
     }
+}
+
+fn written(Problem { chart, diagram }: &Problem) -> Files {
+    (write_chart(chart), write_diagram(diagram))
 }
 
 /// The chart and the diagram that document 01 gives whole.
@@ -81,9 +111,11 @@ fn small_problem(random: &mut Random) -> Problem {
 fn random_files(random: &mut Random) -> (&'static str, Files) {
     match random.below(1_000) {
         0..=9 => ("full size", full_size(random)),
-        10..=29 => ("large", sized(random, 120, 500, 300)),
+        10..=12 => ("corner", written(&corners::any(random))),
+        13..=29 => ("large", sized(random, 120, 500, 300)),
         30..=149 => ("medium", sized(random, 40, 120, 100)),
-        150..=299 => ("damaged", damaged_files(random)),
+        150..=279 => ("damaged", damaged_files(random)),
+        280..=299 => ("large damaged", large_damaged(random)),
         300..=329 => ("noise", (noise(random, 40), noise(random, 30))),
         330..=399 => ("many ways", many_ways(random)),
         400..=449 => ("parallel", sized(random, 3, 30, 30)),
@@ -122,6 +154,23 @@ fn damaged_files(random: &mut Random) -> Files {
         chart = damaged(random, &chart);
     }
     (chart, rules)
+}
+
+/// A chart and a diagram above 1,000 bytes, one or both spoiled anywhere.
+fn large_damaged(random: &mut Random) -> Files {
+    let (steps, nodes) = (random.between(100, MAX_STEPS), random.between(120, MAX_NODES));
+    let stages = random.between(10, usize::from(MAX_STAGES));
+    let shape =
+        Shape { stages, steps, costs: Costs::Wide, spans: Spans::Any, ends: Ends::Outermost };
+    let chart = shape.chart(random);
+    let row = random.subset(steps, nodes);
+    let rules = write_diagram(&layers_of_width(random, &row, 1));
+    let chart = write_chart(&chart);
+    match random.below(10) {
+        0..=5 => (mutated(random, &chart, &rules), rules),
+        6..=8 => (chart.clone(), mutated(random, &rules, &chart)),
+        _ => (mutated(random, &chart, &chart), mutated(random, &rules, &rules)),
+    }
 }
 
 /// Near all limits at once.

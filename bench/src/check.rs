@@ -74,7 +74,6 @@ pub fn sweep(
         _ => return sweep_untouched(before, after),
     };
     let pairs = facts.problem.pairs();
-    demand(after.cost.len() == before.cost.len(), STAY, || "cost changed its length".into())?;
     same(COST_SLICE, "cost", &reference::cost_slice(facts), &after.cost[..pairs])?;
     same_from(pairs, STAY, "cost", &before.cost, &after.cost)?;
     check_free(&before.free(), &after.free(), pairs)?;
@@ -102,20 +101,6 @@ pub fn guided(
     check_free(&before.free(), &after.free(), facts.problem.pairs())?;
     log::check(facts, &before.log, &after.log, answer)?;
     check_plan(facts, &before.plan, &after.plan, answer)
-}
-
-/// Checks that the answers of both searches, each checked by itself, agree.
-pub fn agreement(sweep: Answer, guided: Answer) -> Checked {
-    if sweep.number == 7 || guided.number == 7 {
-        return Ok(());
-    }
-    let alike = (sweep.number, sweep.cost) == (guided.number, guided.cost);
-    demand(alike, "both give a legal plan where one exists, at equal cost", || {
-        format!("{sweep:?}, {guided:?}")
-    })?;
-    demand(guided.count <= sweep.count, "the guided count is never more than the sweep's", || {
-        format!("{} and {}", guided.count, sweep.count)
-    })
 }
 
 /// Checks the space that two files are said to need.
@@ -147,7 +132,6 @@ pub fn refused_field(call: FieldCall, before: &[u8], after: &[u8], length: usize
     demand(length == want.len(), sentence, || {
         format!("{name} has length {length} and not {}", want.len())
     })?;
-    demand(after.len() == before.len(), STAY, || format!("{name} changed its length"))?;
     let fits = length.min(before.len());
     same(sentence, &name, &want[..fits], &after[..fits])?;
     same_from(fits, STAY, &name, before, after)
@@ -231,7 +215,6 @@ fn check_free(
     pairs: usize,
 ) -> Checked {
     for ((name, old), (_, new)) in before.iter().zip(after) {
-        demand(old.len() == new.len(), STAY, || format!("{name} changed its length"))?;
         same_from(pairs, STAY, name, old, new)?;
     }
     Ok(())
@@ -244,9 +227,6 @@ fn check_plan(facts: &Facts, before: &[u16], after: &[u16], answer: Answer) -> C
     }
     let chart = &facts.problem.chart;
     let length = answer.length as usize;
-    demand(length <= after.len() && after.len() == before.len(), PLAN_HELD, || {
-        format!("length {length} in a slice of {}, before {}", after.len(), before.len())
-    })?;
     let plan = &after[..length];
     demand(is_plan(chart, plan), "A plan is a way from start to end.", || format!("{plan:?}"))?;
     demand(

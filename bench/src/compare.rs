@@ -1,12 +1,18 @@
-//! Runs one case over implementations and holds each against the reference.
+//! Runs one case over implementations and holds each against the reference. Files and slices are lent
+//! beside pages that fault when touched.
+
+pub mod slices;
 
 use std::panic::{catch_unwind, AssertUnwindSafe};
 
 use crate::cases::Case;
-use crate::check::{self, FieldCall};
-use crate::files::{read_both, Problem};
+use crate::check::{self, Checked, FieldCall};
+use crate::crash;
+use crate::figures::Figures;
+use crate::files::read_both;
 use crate::generate::Random;
-use crate::planner::{Answer, GuidedSlices, Planner, SweepSlices};
+use crate::lent::{Lent, Side, Span};
+use crate::planner::{GuidedSlices, Planner, SweepSlices};
 use crate::reference::{self, Facts, Judged};
 
 /// Charts with more ways than this from some stage are judged by dynamic programming alone.
@@ -23,67 +29,53 @@ pub struct Difference {
 }
 
 /// What a case was good for.
-#[derive(Clone, Copy, Debug, Default, PartialEq, Eq)]
+#[derive(Clone, Debug)]
 pub struct Outcome {
-    /// The number that the sweep answers.
+    /// The number that a sweep on these slices answers.
     pub number: u32,
+    /// Whether both searches were lent enough.
+    pub enough: bool,
     /// Whether the reference's two methods were compared.
     pub enumerated: bool,
-    /// Of files that pass.
-    pub features: Option<Features>,
+    pub judged: Judged,
 }
 
-/// What a sound chart and diagram have.
-#[derive(Clone, Copy, Debug, Default, PartialEq, Eq)]
-pub struct Features {
-    pub stages: usize,
-    pub nodes: usize,
-    /// Equal sums leave the guided count open.
-    pub tie: bool,
-    pub zero_cost: bool,
-    /// A reached stage from which no way leads to the end.
-    pub dead_end: bool,
-    pub start_above_end: bool,
-}
-
-impl Features {
-    pub fn of(facts: &Facts) -> Features {
-        let Problem { chart, diagram } = &facts.problem;
-        let (fewest, most) = facts.settled_range();
-        let is_dead_end = |(pair, cost): (usize, &Option<u32>)| {
-            cost.is_some() && facts.chart_estimate[pair / facts.references()].is_none()
-        };
-        Features {
-            stages: usize::from(chart.stages),
-            nodes: diagram.nodes.len(),
-            tie: fewest < most,
-            zero_cost: chart.steps.iter().any(|step| step.cost == 0),
-            dead_end: facts.least.iter().enumerate().any(is_dead_end),
-            start_above_end: chart.start > chart.end,
-        }
+impl Outcome {
+    pub fn figures(&self, case: &Case) -> Figures {
+        Figures::of(case, &self.judged, self.enough)
     }
 }
 
 /// Runs every call of every implementation on a case.
 pub fn run(case: &Case, planners: &[Box<dyn Planner>]) -> Result<Outcome, Difference> {
     let (judged, enumerated) = judge(case)?;
+    let outcome = hold(case, judged, planners)?;
+    Ok(Outcome { enumerated, ..outcome })
+}
+
+/// The same with a judgement that is there already.
+pub fn hold(
+    case: &Case,
+    judged: Judged,
+    planners: &[Box<dyn Planner>],
+) -> Result<Outcome, Difference> {
     let mut random = Random::new(case.dirt);
-    let sweep_slices = sweep_slices(&judged, &mut random);
-    let guided_slices = guided_slices(&judged, &mut random);
+    let (sweep, guided) = slices::drawn(&judged, case.lends_enough(), &mut random);
     let places = places(case, &judged, &mut random);
-    let mut number = 0;
     for planner in planners {
-        let answer = run_sweep(case, &judged, planner.as_ref(), &sweep_slices)?;
-        run_guided(case, &judged, planner.as_ref(), &guided_slices)?;
-        run_both(case, &judged, planner.as_ref(), (&sweep_slices, &guided_slices))?;
-        run_space(case, &judged, planner.as_ref())?;
+        let planner = planner.as_ref();
+        let mut trial = Trial::new(case, &judged, planner, &mut random);
+        trial.sweep(&sweep)?;
+        trial.guided(&guided)?;
+        trial.both(&sweep, &guided)?;
+        trial.space()?;
         for place in &places {
-            run_refused_field(case, planner.as_ref(), *place, &mut random)?;
+            trial.refused_field(*place)?;
         }
-        number = answer.number;
     }
-    let features = judged.as_ref().ok().map(Features::of);
-    Ok(Outcome { number, enumerated, features })
+    let number = reference::sweep_answer(&judged, &sweep.work_lengths(), sweep.plan.len()).number;
+    let other = reference::guided_answer(&judged, &guided.work_lengths(), guided.plan.len()).number;
+    Ok(Outcome { number, enough: number != 7 && other != 7, enumerated: false, judged })
 }
 
 /// The reference's judgement; on small problems both of its methods must agree.
@@ -105,98 +97,119 @@ fn judge(case: &Case) -> Result<(Judged, bool), Difference> {
     }
 }
 
-fn run_sweep(
-    case: &Case,
-    judged: &Judged,
-    planner: &dyn Planner,
-    before: &SweepSlices,
-) -> Result<Answer, Difference> {
-    let mut after = before.clone();
-    let answer = guarded(planner, "sweep", || planner.sweep(&case.chart, &case.rules, &mut after))?;
-    check::sweep(judged, before, &after, answer).map_err(|text| Difference {
-        planner: planner.name(),
-        call: "sweep",
-        text,
-    })?;
-    Ok(answer)
+/// One implementation on one case: each call is made on fresh slices, then checked.
+struct Trial<'a> {
+    case: &'a Case,
+    judged: &'a Judged,
+    planner: &'a dyn Planner,
+    random: &'a mut Random,
+    chart: Lent<u8>,
+    rules: Lent<u8>,
 }
 
-fn run_guided(
-    case: &Case,
-    judged: &Judged,
-    planner: &dyn Planner,
-    before: &GuidedSlices,
-) -> Result<Answer, Difference> {
-    let mut after = before.clone();
-    let answer =
-        guarded(planner, "guided", || planner.guided(&case.chart, &case.rules, &mut after))?;
-    check::guided(judged, before, &after, answer).map_err(|text| Difference {
-        planner: planner.name(),
-        call: "guided",
-        text,
-    })?;
-    Ok(answer)
-}
+impl<'a> Trial<'a> {
+    fn new(
+        case: &'a Case,
+        judged: &'a Judged,
+        planner: &'a dyn Planner,
+        random: &'a mut Random,
+    ) -> Trial<'a> {
+        let mut lent = |file: &[u8]| Lent::beside_guard(file, Side::drawn(random));
+        let (chart, rules) = (lent(&case.chart), lent(&case.rules));
+        Trial { case, judged, planner, random, chart, rules }
+    }
 
-fn run_both(
-    case: &Case,
-    judged: &Judged,
-    planner: &dyn Planner,
-    before: (&SweepSlices, &GuidedSlices),
-) -> Result<(), Difference> {
-    let (mut sweep, mut guided) = (before.0.clone(), before.1.clone());
-    let answers = guarded(planner, "both", || {
-        planner.both(&case.chart, &case.rules, &mut sweep, &mut guided)
-    })?;
-    let Some((swept, found)) = answers else { return Ok(()) };
-    check::sweep(judged, before.0, &sweep, swept)
-        .and_then(|()| check::guided(judged, before.1, &guided, found))
-        .and_then(|()| check::agreement(swept, found))
-        .map_err(|text| Difference { planner: planner.name(), call: "both", text })
-}
+    fn sweep(&mut self, before: &SweepSlices) -> Result<(), Difference> {
+        let mut after = before.beside_guards(self.random);
+        let (name, spans) = ("sweep", after.spans());
+        let answer =
+            self.call(name, &spans, |chart, rules, by| by.sweep(chart, rules, &mut after))?;
+        self.intact(name, &after.spans())?;
+        self.checked(name, check::sweep(self.judged, before, &after, answer))
+    }
 
-fn run_space(case: &Case, judged: &Judged, planner: &dyn Planner) -> Result<(), Difference> {
-    let call = "space needed";
-    let found = guarded(planner, call, || planner.space_needed(&case.chart, &case.rules))?;
-    let Some(found) = found else { return Ok(()) };
-    check::space(judged, found).map_err(|text| Difference { planner: planner.name(), call, text })
-}
+    fn guided(&mut self, before: &GuidedSlices) -> Result<(), Difference> {
+        let mut after = before.beside_guards(self.random);
+        let (name, spans) = ("guided", after.spans());
+        let answer =
+            self.call(name, &spans, |chart, rules, by| by.guided(chart, rules, &mut after))?;
+        self.intact(name, &after.spans())?;
+        self.checked(name, check::guided(self.judged, before, &after, answer))
+    }
 
-/// Lends a slice of any length from none to more than the field has.
-fn run_refused_field(
-    case: &Case,
-    planner: &dyn Planner,
-    (mark, place): (u32, usize),
-    random: &mut Random,
-) -> Result<(), Difference> {
-    let call = "refused field";
-    let field = FieldCall { chart: &case.chart, rules: &case.rules, mark, place };
-    let whole = reference::refused_field(&case.chart, &case.rules, mark, place).len();
-    let lent = random.pick(&[0, whole.saturating_sub(1), whole, whole + 1, whole + 5]);
-    let before: Vec<u8> = (0..lent).map(|_| random.word() as u8).collect();
-    let mut after = before.clone();
-    let length = guarded(planner, call, || {
-        planner.refused_field(&case.chart, &case.rules, mark, place, &mut after)
-    })?;
-    let Some(length) = length else { return Ok(()) };
-    check::refused_field(field, &before, &after, length).map_err(|text| Difference {
-        planner: planner.name(),
-        call,
-        text,
-    })
-}
+    fn both(&mut self, first: &SweepSlices, second: &GuidedSlices) -> Result<(), Difference> {
+        let mut sweep = first.beside_guards(self.random);
+        let mut guided = second.beside_guards(self.random);
+        let (name, spans) = ("both", [&sweep.spans()[..], &guided.spans()].concat());
+        let answers = self.call(name, &spans, |chart, rules, by| {
+            by.both(chart, rules, &mut sweep, &mut guided)
+        })?;
+        let Some((swept, found)) = answers else { return Ok(()) };
+        self.intact(name, &[&sweep.spans()[..], &guided.spans()].concat())?;
+        let checked = check::sweep(self.judged, first, &sweep, swept)
+            .and_then(|()| check::guided(self.judged, second, &guided, found));
+        self.checked(name, checked)
+    }
 
-/// Turns a panic of an implementation into a difference.
-fn guarded<T>(
-    planner: &dyn Planner,
-    call: &'static str,
-    run: impl FnOnce() -> T,
-) -> Result<T, Difference> {
-    catch_unwind(AssertUnwindSafe(run)).map_err(|_| Difference {
-        planner: planner.name(),
-        call,
-        text: "the call panicked".into(),
-    })
+    fn space(&mut self) -> Result<(), Difference> {
+        let name = "space needed";
+        let found = self.call(name, &[], |chart, rules, by| by.space_needed(chart, rules))?;
+        let Some(found) = found else { return Ok(()) };
+        self.checked(name, check::space(self.judged, found))
+    }
+
+    /// Lends a slice of any length from none to more than the field has.
+    fn refused_field(&mut self, (mark, place): (u32, usize)) -> Result<(), Difference> {
+        let Case { chart, rules, .. } = self.case;
+        let field = FieldCall { chart, rules, mark, place };
+        let whole = reference::refused_field(chart, rules, mark, place).len();
+        let lent = self.random.pick(&[0, whole.saturating_sub(1), whole, whole + 1, whole + 5]);
+        let before: Vec<u8> = (0..lent).map(|_| self.random.word() as u8).collect();
+        let mut after = Lent::beside_guard(&before, Side::drawn(self.random));
+        let (name, spans) = ("refused field", [after.span("field")]);
+        let length = self.call(name, &spans, |chart, rules, by| {
+            by.refused_field(chart, rules, mark, place, &mut after)
+        })?;
+        let Some(length) = length else { return Ok(()) };
+        self.intact(name, &[after.span("field")])?;
+        self.checked(name, check::refused_field(field, &before, &after, length))
+    }
+
+    /// Makes a call; a panic of it is a difference, and so is a file that has changed.
+    fn call<T>(
+        &self,
+        name: &'static str,
+        lent: &[Span],
+        run: impl FnOnce(&[u8], &[u8], &dyn Planner) -> T,
+    ) -> Result<T, Difference> {
+        let files = [self.chart.span("chart"), self.rules.span("rules")];
+        crash::watch(self.planner.name(), name, &files, lent);
+        let result = catch_unwind(AssertUnwindSafe(|| run(&self.chart, &self.rules, self.planner)));
+        let result = result.map_err(|_| self.difference(name, "the call panicked".into()))?;
+        self.intact(name, &[self.chart.span("chart"), self.rules.span("rules")])?;
+        if self.chart[..] != self.case.chart || self.rules[..] != self.case.rules {
+            return Err(self.difference(name, "a file has changed".into()));
+        }
+        Ok(result)
+    }
+
+    /// The bytes beside the lent slices are as they were.
+    fn intact(&self, name: &'static str, lent: &[Span]) -> Result<(), Difference> {
+        match lent.iter().find(|span| !span.intact) {
+            None => Ok(()),
+            Some(Span { name: slice, .. }) => {
+                Err(self.difference(name, format!("bytes beside the slice {slice} have changed")))
+            }
+        }
+    }
+
+    fn checked(&self, name: &'static str, found: Checked) -> Result<(), Difference> {
+        found.map_err(|text| self.difference(name, text))
+    }
+
+    fn difference(&self, call: &'static str, text: String) -> Difference {
+        Difference { planner: self.planner.name(), call, text }
+    }
 }
 
 /// Marks and places for the refused field: the fault itself, ends, and random ones.
@@ -213,69 +226,4 @@ fn places(case: &Case, judged: &Judged, random: &mut Random) -> Vec<(u32, usize)
     }
     places.extend([0, 3, 257, u32::MAX].map(|mark| (mark, random.below(8))));
     places
-}
-
-/// Lengths of work slices and plan slice: mostly enough, at times one of them too short.
-fn lengths(problem: &Problem, random: &mut Random, slices: usize) -> (Vec<usize>, usize) {
-    let (pairs, steps) = (problem.pairs(), problem.longest_plan());
-    let more = if random.percent(50) { 0 } else { 6 };
-    let mut work: Vec<usize> = (0..slices).map(|_| pairs + random.between(0, more)).collect();
-    let mut plan = steps + random.between(0, more);
-    match random.below(40) {
-        0 => work[random.below(slices)] = pairs - 1,
-        1 => work[random.below(slices)] = random.below(pairs),
-        2 => plan = steps.saturating_sub(1),
-        3 => work.fill(random.below(2)),
-        _ => {}
-    }
-    (work, plan)
-}
-
-/// Lengths for a call that refuses its files.
-fn any_lengths(random: &mut Random, slices: usize) -> (Vec<usize>, usize) {
-    ((0..slices).map(|_| random.below(12)).collect(), random.below(6))
-}
-
-fn drawn_lengths(judged: &Judged, random: &mut Random, slices: usize) -> (Vec<usize>, usize) {
-    match judged {
-        Ok(facts) => lengths(&facts.problem, random, slices),
-        Err(_) => any_lengths(random, slices),
-    }
-}
-
-fn sweep_slices(judged: &Judged, random: &mut Random) -> SweepSlices {
-    let (work, plan) = drawn_lengths(judged, random, 3);
-    SweepSlices {
-        cost: dirty(random, work[0]),
-        via: dirty(random, work[1]),
-        nodes: dirty(random, work[2]),
-        plan: dirty_plan(random, plan),
-    }
-}
-
-fn guided_slices(judged: &Judged, random: &mut Random) -> GuidedSlices {
-    let (work, plan) = drawn_lengths(judged, random, 6);
-    GuidedSlices {
-        keys: dirty(random, work[0]),
-        via: dirty(random, work[1]),
-        heap: dirty(random, work[2]),
-        pos: dirty(random, work[3]),
-        stack: dirty(random, work[4]),
-        log: dirty(random, work[5]),
-        plan: dirty_plan(random, plan),
-    }
-}
-
-/// Any content; small numbers and the mark for "none" are common in it.
-pub fn dirty(random: &mut Random, length: usize) -> Vec<u32> {
-    let entry = |word: u64| match word & 3 {
-        0 => (word >> 32) as u32 & 0x3f,
-        1 => u32::MAX,
-        _ => (word >> 32) as u32,
-    };
-    (0..length).map(|_| entry(random.word())).collect()
-}
-
-pub fn dirty_plan(random: &mut Random, length: usize) -> Vec<u16> {
-    (0..length).map(|_| (random.word() >> 40) as u16).collect()
 }

@@ -2,8 +2,10 @@
 
 pub mod broken;
 pub mod charts;
+pub mod corners;
 pub mod diagrams;
 pub mod load;
+pub mod mutate;
 pub mod random;
 pub mod rules;
 

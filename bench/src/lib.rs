@@ -2,6 +2,8 @@
 //! checkers, generators and timed implementations that the tests and benchmarks are made of.
 
 pub mod files;
+pub mod guard;
+pub mod lent;
 pub mod planner;
 
 pub mod check;
@@ -17,7 +19,12 @@ pub mod library;
 
 pub mod cases;
 pub mod compare;
+pub mod crash;
+pub mod figures;
+pub mod fuzz;
+pub mod sabotage;
 pub mod saved;
+pub mod tally;
 
 pub mod loads;
 pub mod measure;

@@ -1,12 +1,47 @@
 //! The planner's static library as one more implementation (feature `library`), by the wrapper crate
-//! in `rust/`. What a call returns besides its answer is checked here; a panic counts as a difference.
+//! in `rust/`. The number that a call returns besides its answer is checked here; a panic counts as a
+//! difference.
 
 use planner::lent;
 
+use crate::crash;
+use crate::lent::{Lent, Side};
 use crate::planner::{Answer, GuidedSlices, Planner, Space, SweepSlices};
 
 /// The linked library.
-pub struct Library;
+pub struct Library {
+    /// Whether answers are written beside a page that faults, and not on the stack.
+    pub guarded: bool,
+}
+
+impl Library {
+    /// Makes a call that writes an answer: the number it returned, and the answer.
+    fn answered<T: Copy>(
+        &self,
+        unwritten: T,
+        side: Side,
+        call: impl FnOnce(&mut T) -> u32,
+    ) -> (u32, T) {
+        if !self.guarded {
+            let mut answer = unwritten;
+            return (call(&mut answer), answer);
+        }
+        let mut answer = Lent::beside_guard(&[unwritten], side);
+        crash::add(answer.span("answer"));
+        let returned = call(&mut answer[0]);
+        assert!(answer.span("answer").intact, "bytes beside the answer have changed");
+        (returned, answer[0])
+    }
+}
+
+/// Any side, but the same for the same files.
+fn side(chart: &[u8], rules: &[u8]) -> Side {
+    if (chart.len() ^ rules.len()) & 1 == 0 {
+        Side::Start
+    } else {
+        Side::End
+    }
+}
 
 /// An answer before the call, so that an entry that isn't written shows.
 const UNWRITTEN: lent::Answer = lent::Answer {
@@ -16,6 +51,14 @@ const UNWRITTEN: lent::Answer = lent::Answer {
     cost: usize::MAX,
     length: usize::MAX,
     count: usize::MAX,
+};
+
+const UNWRITTEN_SPACE: lent::Space = lent::Space {
+    number: usize::MAX,
+    file: usize::MAX,
+    place: usize::MAX,
+    work: usize::MAX,
+    plan: usize::MAX,
 };
 
 /// The answer, with the number that the call returned.
@@ -48,14 +91,16 @@ impl Planner for Library {
     }
 
     fn sweep(&self, chart: &[u8], rules: &[u8], lent: &mut SweepSlices) -> Answer {
-        let mut answer = UNWRITTEN;
-        let returned = lent::sweep(chart, rules, lend_sweep(lent), &mut answer);
+        let (returned, answer) = self.answered(UNWRITTEN, side(chart, rules), |answer| {
+            lent::sweep(chart, rules, lend_sweep(lent), answer)
+        });
         answer_of(returned, answer)
     }
 
     fn guided(&self, chart: &[u8], rules: &[u8], lent: &mut GuidedSlices) -> Answer {
-        let mut answer = UNWRITTEN;
-        let returned = lent::guided(chart, rules, lend_guided(lent), &mut answer);
+        let (returned, answer) = self.answered(UNWRITTEN, side(chart, rules), |answer| {
+            lent::guided(chart, rules, lend_guided(lent), answer)
+        });
         answer_of(returned, answer)
     }
 
@@ -66,22 +111,23 @@ impl Planner for Library {
         sweep: &mut SweepSlices,
         guided: &mut GuidedSlices,
     ) -> Option<(Answer, Answer)> {
-        let (mut swept, mut found) = (UNWRITTEN, UNWRITTEN);
-        let answers = (&mut swept, &mut found);
-        let returned = lent::both(chart, rules, lend_sweep(sweep), lend_guided(guided), answers);
-        Some((answer_of(swept.number as u32, swept), answer_of(returned, found)))
+        let side = side(chart, rules);
+        let mut found = Answer::default();
+        let (_, swept) = self.answered(UNWRITTEN, side, |swept| {
+            let (returned, second) = self.answered(UNWRITTEN, side, |second| {
+                let answers = (swept, second);
+                lent::both(chart, rules, lend_sweep(sweep), lend_guided(guided), answers)
+            });
+            found = answer_of(returned, second);
+            returned
+        });
+        Some((answer_of(swept.number as u32, swept), found))
     }
 
     fn space_needed(&self, chart: &[u8], rules: &[u8]) -> Option<Space> {
-        let unwritten = usize::MAX;
-        let mut space = lent::Space {
-            number: unwritten,
-            file: unwritten,
-            place: unwritten,
-            work: unwritten,
-            plan: unwritten,
-        };
-        let returned = lent::space_needed(chart, rules, &mut space);
+        let (returned, space) = self.answered(UNWRITTEN_SPACE, side(chart, rules), |space| {
+            lent::space_needed(chart, rules, space)
+        });
         let lent::Space { number, file, place, work, plan } = space;
         assert_eq!(returned as usize, number, "returned number, {space:?}");
         let file = u32::try_from(file).expect("a file mark");
@@ -96,15 +142,6 @@ impl Planner for Library {
         place: usize,
         field: &mut [u8],
     ) -> Option<usize> {
-        let length = lent::refused_field(chart, rules, file, place, field);
-        let (mark, bytes) = match file {
-            1 => (planner::File::Chart, chart),
-            2 => (planner::File::Rules, rules),
-            _ => return Some(length),
-        };
-        let part = planner::refused_field(chart, rules, mark, place);
-        let owner = if part.is_empty() { &chart[..0] } else { &bytes[place..place + length] };
-        assert!(std::ptr::eq(part, owner), "the part of the caller's own slice");
-        Some(length)
+        Some(lent::refused_field(chart, rules, file, place, field))
     }
 }

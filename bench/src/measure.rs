@@ -6,7 +6,7 @@ use std::ffi::c_long;
 use std::hint::black_box;
 
 use crate::check;
-use crate::compare::{dirty, dirty_plan};
+use crate::compare::slices::{dirty, dirty_plan};
 use crate::files::Problem;
 use crate::generate::Random;
 use crate::loads::Load;
@@ -94,7 +94,8 @@ impl Buffers {
         let pairs = problem.pairs();
         let plan = problem.longest_plan();
         let mut work = || dirty(random, pairs);
-        let sweep = SweepSlices { cost: work(), via: work(), nodes: work(), plan: vec![7; plan] };
+        let sweep =
+            SweepSlices { cost: work(), via: work(), nodes: work(), plan: vec![7; plan].into() };
         let guided = GuidedSlices {
             keys: work(),
             via: work(),

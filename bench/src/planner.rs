@@ -1,6 +1,9 @@
 //! What every implementation offers: both searches over lent slices, and, where it has them, both in
 //! one call, the space that they need and the refused field.
 
+use crate::generate::Random;
+use crate::lent::{Lent, Side, Span};
+
 /// The answer of a search.
 #[derive(Clone, Copy, Debug, Default, PartialEq, Eq)]
 pub struct Answer {
@@ -44,20 +47,41 @@ pub struct Space {
 #[derive(Clone, Debug, Default, PartialEq, Eq)]
 pub struct SweepSlices {
     /// By pair: the least cost, a result.
-    pub cost: Vec<u32>,
+    pub cost: Lent<u32>,
     /// By pair: step and node it was reached by; left free.
-    pub via: Vec<u32>,
+    pub via: Lent<u32>,
     /// By row: the reached nodes of a stage; left free.
-    pub nodes: Vec<u32>,
+    pub nodes: Lent<u32>,
     /// The plan's step numbers, a result.
-    pub plan: Vec<u16>,
+    pub plan: Lent<u16>,
 }
 
 impl SweepSlices {
     /// So many entries in each work slice and in the plan slice, all 0.
     pub fn of(work: usize, plan: usize) -> SweepSlices {
-        let slice = || vec![0; work];
-        SweepSlices { cost: slice(), via: slice(), nodes: slice(), plan: vec![0; plan] }
+        let slice = || vec![0; work].into();
+        SweepSlices { cost: slice(), via: slice(), nodes: slice(), plan: vec![0; plan].into() }
+    }
+
+    /// The same content, each slice beside a page that faults.
+    pub fn beside_guards(&self, random: &mut Random) -> SweepSlices {
+        let mut side = || Side::drawn(random);
+        SweepSlices {
+            cost: Lent::beside_guard(&self.cost, side()),
+            via: Lent::beside_guard(&self.via, side()),
+            nodes: Lent::beside_guard(&self.nodes, side()),
+            plan: Lent::beside_guard(&self.plan, side()),
+        }
+    }
+
+    /// Where the slices lie.
+    pub fn spans(&self) -> [Span; 4] {
+        [
+            self.cost.span("cost"),
+            self.via.span("via"),
+            self.nodes.span("nodes"),
+            self.plan.span("plan"),
+        ]
     }
 
     pub fn work_lengths(&self) -> [usize; 3] {
@@ -74,25 +98,25 @@ impl SweepSlices {
 #[derive(Clone, Debug, Default, PartialEq, Eq)]
 pub struct GuidedSlices {
     /// By pair: least cost so far plus estimate; left free.
-    pub keys: Vec<u32>,
+    pub keys: Lent<u32>,
     /// By pair: step and node it was opened by; left free.
-    pub via: Vec<u32>,
+    pub via: Lent<u32>,
     /// The open pairs in heap order; left free.
-    pub heap: Vec<u32>,
+    pub heap: Lent<u32>,
     /// By pair: its position in the heap; left free.
-    pub pos: Vec<u32>,
+    pub pos: Lent<u32>,
     /// The open pairs with the smallest key, last in first out; left free.
-    pub stack: Vec<u32>,
+    pub stack: Lent<u32>,
     /// The settled pairs in order, a result.
-    pub log: Vec<u32>,
+    pub log: Lent<u32>,
     /// The plan's step numbers, a result.
-    pub plan: Vec<u16>,
+    pub plan: Lent<u16>,
 }
 
 impl GuidedSlices {
     /// So many entries in each work slice and in the plan slice, all 0.
     pub fn of(work: usize, plan: usize) -> GuidedSlices {
-        let slice = || vec![0; work];
+        let slice = || vec![0; work].into();
         GuidedSlices {
             keys: slice(),
             via: slice(),
@@ -100,8 +124,35 @@ impl GuidedSlices {
             pos: slice(),
             stack: slice(),
             log: slice(),
-            plan: vec![0; plan],
+            plan: vec![0; plan].into(),
         }
+    }
+
+    /// The same content, each slice beside a page that faults.
+    pub fn beside_guards(&self, random: &mut Random) -> GuidedSlices {
+        let mut side = || Side::drawn(random);
+        GuidedSlices {
+            keys: Lent::beside_guard(&self.keys, side()),
+            via: Lent::beside_guard(&self.via, side()),
+            heap: Lent::beside_guard(&self.heap, side()),
+            pos: Lent::beside_guard(&self.pos, side()),
+            stack: Lent::beside_guard(&self.stack, side()),
+            log: Lent::beside_guard(&self.log, side()),
+            plan: Lent::beside_guard(&self.plan, side()),
+        }
+    }
+
+    /// Where the slices lie.
+    pub fn spans(&self) -> [Span; 7] {
+        [
+            self.keys.span("keys"),
+            self.via.span("via"),
+            self.heap.span("heap"),
+            self.pos.span("pos"),
+            self.stack.span("stack"),
+            self.log.span("log"),
+            self.plan.span("plan"),
+        ]
     }
 
     pub fn work_lengths(&self) -> [usize; 6] {
@@ -166,11 +217,22 @@ pub trait Planner: Send + Sync {
     }
 }
 
-/// Every implementation of this build, the linked library first.
+/// Every implementation of this build, the linked library first; it writes its answers beside pages
+/// that fault when touched.
 pub fn all() -> Vec<Box<dyn Planner>> {
     vec![
         #[cfg(feature = "library")]
-        Box::new(crate::library::Library),
+        Box::new(crate::library::Library { guarded: true }),
+        Box::new(crate::same::Same),
+        Box::new(crate::textbook::Textbook),
+    ]
+}
+
+/// The same to be measured: the library writes its answers on the stack.
+pub fn timed() -> Vec<Box<dyn Planner>> {
+    vec![
+        #[cfg(feature = "library")]
+        Box::new(crate::library::Library { guarded: false }),
         Box::new(crate::same::Same),
         Box::new(crate::textbook::Textbook),
     ]

@@ -12,8 +12,8 @@ use planner_bench::same::Same;
 /// Cases of the differential test, sound and broken ones, with their judgement.
 fn judged_cases() -> Vec<(Case, Judged)> {
     let cases = Cases::new(21);
-    let damage = (0..cases.systematic()).step_by(37);
-    let random = cases.systematic()..cases.systematic() + 400;
+    let damage = cases.systematic().step_by(37);
+    let random = cases.first_random()..cases.first_random() + 400;
     let all = damage.chain(random).map(|number| cases.case(number));
     all.map(|case| (case.clone(), judge(&case.chart, &case.rules))).collect()
 }
@@ -42,19 +42,6 @@ fn every_falsified_space_is_caught() {
             assert!(check::space(&judged, false_one).is_err(), "{name}: {false_one:?}");
         }
     }
-}
-
-#[test]
-fn answers_that_disagree_are_caught() {
-    let plan = Answer::accepted(170, 3, 6);
-    assert_eq!(check::agreement(plan, Answer::accepted(170, 4, 6)), Ok(()));
-    assert_eq!(check::agreement(Answer::no_plan(6), Answer::no_plan(0)), Ok(()));
-    assert_eq!(check::agreement(Answer::refused(7, 0, 0), plan), Ok(()));
-    assert_eq!(check::agreement(plan, Answer::refused(7, 0, 0)), Ok(()));
-    assert!(check::agreement(plan, Answer::accepted(171, 3, 6)).is_err());
-    assert!(check::agreement(plan, Answer::accepted(170, 3, 7)).is_err());
-    assert!(check::agreement(plan, Answer::no_plan(6)).is_err());
-    assert!(check::agreement(Answer::no_plan(6), Answer::no_plan(7)).is_err());
 }
 
 #[test]
@@ -139,7 +126,8 @@ impl Planner for Mistaken {
                 (Answer::refused(7, 0, 0), Answer::refused(7, 0, 0))
             }
             Mistake::PlanInTheOtherSlice => {
-                std::mem::swap(&mut sweep.plan, &mut guided.plan);
+                let shared = sweep.plan.len().min(guided.plan.len());
+                sweep.plan[..shared].swap_with_slice(&mut guided.plan[..shared]);
                 (swept, found)
             }
             _ => (swept, found),
@@ -184,7 +172,7 @@ impl Planner for Mistaken {
 fn passed_cases(mistake: Mistake, limit: usize) -> usize {
     let planners: Vec<Box<dyn Planner>> = vec![Box::new(Mistaken(mistake))];
     let cases = Cases::new(22);
-    let first = cases.systematic();
+    let first = cases.first_random();
     (0..limit).find(|at| run(&cases.case(first + at), &planners).is_err()).unwrap_or(limit)
 }
 

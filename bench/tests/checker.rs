@@ -4,7 +4,7 @@ use std::fmt::Debug;
 
 use planner_bench::cases::{Case, Cases};
 use planner_bench::check::{self, Checked};
-use planner_bench::compare::{dirty, dirty_plan};
+use planner_bench::compare::slices::{dirty, dirty_plan};
 use planner_bench::files::Problem;
 use planner_bench::generate::Random;
 use planner_bench::planner::{Answer, GuidedSlices, Planner, SweepSlices};
@@ -42,7 +42,7 @@ fn guided_slices(problem: &Problem, random: &mut Random) -> GuidedSlices {
 /// Valid problems of the differential test.
 fn problems() -> Vec<(Case, Facts)> {
     let cases = Cases::new(5);
-    (cases.systematic()..cases.systematic() + 1_500)
+    (cases.first_random()..cases.first_random() + 1_500)
         .map(|number| cases.case(number))
         .filter(|case| case.chart.len() < 2_000)
         .filter_map(|case| judge(&case.chart, &case.rules).ok().map(|facts| (case, facts)))
@@ -237,7 +237,7 @@ fn a_refusal_that_touches_a_slice_is_caught() {
     let mut random = Random::new(8);
     let cases = Cases::new(9);
     let mut caught = 0;
-    for number in (0..cases.systematic()).step_by(29) {
+    for number in cases.systematic().step_by(29) {
         let case = cases.case(number);
         let judged = judge(&case.chart, &case.rules);
         let Err(fault) = judged else { continue };

@@ -75,6 +75,16 @@ fn estimates_never_fall_short_along_a_step() {
     }
 }
 
+#[test]
+fn no_more_is_settled_than_is_reached() {
+    let mut random = Random::new(31);
+    for _ in 0..2_000 {
+        let facts = Facts::by_dynamic_programming(&small(&mut random, 12, 40, 30));
+        let (fewest, most) = facts.settled_range();
+        assert!(fewest <= most && most <= facts.reached(), "{facts:?}");
+    }
+}
+
 /// All counts that a guided search can have, by trying every choice among equal keys. None where
 /// that takes more than so many turns.
 struct AllRuns<'a> {

@@ -2,6 +2,7 @@
 
 use planner_bench::cases::document_problem;
 use planner_bench::files::{write_chart, write_diagram, Chart, Diagram, Node, Problem, Step};
+use planner_bench::lent::Lent;
 use planner_bench::planner::{self, Answer, GuidedSlices, SweepSlices};
 use planner_bench::reference::rules::verdict;
 use planner_bench::reference::ways::{cost_of, set_of};
@@ -32,8 +33,8 @@ fn legal_cost(problem: &Problem, steps: &[u16]) -> (u32, bool) {
 /// Answers of both searches of every implementation, with the plans.
 fn answers(problem: &Problem) -> Vec<(Answer, Vec<u16>)> {
     let (chart, rules) = (write_chart(&problem.chart), write_diagram(&problem.diagram));
-    let work = vec![7; problem.pairs()];
-    let plan = vec![9_999; problem.longest_plan()];
+    let work = Lent::from(vec![7; problem.pairs()]);
+    let plan = Lent::from(vec![9_999; problem.longest_plan()]);
     let sweep = SweepSlices {
         cost: work.clone(),
         via: work.clone(),
@@ -52,8 +53,8 @@ fn answers(problem: &Problem) -> Vec<(Answer, Vec<u16>)> {
     let mut found = Vec::new();
     for planner in planner::all() {
         let (mut sweep, mut guided) = (sweep.clone(), guided.clone());
-        found.push((planner.sweep(&chart, &rules, &mut sweep), sweep.plan));
-        found.push((planner.guided(&chart, &rules, &mut guided), guided.plan));
+        found.push((planner.sweep(&chart, &rules, &mut sweep), sweep.plan.to_vec()));
+        found.push((planner.guided(&chart, &rules, &mut guided), guided.plan.to_vec()));
     }
     found
 }

@@ -3,6 +3,7 @@
 use planner_bench::cases::Case;
 use planner_bench::compare::run;
 use planner_bench::files::read_both;
+use planner_bench::lent::Lent;
 use planner_bench::planner::{self, GuidedSlices, SweepSlices};
 
 /// 3 stages from 0 to 2; steps 0, 1, 5 and 1, 2, 7.
@@ -217,11 +218,11 @@ fn the_first_faulty_field_counts() {
 /// Slices of these lengths, all with content that no search would write.
 fn answers(chart: &[u8], rules: &[u8], work: usize, plan: usize) -> Vec<u32> {
     let slice = vec![77; work];
-    let steps = vec![77; plan];
+    let steps = Lent::from(vec![77; plan]);
     let mut numbers = Vec::new();
     for planner in planner::all() {
         for short in 0..9 {
-            let cut = |at: usize| slice[..work - usize::from(at == short)].to_vec();
+            let cut = |at: usize| Lent::from(slice[..work - usize::from(at == short)].to_vec());
             let mut sweep =
                 SweepSlices { cost: cut(0), via: cut(1), nodes: cut(2), plan: steps.clone() };
             let before = sweep.clone();

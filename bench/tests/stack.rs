@@ -11,7 +11,7 @@ fn every_call_stays_within_planner_stack() {
     let line = header.lines().find_map(|line| line.strip_prefix("#define PLANNER_STACK "));
     let most: usize = line.and_then(|number| number.parse().ok()).expect("PLANNER_STACK");
     let loads: Vec<_> = standard().into_iter().chain(growth()).step_by(5).collect();
-    let found = peaks(&planner::all(), &loads);
+    let found = peaks(&planner::timed(), &loads);
     let library = found.iter().filter(|peak| peak.planner == "library");
     assert_eq!(library.clone().count(), 5);
     for peak in library {

@@ -6,7 +6,8 @@
  * The program `plan` lends work for 4,096 pairs and answers 7 beyond that; this example lends what the files need. (The
  * program reads 16,384 bytes of a file, which changes no answer: the first fault of a longer one is at byte 11,273 of a
  * chart or 4,595 of a diagram at the latest.) A file that is missing counts as empty. The bytes of a refused field go to
- * standard error.
+ * standard error. The exit status is 0 for a plan and for a refusal, 2 where writing the output fails, for bad
+ * arguments and where there is no memory.
  */
 #include <planner.h>
 
@@ -130,5 +131,9 @@ int main(int argc, char **argv)
     }
     free(chart.bytes);
     free(rules.bytes);
+    if (fflush(stdout) != 0 || ferror(stdout)) {
+        perror("plan-c: the output is not complete");
+        return 2;
+    }
     return 0;
 }

@@ -7,13 +7,14 @@ use crate::raw;
 /// The cost slice's entry at a pair that isn't reached.
 pub const UNREACHED: u32 = u32::MAX;
 
-/// An answer: number 0, or 1 to 8 for a refusal.
+/// An answer. Its number is 0, or that of a refusal: 1 to 8 today, later versions of the library add
+/// numbers from 9 on. [`Refusal::of`](crate::Refusal::of) names it.
 #[repr(C)]
 #[derive(Clone, Copy, Debug, Default, PartialEq, Eq)]
 pub struct Answer {
-    /// 0 accepted, 1 to 8 refused.
+    /// 0 accepted, any other number refused.
     pub number: usize,
-    /// 1 the chart, 2 the diagram, 0 where no field is at fault.
+    /// The mark of the file at fault: 1 the chart, 2 the diagram; 0 where no field is.
     pub file: usize,
     /// The byte position of the faulty field.
     pub place: usize,
@@ -29,7 +30,7 @@ pub struct Answer {
 #[repr(C)]
 #[derive(Clone, Copy, Debug, Default, PartialEq, Eq)]
 pub struct Space {
-    /// 0 accepted, 1 to 6 refused.
+    /// 0 accepted, any other number refused; never 7 or 8.
     pub number: usize,
     pub file: usize,
     pub place: usize,

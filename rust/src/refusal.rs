@@ -5,15 +5,29 @@ use std::fmt;
 
 use crate::lent::{self, Answer, Space};
 
-/// One of the two files.
+/// One of the two files. Later versions of the library add files.
 #[derive(Clone, Copy, Debug, PartialEq, Eq, Hash)]
+#[non_exhaustive]
 pub enum File {
     Chart = 1,
     Rules = 2,
 }
 
-/// The cause of a refusal, with the place of the faulty field: the byte position of its tag.
+impl File {
+    /// The file of a mark, 1 or 2; none of another.
+    fn of(mark: usize) -> Option<File> {
+        match mark {
+            1 => Some(File::Chart),
+            2 => Some(File::Rules),
+            _ => None,
+        }
+    }
+}
+
+/// The cause of a refusal, with the place of the faulty field: the byte position of its tag. Later
+/// versions of the library add causes, with numbers from 9 on.
 #[derive(Clone, Copy, Debug, PartialEq, Eq, Hash)]
+#[non_exhaustive]
 pub enum Refusal {
     /// 1: the file ends inside a field.
     Cut { file: File, place: usize },
@@ -21,34 +35,37 @@ pub enum Refusal {
     Tag { file: File, place: usize },
     /// 3: the length isn't that of the tag.
     Length { file: File, place: usize },
-    /// 4: a chart head beyond a limit.
+    /// 4: the chart's head breaks a limit.
     Head { file: File, place: usize },
-    /// 5: a step beyond a limit, the 1,025th included.
+    /// 5: a step breaks a limit, or there is a 1,025th step.
     Step { file: File, place: usize },
-    /// 6: a node beyond a limit, the 511th included; or a root that is no node.
+    /// 6: an inner node breaks a limit, there is a 511th, or the root is no node.
     Node { file: File, place: usize },
     /// 7: a work slice or the plan slice is too short.
     Space,
     /// 8: no legal plan. The count of the search: reached pairs of a sweep, settled ones of a
     /// guided search.
     NoPlan { count: usize },
+    /// A number that this crate has no name for, or one from 1 to 6 with a file mark that it has no
+    /// name for: the linked library is newer. The three entries are the answer's own.
+    Other { number: usize, file: usize, place: usize },
 }
 
 impl Refusal {
     /// The refusal of an answer, none where it is accepted.
     pub fn of(answer: &Answer) -> Option<Refusal> {
-        let Answer { number, file, place, count, .. } = *answer;
-        let file = if file == 2 { File::Rules } else { File::Chart };
-        Some(match number {
-            0 => return None,
-            1 => Refusal::Cut { file, place },
-            2 => Refusal::Tag { file, place },
-            3 => Refusal::Length { file, place },
-            4 => Refusal::Head { file, place },
-            5 => Refusal::Step { file, place },
-            6 => Refusal::Node { file, place },
-            7 => Refusal::Space,
-            _ => Refusal::NoPlan { count },
+        let Answer { number, file: mark, place, count, .. } = *answer;
+        Some(match (number, File::of(mark)) {
+            (0, _) => return None,
+            (1, Some(file)) => Refusal::Cut { file, place },
+            (2, Some(file)) => Refusal::Tag { file, place },
+            (3, Some(file)) => Refusal::Length { file, place },
+            (4, Some(file)) => Refusal::Head { file, place },
+            (5, Some(file)) => Refusal::Step { file, place },
+            (6, Some(file)) => Refusal::Node { file, place },
+            (7, _) => Refusal::Space,
+            (8, _) => Refusal::NoPlan { count },
+            _ => Refusal::Other { number, file: mark, place },
         })
     }
 
@@ -58,9 +75,9 @@ impl Refusal {
         Refusal::of(&Answer { number, file, place, ..Answer::default() })
     }
 
-    /// The refusal's number, 1 to 8.
-    pub fn number(&self) -> u32 {
-        match self {
+    /// The refusal's number: 1 to 8, or that of [`Refusal::Other`].
+    pub fn number(&self) -> usize {
+        match *self {
             Refusal::Cut { .. } => 1,
             Refusal::Tag { .. } => 2,
             Refusal::Length { .. } => 3,
@@ -69,10 +86,12 @@ impl Refusal {
             Refusal::Node { .. } => 6,
             Refusal::Space => 7,
             Refusal::NoPlan { .. } => 8,
+            Refusal::Other { number, .. } => number,
         }
     }
 
-    /// The faulty field's file and place; none under 7 and 8.
+    /// The faulty field's file and place; none where no field of either file is at fault, as under 7
+    /// and 8.
     pub fn field_place(&self) -> Option<(File, usize)> {
         match *self {
             Refusal::Cut { file, place }
@@ -81,11 +100,12 @@ impl Refusal {
             | Refusal::Head { file, place }
             | Refusal::Step { file, place }
             | Refusal::Node { file, place } => Some((file, place)),
+            Refusal::Other { file, place, .. } => File::of(file).map(|file| (file, place)),
             Refusal::Space | Refusal::NoPlan { .. } => None,
         }
     }
 
-    /// The faulty field's bytes, a part of the caller's own file; empty under 7 and 8.
+    /// The faulty field's bytes, a part of the caller's own file; empty where there is none.
     pub fn field<'a>(&self, chart: &'a [u8], rules: &'a [u8]) -> &'a [u8] {
         match self.field_place() {
             Some((file, place)) => refused_field(chart, rules, file, place),
@@ -94,8 +114,8 @@ impl Refusal {
     }
 }
 
-/// The field at a place of a file: three header bytes and the body by its length, cut at the file's
-/// end. A place at or past the end gives an empty part of the chart.
+/// The field at a place of a file: its header and its body, or what the file has of them. A place at
+/// or past the end gives an empty part of the chart.
 pub fn refused_field<'a>(chart: &'a [u8], rules: &'a [u8], file: File, place: usize) -> &'a [u8] {
     let length = lent::refused_field(chart, rules, file as u32, place, &mut []);
     let bytes = match file {
@@ -109,7 +129,10 @@ pub fn refused_field<'a>(chart: &'a [u8], rules: &'a [u8], file: File, place: us
 impl fmt::Display for Refusal {
     /// As the program `plan` writes it.
     fn fmt(&self, f: &mut fmt::Formatter) -> fmt::Result {
-        let (file, place) = self.field_place().map_or((0, 0), |(file, place)| (file as u32, place));
+        let (file, place) = match *self {
+            Refusal::Other { file, place, .. } => (file, place),
+            _ => self.field_place().map_or((0, 0), |(file, place)| (file as usize, place)),
+        };
         write!(f, "refused {} file {file} place {place}", self.number())
     }
 }

@@ -69,6 +69,81 @@ fn every_refusal() {
     assert_eq!(cases[7].2.to_string(), "refused 8 file 0 place 0");
 }
 
+/// The refusal of an answer with these entries.
+fn refusal_of(number: usize, file: usize, place: usize) -> Option<Refusal> {
+    Refusal::of(&Answer { number, file, place, cost: 0, length: 0, count: 5 })
+}
+
+/// The name of a refusal and of its file. That the last arms can be reached shows that both enums may
+/// grow: without the mark `non_exhaustive` they are errors.
+#[deny(unreachable_patterns)]
+fn names(refusal: Refusal) -> (&'static str, &'static str) {
+    let name = match refusal {
+        Refusal::Cut { .. } => "cut",
+        Refusal::Tag { .. } => "tag",
+        Refusal::Length { .. } => "length",
+        Refusal::Head { .. } => "head",
+        Refusal::Step { .. } => "step",
+        Refusal::Node { .. } => "node",
+        Refusal::Space => "space",
+        Refusal::NoPlan { .. } => "no plan",
+        Refusal::Other { .. } => "other",
+        _ => "newer",
+    };
+    let file = match refusal.field_place() {
+        Some((File::Chart, _)) => "chart",
+        Some((File::Rules, _)) => "rules",
+        Some((_, _)) => "newer",
+        None => "neither",
+    };
+    (name, file)
+}
+
+#[test]
+fn each_number_has_its_own_refusal() {
+    let expected = ["cut", "tag", "length", "head", "step", "node"];
+    for (number, name) in (1..).zip(expected) {
+        for (file, file_name) in [(1, "chart"), (2, "rules")] {
+            let refusal = refusal_of(number, file, 14).expect("a refusal");
+            assert_eq!(refusal.number(), number);
+            assert_eq!(names(refusal), (name, file_name));
+            assert_eq!(refusal.to_string(), format!("refused {number} file {file} place 14"));
+        }
+    }
+    assert_eq!(refusal_of(0, 0, 0), None);
+    assert_eq!(refusal_of(7, 0, 0), Some(Refusal::Space));
+    assert_eq!(refusal_of(8, 0, 0), Some(Refusal::NoPlan { count: 5 }));
+    assert_eq!(refusal_of(7, 0, 0).map(names), Some(("space", "neither")));
+    assert_eq!(refusal_of(8, 0, 0).map(names), Some(("no plan", "neither")));
+    assert_eq!(refusal_of(9, 0, 0).map(names), Some(("other", "neither")));
+}
+
+#[test]
+fn a_number_without_a_name_is_kept() {
+    let (chart, rules) = document();
+    for number in [9, 10, 255, usize::MAX] {
+        let refusal = refusal_of(number, 2, 14).expect("a refusal");
+        assert_eq!(refusal, Refusal::Other { number, file: 2, place: 14 });
+        assert_eq!(refusal.number(), number);
+        assert_eq!(refusal.field_place(), Some((File::Rules, 14)));
+        assert_eq!(refusal.field(&chart, &rules), &rules[14..]);
+        assert_eq!(refusal.to_string(), format!("refused {number} file 2 place 14"));
+    }
+}
+
+#[test]
+fn a_file_without_a_name_is_kept() {
+    let (chart, rules) = document();
+    for (number, file, place) in [(6, 3, 5), (4, 0, 0), (1, usize::MAX, 9), (12, 0, 0), (13, 3, 5)]
+    {
+        let refusal = refusal_of(number, file, place).expect("a refusal");
+        assert_eq!(refusal, Refusal::Other { number, file, place });
+        assert_eq!(refusal.field_place(), None);
+        assert!(refusal.field(&chart, &rules).is_empty());
+        assert_eq!(refusal.to_string(), format!("refused {number} file {file} place {place}"));
+    }
+}
+
 #[test]
 fn the_refused_field_is_a_part_of_the_callers_file() {
     let (chart, rules) = document();

@@ -96,7 +96,7 @@ fn parse(mut args: impl Iterator<Item = String>) -> Result<Options, String> {
 fn run(options: &Options) -> Result<(), String> {
     let page = options.docs.as_deref().map(Page::read).transpose()?;
     let busy = load_average();
-    let planners = planner::all();
+    let planners = planner::timed();
     let names: Vec<&str> = planners.iter().map(|planner| planner.name()).collect();
     println!("{}", table_head(&names));
     let main = measure_all(standard(), options, &planners, &names)?;

@@ -1,35 +1,45 @@
 //! Differential test: every implementation against the reference, on many cases.
 
-use std::collections::BTreeMap;
 use std::path::{Path, PathBuf};
-use std::process::ExitCode;
-use std::time::Instant;
+use std::process::{Command, ExitCode};
 
 use planner_bench::cases::{Case, Cases};
-use planner_bench::compare::{run, Difference, Features, Outcome};
+use planner_bench::compare::{run, Difference};
+use planner_bench::crash;
 use planner_bench::planner::{self, Planner};
+use planner_bench::sabotage;
 use planner_bench::saved;
+use planner_bench::tally::Tally;
 
 const HELP: &str = "\
 difftest: runs every call of every implementation (sweep, guided search, both in one, the space
 needed, the refused field) on many chart and diagram files and holds each result against the
-reference.
+reference. Files and slices are lent beside pages that fault when touched.
 
-usage: difftest [--cases N] [--seed N] [--first N] [--save DIR] [--save-each]
+usage: difftest [--cases N] [--seed N] [--first N] [--save DIR] [--save-each] [--sabotage NAME]
        difftest --replay DIR
+       difftest --sabotage all
 
   --cases N     cases for each seed (default 200000)
   --seed N      a seed to run after the fixed one
   --first N     begin each seed at this case number (default 0)
   --save DIR    where a failing case is saved (default failing-case)
-  --save-each   save every case before it is run, to find one that crashes
+  --save-each   save every case before it is run, to find one that ends the program by force
   --replay DIR  run the one case saved in a folder
+  --sabotage NAME
+                run one implementation that is spoiled in this way, which must be found; `all` tries
+                each way and tells the case that found it; an unknown NAME lists all
   --help        this text
 
-The exit status is 0 if all cases agree, 1 at the first difference, 2 for bad arguments.";
+The exit status is 0 if all cases agree (of `--sabotage all`: if each was found), 1 at the first
+difference or crash, or where a run of the default length misses a corner, 2 for bad arguments.";
 
 const FIXED_SEED: u64 = 20_170_204;
-const PROGRESS_EVERY: usize = 20_000;
+const CASES: usize = 200_000;
+/// Seconds after which a case is taken not to end.
+const PATIENCE: u32 = 60;
+/// Characters of a difference that `--sabotage all` shows.
+const SHOWN: usize = 200;
 
 struct Options {
     cases: usize,
@@ -38,6 +48,7 @@ struct Options {
     save: PathBuf,
     save_each: bool,
     replay: Option<PathBuf>,
+    sabotage: Option<String>,
     help: bool,
 }
 
@@ -53,21 +64,39 @@ fn main() -> ExitCode {
         println!("{HELP}");
         return ExitCode::SUCCESS;
     }
-    let planners = planner::all();
+    if options.sabotage.as_deref() == Some("all") {
+        return sabotage_all();
+    }
+    let planners = match planners(&options) {
+        Ok(planners) => planners,
+        Err(text) => {
+            eprintln!("difftest: {text}");
+            return ExitCode::from(2);
+        }
+    };
     match &options.replay {
         Some(folder) => replay(folder, &planners),
         None => run_all(&options, &planners),
     }
 }
 
+/// Every implementation, or the first one spoiled.
+fn planners(options: &Options) -> Result<Vec<Box<dyn Planner>>, String> {
+    match &options.sabotage {
+        None => Ok(planner::all()),
+        name => Ok(vec![sabotage::first_planner(name.as_deref())?]),
+    }
+}
+
 fn parse(mut args: impl Iterator<Item = String>) -> Result<Options, String> {
     let mut options = Options {
-        cases: 200_000,
+        cases: CASES,
         first: 0,
         seed: None,
         save: PathBuf::from("failing-case"),
         save_each: false,
         replay: None,
+        sabotage: None,
         help: false,
     };
     while let Some(arg) = args.next() {
@@ -79,6 +108,7 @@ fn parse(mut args: impl Iterator<Item = String>) -> Result<Options, String> {
             "--save" => options.save = PathBuf::from(value()?),
             "--save-each" => options.save_each = true,
             "--replay" => options.replay = Some(PathBuf::from(value()?)),
+            "--sabotage" => options.sabotage = Some(value()?),
             "--help" | "-h" => options.help = true,
             _ => return Err(format!("unknown argument {arg}")),
         }
@@ -91,6 +121,7 @@ fn number(name: &str, text: &str) -> Result<u64, String> {
 }
 
 fn run_all(options: &Options, planners: &[Box<dyn Planner>]) -> ExitCode {
+    crash::install(&options.save);
     let names: Vec<&str> = planners.iter().map(|planner| planner.name()).collect();
     println!("implementations: {}", names.join(", "));
     let mut tally = Tally::new();
@@ -99,10 +130,23 @@ fn run_all(options: &Options, planners: &[Box<dyn Planner>]) -> ExitCode {
             return code;
         }
     }
+    crash::end_within(0);
     tally.print();
     let seconds = tally.begun.elapsed().as_secs_f64();
     println!("{} cases, no difference, {seconds:.1} s", tally.cases);
+    let whole = options.first == 0 && options.cases >= CASES;
+    if whole && !reached_corners(&tally) {
+        return ExitCode::from(1);
+    }
     ExitCode::SUCCESS
+}
+
+/// Whether the cases went as far as they should; tells where they did not.
+fn reached_corners(tally: &Tally) -> bool {
+    for (corner, reached) in tally.missed() {
+        println!("the cases miss a corner: {} is {reached}, not {}", corner.name, corner.wanted);
+    }
+    tally.missed().is_empty()
 }
 
 fn run_seed(
@@ -112,14 +156,22 @@ fn run_seed(
     tally: &mut Tally,
 ) -> Result<(), ExitCode> {
     let cases = Cases::new(seed);
-    println!("seed {seed}: {} cases of systematic damage first", cases.systematic());
+    println!(
+        "seed {seed}: first {} cases in corners, then {} of systematic damage",
+        cases.corners(),
+        cases.systematic().len()
+    );
     for number in options.first..options.first.saturating_add(options.cases) {
         let case = cases.case(number);
         if options.save_each {
             save(&options.save, &case, None);
         }
-        match run(&case, planners) {
-            Ok(outcome) => tally.add(&case, outcome),
+        crash::begin(&case, Some((seed, number as u64)));
+        crash::end_within(PATIENCE);
+        let outcome = run(&case, planners);
+        crash::end();
+        match outcome {
+            Ok(outcome) => tally.add(&case, &outcome),
             Err(found) => {
                 print!("seed {seed}, case {number}, ");
                 report(&case, &found);
@@ -141,6 +193,9 @@ fn replay(folder: &Path, planners: &[Box<dyn Planner>]) -> ExitCode {
             return ExitCode::from(2);
         }
     };
+    crash::install(folder);
+    crash::begin(&case, None);
+    crash::end_within(PATIENCE);
     match run(&case, planners) {
         Ok(outcome) => {
             println!("number {}\n1 case, no difference", outcome.number);
@@ -154,6 +209,39 @@ fn replay(folder: &Path, planners: &[Box<dyn Planner>]) -> ExitCode {
     }
 }
 
+/// Runs this program with each sabotage, since some of them end it.
+fn sabotage_all() -> ExitCode {
+    let mut missed = 0;
+    for sabotage in &sabotage::ALL {
+        match caught(sabotage.name) {
+            Ok(line) => println!("{}: {line}", sabotage.name),
+            Err(text) => {
+                missed += 1;
+                println!("{}: NOT FOUND: {text}", sabotage.name);
+            }
+        }
+    }
+    println!("{} sabotages, {missed} not found", sabotage::ALL.len());
+    ExitCode::from(u8::from(missed > 0))
+}
+
+/// The line with which a run ended that was spoiled, or why it is none.
+fn caught(name: &str) -> Result<String, String> {
+    let program = std::env::current_exe().map_err(|error| error.to_string())?;
+    let folder = std::env::temp_dir().join(format!("difftest-{}-{name}", std::process::id()));
+    let run = Command::new(program).args(["--sabotage", name, "--save"]).arg(&folder).output();
+    let run = run.map_err(|error| error.to_string())?;
+    let saved = saved::load(&folder).is_ok();
+    let _ = std::fs::remove_dir_all(&folder);
+    let shown = String::from_utf8_lossy(&run.stdout);
+    let seed = format!("seed {FIXED_SEED}, case ");
+    let line = shown.lines().find(|line| line.starts_with(&seed));
+    match (run.status.code(), line) {
+        (Some(1), Some(line)) if saved => Ok(line.chars().take(SHOWN).collect()),
+        (code, line) => Err(format!("status {code:?}, case saved: {saved}, {line:?}")),
+    }
+}
+
 fn report(case: &Case, found: &Difference) {
     println!("{}: {} {}: {}", case.kind, found.planner, found.call, found.text);
 }
@@ -161,66 +249,5 @@ fn report(case: &Case, found: &Difference) {
 fn save(folder: &Path, case: &Case, found: Option<&Difference>) {
     if let Err(error) = saved::save(folder, case, found) {
         eprintln!("difftest: cannot save to {}: {error}", folder.display());
-    }
-}
-
-/// What the cases were.
-struct Tally {
-    begun: Instant,
-    cases: usize,
-    enumerated: usize,
-    by_kind: BTreeMap<&'static str, usize>,
-    by_number: BTreeMap<u32, usize>,
-    sound: Vec<Features>,
-}
-
-impl Tally {
-    fn new() -> Tally {
-        Tally {
-            begun: Instant::now(),
-            cases: 0,
-            enumerated: 0,
-            by_kind: BTreeMap::new(),
-            by_number: BTreeMap::new(),
-            sound: Vec::new(),
-        }
-    }
-
-    fn add(&mut self, case: &Case, outcome: Outcome) {
-        self.cases += 1;
-        self.enumerated += usize::from(outcome.enumerated);
-        *self.by_kind.entry(case.kind).or_default() += 1;
-        *self.by_number.entry(outcome.number).or_default() += 1;
-        self.sound.extend(outcome.features);
-        if self.cases % PROGRESS_EVERY == 0 {
-            println!("{} cases, {:.1} s", self.cases, self.begun.elapsed().as_secs_f64());
-        }
-    }
-
-    fn print(&self) {
-        println!("by kind: {:?}", self.by_kind);
-        println!("by the sweep's number: {:?}", self.by_number);
-        println!("judged by enumeration as well: {}", self.enumerated);
-        self.print_sound();
-    }
-
-    /// What the sound files cover.
-    fn print_sound(&self) {
-        let range = |of: fn(&Features) -> usize| {
-            let values = || self.sound.iter().map(of);
-            format!("{} to {}", values().min().unwrap_or(0), values().max().unwrap_or(0))
-        };
-        let count = |of: fn(&&Features) -> bool| self.sound.iter().filter(of).count();
-        println!(
-            "sound files: {}, of {} stages and {} nodes; with ties {}, zero costs {}, dead ends {}, \
-             start above end {}",
-            self.sound.len(),
-            range(|f| f.stages),
-            range(|f| f.nodes),
-            count(|f| f.tie),
-            count(|f| f.zero_cost),
-            count(|f| f.dead_end),
-            count(|f| f.start_above_end)
-        );
     }
 }

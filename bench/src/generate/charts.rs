@@ -15,6 +15,8 @@ pub enum Costs {
     Wide,
     /// The smallest and the largest ones.
     Limits,
+    /// The largest one everywhere.
+    Largest,
 }
 
 /// How far the steps go.
@@ -54,7 +56,10 @@ impl Shape {
         Shape {
             stages: random.between(1, stages),
             steps: random.between(0, steps),
-            costs: random.pick(&[Zero, Equal, Few, Few, MostlyZero, Wide, Wide, Limits]),
+            costs: random.pick(&[
+                Zero, Equal, Few, Few, Few, MostlyZero, MostlyZero, Wide, Wide, Wide, Limits,
+                Largest,
+            ]),
             spans: random.pick(&[Spans::Next, Spans::Next, Spans::Short, Spans::Any, Spans::Hubs]),
             ends: match random.below(20) {
                 0 => Ends::Same,
@@ -127,6 +132,7 @@ impl Shape {
             Costs::MostlyZero => random.between(1, 20) as u32,
             Costs::Wide => random.between(0, MAX_COST as usize) as u32,
             Costs::Limits => random.pick(&[0, 1, MAX_COST - 1, MAX_COST]),
+            Costs::Largest => MAX_COST,
         }
     }
 }

@@ -3,13 +3,14 @@
 use Prim.Native.Nat.{ℕ, _+_, _-_, _<_}
 use mathlib.Core.Path.{_≡_, refl, sym, _∙_, ap}
 use mathlib.Core.List.{List, [], _∷_, _++_}
-use lib.ListN.{length, length-append}
+use lib.ListN.{length, getD, length-append}
 use lib.Seq.{getD-append-seam}
 use native.Mathlib.Omega.{arith}
-use Rattle.definitions.specs.Fields.{part, fieldAt, stopped}
-use Rattle.definitions.specs.Charts.{ChartStep, noStep, stepFault, stepOf, lastFrom, stepFaultAfter, scanSteps}
+use Rattle.definitions.specs.Fields.{part, only, fieldAt, stopped}
+use Rattle.definitions.specs.Charts.{ChartStep, noStep, stepFault, stepOf, lastFrom, stepFaultAfter, stepGrammar, scanSteps}
 use Rattle.definitions.specs.declared.Field.{Field}
 use Rattle.definitions.specs.declared.Field.the-variants.{Absent, Faulty, Whole}
+use Rattle.fields.specs.Positions.{only-gives}
 use Rattle.fields.specs.Scans.{Reading, reading-start, reading-done, reading-faulty, reading-bad, reading-step}
 use Rattle.chart.specs.Tables.{stepsIn, heldSteps, Room, Filled, stepBody, stepsAnswer}
 use Rattle.chart.specs.Held.{stored, stored-room, held-grown, from-kept, to-kept, cost-kept, nothing-filled}
@@ -30,21 +31,21 @@ last-grown before x =
 
 filled-grown : (before : List ChartStep) (x : ChartStep) (count : ℕ) (packed₀ packed : List (List ℕ)) → length before ≡ count → count < 1024
     → Filled before packed₀ packed → Filled (before ++ x ∷ []) packed₀ (stored packed count x)
-filled-grown before x count packed₀ packed counted below now =
+filled-grown before x count packed₀ packed counted below sofar =
     let long : length (before ++ x ∷ []) ≡ count + 1 = omega (arith, length-append before (x ∷ [])) in
-    let held : heldSteps count (stepsIn packed) ≡ before = rw (← counted) (now .held) in
+    let held : heldSteps count (stepsIn packed) ≡ before = rw (← counted) (sofar .held) in
     record {
-      held = rw (long, held-grown count packed x (now .room) below, held);
-      from-rest = rw long (from-kept count packed x (now .room) below packed₀ (rw (← counted) (now .from-rest)));
-      to-rest = rw long (to-kept count packed x (now .room) below packed₀ (rw (← counted) (now .to-rest)));
-      cost-rest = rw long (cost-kept count packed x (now .room) below packed₀ (rw (← counted) (now .cost-rest)));
-      room = stored-room count packed x (now .room) below;
+      held = rw (long, held-grown count packed x (sofar .room) below, held);
+      from-rest = rw long (from-kept count packed x (sofar .room) below packed₀ (rw (← counted) (sofar .from-rest)));
+      to-rest = rw long (to-kept count packed x (sofar .room) below packed₀ (rw (← counted) (sofar .to-rest)));
+      cost-rest = rw long (cost-kept count packed x (sofar .room) below packed₀ (rw (← counted) (sofar .cost-rest)));
+      room = stored-room count packed x (sofar .room) below;
     }
 
 -- what is read so far, and that the rest of the walk is still to come
 pub record SoFar (s : List ℕ) (first stages : ℕ) (packed₀ packed : List (List ℕ)) (at last count : ℕ) : Type 0 where
   pub before : List ChartStep
-  pub reading : Reading s 2 8 (stepFaultAfter stages) stepOf first at before
+  pub reading : Reading s (stepGrammar stages) first at before
   pub counted : length before ≡ count
   pub latest : lastFrom before ≡ last
   pub filled : Room packed₀ → Filled before packed₀ packed
@@ -54,58 +55,58 @@ module _ (s : List ℕ) (first stages : ℕ) (packed₀ : List (List ℕ)) where
   unfolding heldSteps
   steps-start = record {
     before = [];
-    reading = reading-start s 2 8 (stepFaultAfter stages) stepOf first;
+    reading = reading-start s (stepGrammar stages) first;
     counted = refl;
     latest = refl;
     filled = nothing-filled packed₀;
   }
 
-  module _ (packed : List (List ℕ)) (at last count : ℕ) (now : SoFar s first stages packed₀ packed at last count) (r : Field)
-      (given : r ≡ fieldAt s at 2 8) where
+  module _ (packed : List (List ℕ)) (at last count : ℕ) (sofar : SoFar s first stages packed₀ packed at last count) (r : Field)
+      (given : r ≡ fieldAt s at (only 2 8)) where
     module _ (found : r ≡ Absent) where
-      done : scanSteps s stages first ≡ stopped (now .before) 0 0
-      done = reading-done s 2 8 (stepFaultAfter stages) stepOf first at (now .before) (now .reading) r given found
+      done : scanSteps s stages first ≡ stopped (sofar .before) 0 0
+      done = reading-done s (stepGrammar stages) first at (sofar .before) (sofar .reading) r given found
 
       pub steps-done : (x : StepsRead) → x ≡ record { number = 0; place = 0; steps = count } → x ≡ stepsAnswer (scanSteps s stages first)
-      steps-done x e = rw (done, now .counted) e
+      steps-done x e = rw (done, sofar .counted) e
 
       pub steps-done-filled : Room packed₀ → Filled (scanSteps s stages first .passed) packed₀ packed
-      steps-done-filled = rw done (now .filled)
+      steps-done-filled = rw done (sofar .filled)
 
     module _ (k : ℕ) (found : r ≡ Faulty k) where
-      faulty : scanSteps s stages first ≡ stopped (now .before) k at
-      faulty = reading-faulty s 2 8 (stepFaultAfter stages) stepOf first at (now .before) (now .reading) r given k found
+      faulty : scanSteps s stages first ≡ stopped (sofar .before) k at
+      faulty = reading-faulty s (stepGrammar stages) first at (sofar .before) (sofar .reading) r given k found
 
       pub steps-faulty : (x : StepsRead) → x ≡ record { number = k; place = at; steps = count } → x ≡ stepsAnswer (scanSteps s stages first)
-      steps-faulty x e = rw (faulty, now .counted) e
+      steps-faulty x e = rw (faulty, sofar .counted) e
 
       pub steps-faulty-filled : Room packed₀ → Filled (scanSteps s stages first .passed) packed₀ packed
-      steps-faulty-filled = rw faulty (now .filled)
+      steps-faulty-filled = rw faulty (sofar .filled)
 
     module _ (a e : ℕ) (found : r ≡ Whole a e) (v : ℕ) (judged : v ≡ stepFault stages last count (part s a e)) where
-      same-fault : v ≡ stepFaultAfter stages (now .before) (part s a e)
-      same-fault = rw (now .counted, now .latest) judged
+      same-fault : v ≡ stepFaultAfter stages (sofar .before) (part s a e)
+      same-fault = rw (sofar .counted, sofar .latest) judged
 
       module _ (fails : v ≡ 0 → ⊥) where
-        bad : scanSteps s stages first ≡ stopped (now .before) v at
-        bad = reading-bad s 2 8 (stepFaultAfter stages) stepOf first at (now .before) (now .reading) r given a e found v same-fault fails
+        bad : scanSteps s stages first ≡ stopped (sofar .before) v at
+        bad = reading-bad s (stepGrammar stages) first at (sofar .before) (sofar .reading) r given a e found (only-gives 2 8 (getD s at 0)) v same-fault fails
 
         pub steps-bad : (x : StepsRead) → x ≡ record { number = v; place = at; steps = count } → x ≡ stepsAnswer (scanSteps s stages first)
-        steps-bad x e = rw (bad, now .counted) e
+        steps-bad x e = rw (bad, sofar .counted) e
 
         pub steps-bad-filled : Room packed₀ → Filled (scanSteps s stages first .passed) packed₀ packed
-        steps-bad-filled = rw bad (now .filled)
+        steps-bad-filled = rw bad (sofar .filled)
 
       pub steps-step : v ≡ 0 → (x : StepBody) → x ≡ stepBody (part s a e)
           → SoFar s first stages packed₀ (stored packed count (record { from = x .from; to = x .to; cost = x .cost })) e (x .from) (count + 1)
       steps-step passes x read = rw read (record {
-        before = now .before ++ stepOf (part s a e) ∷ [];
-        reading = reading-step s 2 8 (stepFaultAfter stages) stepOf first at (now .before) (now .reading) r given a e found v same-fault passes;
-        counted = omega (arith, length-append (now .before) (stepOf (part s a e) ∷ []), now .counted);
-        latest = last-grown (now .before) (stepOf (part s a e));
+        before = sofar .before ++ stepOf (part s a e) ∷ [];
+        reading = reading-step s (stepGrammar stages) first at (sofar .before) (sofar .reading) r given a e found (only-gives 2 8 (getD s at 0)) v same-fault passes;
+        counted = omega (arith, length-append (sofar .before) (stepOf (part s a e) ∷ []), sofar .counted);
+        latest = last-grown (sofar .before) (stepOf (part s a e));
         filled =
             λ room.
-            filled-grown (now .before) (stepOf (part s a e)) count packed₀ packed (now .counted) (step-below v stages last count (part s a e) judged passes) (now .filled room);
+            filled-grown (sofar .before) (stepOf (part s a e)) count packed₀ packed (sofar .counted) (step-below v stages last count (part s a e) judged passes) (sofar .filled room);
       })
 
 pub ruleset steps-laws = (

@@ -5,7 +5,7 @@ use mathlib.Core.Path.{_≡_}
 use mathlib.Core.List.{List}
 use borrow.Author.Tests.{eq-eqb, ne-eqb}
 use Rattle.definitions.specs.Basics.{pick}
-use Rattle.definitions.specs.Fields.{part, fieldAt, onField}
+use Rattle.definitions.specs.Fields.{part, only, fieldAt, onField}
 use Rattle.definitions.specs.Charts.{headFault, badHead, withSteps, scanSteps, readChart}
 use Rattle.definitions.specs.Charts as charts
 use Rattle.definitions.specs.declared.Field.{Field}
@@ -20,7 +20,7 @@ use Rattle.chart.specs.declared.reader.StepsRead.{StepsRead}
 untouched : (s : List ℕ) (k : ℕ) (packed : List (List ℕ)) → readChart s ≡ badHead k → Room packed → Filled (readChart s .chart .steps) packed packed
 untouched s k packed p = rw p (nothing-filled packed)
 
-module _ (s : List ℕ) (r : Field) (given : r ≡ fieldAt s 0 1 6) where
+module _ (s : List ℕ) (r : Field) (given : r ≡ fieldAt s 0 (only 1 6)) where
   module _ (found : r ≡ Absent) where
     empty : readChart s ≡ badHead 2
     unfolding readChart onField

@@ -11,8 +11,8 @@ use native.Mathlib.Omega.{arith}
 use native.Mathlib.Decide.{decLt}
 use borrow.Author.Tests.{eqb-true, eqb-false}
 use Rattle.definitions.specs.Basics.{pick}
-use Rattle.definitions.specs.Fields.{two, part, fieldAt, onField}
-use Rattle.definitions.specs.Charts.{Chart, ChartStep, ChartRead, noStep, headFault, stepOf, lastFrom, stepFaultAfter, badHead, withSteps, scanSteps, readChart}
+use Rattle.definitions.specs.Fields.{two, part, only, fieldAt, onField}
+use Rattle.definitions.specs.Charts.{Chart, ChartStep, ChartRead, noStep, headFault, stepOf, lastFrom, stepFaultAfter, badHead, withSteps, stepGrammar, scanSteps, readChart}
 use Rattle.theory.specs.Limits.{Small, Valid}
 use Rattle.definitions.specs.Plans.{graph}
 use Rattle.definitions.specs.declared.Field.{Field}
@@ -82,7 +82,7 @@ module _ (stages : ℕ) (l : List ChartStep) (b : List ℕ) (passes : 0 ≡ step
 -- the steps that passed keep the limits, also where a later field is refused
 scanned-fit : (s : List ℕ) (stages at : ℕ) → StepsFit stages (scanSteps s stages at .passed)
 scanned-fit s stages at =
-    scan-keeps s 2 8 (stepFaultAfter stages) stepOf (StepsFit stages) (λ at a e l w p old. steps-grown stages l (part s a e) (sym p) old) (length s) at []
+    scan-keeps s (stepGrammar stages) (StepsFit stages) (λ at a e l w o p old. steps-grown stages l (part s a e) (sym p) old) (length s) at []
     (none-fit stages)
 
 -- a chart within its limits
@@ -114,16 +114,16 @@ head-passed b x false t k p = absurd (eqb-false (headFault b) 0 t p)
 
 pub chart-accepted : (s : List ℕ) → readChart s .number ≡ 0 → Within (readChart s .chart)
 unfolding readChart onField
-chart-accepted s = go (fieldAt s 0 1 6) refl
+chart-accepted s = go (fieldAt s 0 (only 1 6)) refl
   where
     found : ℕ → ℕ → ChartRead
     found a e =
         let b = part s a e in
         pick (eqb (headFault b) 0) (withSteps b (scanSteps s (two b 0) e)) (badHead (headFault b))
 
-    go : (r : Field) → r ≡ fieldAt s 0 1 6 → onField r (badHead 2) badHead found .number ≡ 0 → Within (onField r (badHead 2) badHead found .chart)
+    go : (r : Field) → r ≡ fieldAt s 0 (only 1 6) → onField r (badHead 2) badHead found .number ≡ 0 → Within (onField r (badHead 2) badHead found .chart)
     go Absent g p = absurd (omega arith)
-    go (Faulty k) g p = absurd (omega (arith, faulty-number s 0 1 6 k g))
+    go (Faulty k) g p = absurd (omega (arith, faulty-number s 0 (only 1 6) k g))
     go (Whole a e) g p =
         head-passed (part s a e) (withSteps (part s a e) (scanSteps s (two (part s a e) 0) e)) (eqb (headFault (part s a e)) 0) refl
         (λ h. chart-valid (part s a e) (scanSteps s (two (part s a e) 0) e .passed) h (scanned-fit s (two (part s a e) 0) e)) p

@@ -7,17 +7,17 @@ use lib.ListN.{length, getD, set, drop, length-set}
 use lib.Seq.{getD-set-same, getD-set-other}
 use native.Mathlib.Omega.{arith}
 use Rattle.definitions.specs.Charts.{ChartStep, noStep}
-use Rattle.fields.specs.Listed.{listed-length, listed-getD, grown, rest-kept}
+use Rattle.theory.specs.Basics.{length-map-run, getD-map-upto, upto-grown, rest-kept}
 use Rattle.chart.specs.Tables.{Steps, stepsIn, heldStep, heldSteps, Room, Filled}
 
 module _ (count : ℕ) (t : Steps) where
   pub held-count : length (heldSteps count t) ≡ count
   unfolding heldSteps
-  held-count = listed-length (heldStep t) count
+  held-count = length-map-run (heldStep t) 0 count
 
   pub held-step : (e : ℕ) → e < count → getD (heldSteps count t) e noStep ≡ heldStep t e
   unfolding heldSteps
-  held-step e h = listed-getD (heldStep t) count e noStep h
+  held-step e h = getD-map-upto (heldStep t) count e noStep h
 
   pub held-from : (e : ℕ) → e < count → getD (heldSteps count t) e noStep .from ≡ getD (t .from) e 0
   held-from e h = ap (λ (x : ChartStep). x .from) (held-step e h)
@@ -76,7 +76,7 @@ module _ (count : ℕ) (packed : List (List ℕ)) (x : ChartStep) (room : Room p
 
   pub held-grown : heldSteps (count + 1) (stepsIn (stored packed count x)) ≡ heldSteps count t ++ x ∷ []
   unfolding heldSteps
-  held-grown = ap (heldSteps (count + 1)) same ∙ grown (heldStep t) (heldStep t′) count x stored-before stored-here
+  held-grown = ap (heldSteps (count + 1)) same ∙ upto-grown (heldStep t) (heldStep t′) count x stored-before stored-here
 
   -- past the new step the columns stay
   module _ (start : List (List ℕ)) where

@@ -8,6 +8,7 @@ use Rattle.definitions.specs.Basics.{upto}
 use Rattle.definitions.specs.Fields.{two, four, Scan}
 use Rattle.definitions.specs.Charts.{ChartStep, Chart}
 use Rattle.definitions.specs.Charts as charts
+use Rattle.definitions.specs.declared.Shape.{Shape}
 use Rattle.chart.specs.declared.reader.HeadBody.{HeadBody}
 use Rattle.chart.specs.declared.reader.StepBody.{StepBody}
 use Rattle.chart.specs.declared.reader.StepsRead.{StepsRead}
@@ -30,8 +31,9 @@ heldStep t e = record { from = getD (t .from) e 0; to = getD (t .to) e 0; cost =
 unfoldable pub heldSteps : ℕ → Steps → List ChartStep
 heldSteps count t = map (heldStep t) (upto count)
 
-abbrev pub heldChart : ℕ → ℕ → ℕ → ℕ → Steps → Chart
-heldChart stages start end count t = record { stages = stages; start = start; end = end; steps = heldSteps count t }
+-- the chart of some sizes, with the steps of a table
+abbrev pub chartIn : Shape → Steps → Chart
+chartIn z t = record { stages = z .stages; start = z .start .0; end = z .end .0; steps = heldSteps (z .steps) t }
 
 -- the table has three columns of 1,024 entries, as its type says. (Behind a reference to an array a proof does not know the length.)
 pub record Room (packed : List (List ℕ)) : Type 0 where
@@ -68,7 +70,3 @@ chartAnswer x = record {
   end = x .chart .end;
   steps = length (x .chart .steps);
 }
-
--- the chart of an answer, with the steps of a table
-abbrev pub chartOf : ChartRead → List (List ℕ) → Chart
-chartOf c packed = heldChart (c .stages) (c .start) (c .end) (c .steps) (stepsIn packed)

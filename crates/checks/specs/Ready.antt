@@ -12,8 +12,8 @@ use Rattle.definitions.specs.Plans.{graph, automaton}
 use Rattle.theory.specs.Limits.{Sound}
 use Rattle.theory.specs.Pairs.{Lawful, lawful}
 use Rattle.chart.specs.Held.{held-count, held-from, held-to, held-cost}
-use Rattle.chart.specs.FirstSteps.{FirstTable, Firsts, first-leaves, leaves-first, first-inside, first-rises}
-use Rattle.chart.specs.HeldGraph.{held-firsts}
+use Rattle.chart_stages.specs.FirstSteps.{FirstTable, Firsts, first-leaves, leaves-first, first-inside, first-rises}
+use Rattle.chart_stages.specs.HeldGraph.{held-firsts}
 use Rattle.diagram.specs.Held.{length-held}
 use Rattle.rows.specs.Rows.{rowStarts, row-at}
 use Rattle.checks.specs.Tables.{Read, Tables, chartIn, diagramIn}
@@ -77,7 +77,7 @@ module _ (z : Shape) (w : Walk) (r : Ready z w) where
   g = graphIn z (w .read)
 
   firsts-at : Firsts g (w .first)
-  firsts-at = held-firsts (z .stages) (z .start .0) (z .end .0) (z .steps) (w .read .steps) (r .tables .valid) (w .first) (r .firsts)
+  firsts-at = held-firsts z (w .read .steps) (r .tables .valid) (w .first) (r .firsts)
 
   abbrev same-count : g .count ≡ z .steps
   same-count = count-is z (w .read) (r .tables)

@@ -24,7 +24,7 @@ read steps inner = record { steps = chart.stepsIn steps; inner = files.nodesIn i
 
 -- the chart and the diagram of some sizes that stand in tables
 abbrev pub chartIn : Shape → Read → Chart
-chartIn z t = chart.heldChart (z .stages) (z .start .0) (z .end .0) (z .steps) (t .steps)
+chartIn z t = chart.chartIn z (t .steps)
 
 abbrev pub diagramIn : Shape → Read → Diagram
 diagramIn z t = diagram.heldDiagram (z .root .0) (z .nodes) (t .inner .step) (t .inner .lo) (t .inner .hi)

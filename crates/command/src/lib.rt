@@ -16,7 +16,8 @@ fn read_file(path: &[u8], buf: &mut [u8]) -> usize
 }
 
 // Reads the first 16,384 bytes of both files (one that is missing or can't be read counts as empty), and writes the
-// program's text to standard output. The text has at most 2,879 bytes, so the buffer holds it whole.
+// program's text to standard output. The text has at most 2,879 bytes, so the buffer holds it whole. Where it can't be
+// written whole, a line on standard error says so.
 pub fn run(chart: &[u8], rules: &[u8]) {
     let mut chart_bytes = [0u8; 16384];
     let mut rules_bytes = [0u8; 16384];
@@ -28,5 +29,7 @@ pub fn run(chart: &[u8], rules: &[u8]) {
         &rules_bytes[..rules_length],
         &mut out,
     );
-    io::write_all(libc::STDOUT_FILENO, &out[0..length]);
+    if !io::write_all(libc::STDOUT_FILENO, &out[0..length]) {
+        os::fail(b"plan: the output is not complete");
+    }
 }

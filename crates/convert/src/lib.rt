@@ -9,13 +9,6 @@ pub fn wide(x: u32) -> usize
     x as usize
 }
 
-// A number of 16 bits as a place or a count.
-pub fn index(x: u16) -> usize
-    ensures { λ r. ⌜ (r ≡ x) × (r < 65536) ⌝ }
-{
-    x as usize
-}
-
 // The lesser of two numbers.
 pub fn lesser(a: usize, b: usize) -> usize
     ensures { λ r. ⌜ r ≡ min a b ⌝ }

@@ -25,15 +25,11 @@ larger none b = none
 larger (some x) none = none
 larger (some x) (some y) = some (max x y)
 
--- k more; none stays none
-unfoldable pub plus : ℕ → Option ℕ → Option ℕ
-plus k none = none
-plus k (some x) = some (k + x)
-
 -- the sum of two, none if either is none
 unfoldable pub sumOf : Option ℕ → Option ℕ → Option ℕ
 sumOf none b = none
-sumOf (some x) b = plus x b
+sumOf (some x) none = none
+sumOf (some x) (some y) = some (x + y)
 
 abbrev pub isSome : Option ℕ → Bool
 isSome none = false

@@ -8,17 +8,18 @@ use mathlib.Core.Option.{some}
 use native.Mathlib.Omega.{arith}
 use lib.Dec.{eqb}
 use lib.ListN.{length, getD}
-use Rattle.definitions.specs.Basics.{pick, smaller, larger, plus, sumOf}
-use Rattle.definitions.specs.Fields.{fieldAt, onField, scan}
+use Rattle.definitions.specs.Basics.{pick, smaller, larger, sumOf}
+use Rattle.definitions.specs.Fields.{only, fieldAt, onField, scan}
 use Rattle.definitions.specs.Charts.{headFault, readChart}
 use Rattle.definitions.specs.Diagrams.{readDiagram, descend, descendIn, advance, finish, verdict}
 use Rattle.definitions.specs.Ways.{Graph, waysIn, ways, leastWay}
 use Rattle.definitions.specs.Pairs.{Automaton, Estimate, stands, leastCost, reached, goal, reachedPairs, toEnd, sum}
-use Rattle.definitions.specs.Plans.{graph, automaton, saysYes, cheapest, chartEstimate, diagramEstimate, estimate}
+use Rattle.definitions.specs.Plans.{graph, variable, variableCost, automaton, saysYes, cheapest, chartEstimate, diagramEstimate, estimate}
 use Rattle.definitions.specs.Answers.{ready, readFiles, load, accepted}
 use Rattle.definitions.specs.Promises.{leastCosts, leastCostAt, sumAt, goalAt, Settled, Found, SweepSlices, sweepSlices, sweepLoad, SweepCall, GuidedSlices, guidedSlices, guidedLoad, GuidedCall}
 use Rattle.definitions.specs.Marked.{single, leaf}
-use Rattle.definitions.specs.Examples.{chartBytes, diagramBytes, loadRefusal}
+use Rattle.definitions.specs.Bytes.{chartBytes, diagramBytes}
+use Rattle.definitions.specs.Examples.{loadRefusal}
 use Rattle.definitions.specs.Logs.{Each, _also_, each, some-same}
 use Rattle.definitions.specs.Slices.{differ}
 
@@ -26,7 +27,7 @@ abbrev chartFile : List ℕ
 chartFile = chartBytes single
 
 abbrev rulesFile : List ℕ
-rulesFile = diagramBytes 1 []
+rulesFile = diagramBytes (leaf 1)
 
 -- a work slice before a call; after it with its two free entries written, and with the entry past them changed
 abbrev w : List ℕ
@@ -62,13 +63,13 @@ abbrev seven : List ℕ
 seven = 7 ∷ 0 ∷ 0 ∷ []
 
 pub spaces-hold : spaces ≡ [] ∷ seven ∷ seven ∷ seven ∷ [] ∷ seven ∷ seven ∷ seven ∷ seven ∷ seven ∷ seven ∷ []
-unfolding spaces pick fieldAt onField scan headFault readChart readDiagram readFiles load
+unfolding spaces pick only fieldAt onField scan headFault readChart readDiagram readFiles load
 spaces-hold = refl
 
 -- ---- the sweep
 
 pub sweep-holds : SweepCall chartFile rulesFile (sweepSlices w w w []) (sweepSlices (4294967295 ∷ 0 ∷ 6 ∷ []) w′ w′ []) (accepted 0 0 1)
-unfolding pick fieldAt onField scan headFault readChart readDiagram readFiles load smaller descend descendIn advance verdict saysYes waysIn ways leastWay stands leastCost reached reachedPairs cheapest leastCosts
+unfolding pick only fieldAt onField scan headFault readChart readDiagram readFiles load smaller descend descendIn advance verdict saysYes waysIn ways leastWay stands leastCost reached reachedPairs cheapest leastCosts variable
 sweep-holds = record {
   swept = ((refl, record { fits = omega arith; legal = ((tt, refl), refl); costs = refl; long = refl; rest = refl }), refl);
   via = (refl, refl);
@@ -77,15 +78,15 @@ sweep-holds = record {
 
 -- a call whose cost slice, via or nodes is written past its need
 pub sweep-cost : SweepCall chartFile rulesFile (sweepSlices w w w []) (sweepSlices (4294967295 ∷ 0 ∷ 7 ∷ []) w′ w′ []) (accepted 0 0 1) → ⊥
-unfolding pick fieldAt onField scan headFault readChart readDiagram readFiles load smaller descend descendIn advance waysIn ways leastWay stands leastCost leastCosts
+unfolding pick only fieldAt onField scan headFault readChart readDiagram readFiles load smaller descend descendIn advance waysIn ways leastWay stands leastCost leastCosts variable
 sweep-cost s = let e = differ (s .swept .1) 2 in omega arith
 
 pub sweep-via : SweepCall chartFile rulesFile (sweepSlices w w w []) (sweepSlices (4294967295 ∷ 0 ∷ 6 ∷ []) bad w′ []) (accepted 0 0 1) → ⊥
-unfolding pick fieldAt onField scan headFault readChart readDiagram readFiles load
+unfolding pick only fieldAt onField scan headFault readChart readDiagram readFiles load
 sweep-via s = let e = differ (s .via .1) 0 in omega arith
 
 pub sweep-nodes : SweepCall chartFile rulesFile (sweepSlices w w w []) (sweepSlices (4294967295 ∷ 0 ∷ 6 ∷ []) w′ bad []) (accepted 0 0 1) → ⊥
-unfolding pick fieldAt onField scan headFault readChart readDiagram readFiles load
+unfolding pick only fieldAt onField scan headFault readChart readDiagram readFiles load
 sweep-nodes s = let e = differ (s .nodes .1) 0 in omega arith
 
 -- ---- the guided search: one pair is settled, pair 1
@@ -101,7 +102,7 @@ h = estimate single (leaf 1)
 
 -- its sum and its least cost are 0, and it is the goal pair
 one : (sumAt g a h 1 ≡ some 0) × (leastCostAt g a h 1 ≡ some 0) × (goalAt g a h 1 ≡ true)
-unfolding pick smaller larger sumOf plus descend descendIn advance finish waysIn ways leastWay stands leastCost reached goal toEnd sum chartEstimate diagramEstimate estimate
+unfolding pick smaller larger sumOf descend descendIn advance finish waysIn ways leastWay stands leastCost reached goal toEnd sum chartEstimate diagramEstimate estimate variable variableCost
 one = (refl, refl, refl)
 
 one-settled : Settled g a h (1 ∷ [])
@@ -131,7 +132,7 @@ After keys via heap pos stack log =
     GuidedCall chartFile rulesFile (guidedSlices w w w w w w []) (guidedSlices keys via heap pos stack log []) (accepted 0 0 1)
 
 pub guided-holds : After w′ w′ w′ w′ w′ (1 ∷ 5 ∷ 6 ∷ [])
-unfolding pick fieldAt onField scan headFault readChart readDiagram readFiles load smaller descend descendIn advance verdict saysYes waysIn ways leastWay stands leastCost reached reachedPairs cheapest
+unfolding pick only fieldAt onField scan headFault readChart readDiagram readFiles load smaller descend descendIn advance verdict saysYes waysIn ways leastWay stands leastCost reached reachedPairs cheapest variable
 guided-holds = record {
   guided = (
     (refl, record { fits = omega arith; legal = ((tt, refl), refl); costs = refl; long = refl; rest = refl }),
@@ -145,26 +146,26 @@ guided-holds = record {
 }
 
 pub guided-keys : After bad w′ w′ w′ w′ (1 ∷ 5 ∷ 6 ∷ []) → ⊥
-unfolding pick fieldAt onField scan headFault readChart readDiagram readFiles load
+unfolding pick only fieldAt onField scan headFault readChart readDiagram readFiles load
 guided-keys s = let e = differ (s .keys .1) 0 in omega arith
 
 pub guided-via : After w′ bad w′ w′ w′ (1 ∷ 5 ∷ 6 ∷ []) → ⊥
-unfolding pick fieldAt onField scan headFault readChart readDiagram readFiles load
+unfolding pick only fieldAt onField scan headFault readChart readDiagram readFiles load
 guided-via s = let e = differ (s .via .1) 0 in omega arith
 
 pub guided-heap : After w′ w′ bad w′ w′ (1 ∷ 5 ∷ 6 ∷ []) → ⊥
-unfolding pick fieldAt onField scan headFault readChart readDiagram readFiles load
+unfolding pick only fieldAt onField scan headFault readChart readDiagram readFiles load
 guided-heap s = let e = differ (s .heap .1) 0 in omega arith
 
 pub guided-pos : After w′ w′ w′ bad w′ (1 ∷ 5 ∷ 6 ∷ []) → ⊥
-unfolding pick fieldAt onField scan headFault readChart readDiagram readFiles load
+unfolding pick only fieldAt onField scan headFault readChart readDiagram readFiles load
 guided-pos s = let e = differ (s .pos .1) 0 in omega arith
 
 pub guided-stack : After w′ w′ w′ w′ bad (1 ∷ 5 ∷ 6 ∷ []) → ⊥
-unfolding pick fieldAt onField scan headFault readChart readDiagram readFiles load
+unfolding pick only fieldAt onField scan headFault readChart readDiagram readFiles load
 guided-stack s = let e = differ (s .stack .1) 0 in omega arith
 
 -- the log slice past the count, though within stage count × N
 pub guided-log : After w′ w′ w′ w′ w′ (1 ∷ 2 ∷ 6 ∷ []) → ⊥
-unfolding pick fieldAt onField scan headFault readChart readDiagram readFiles load
+unfolding pick only fieldAt onField scan headFault readChart readDiagram readFiles load
 guided-log s = let e = differ (s .guided .1 .rest) 0 in omega arith

@@ -6,7 +6,7 @@ use mathlib.Core.List.{List, []}
 use lib.Dec.{leb, ltb, eqb}
 use lib.ListN.{length, getD}
 use Rattle.definitions.specs.Basics.{pick}
-use Rattle.definitions.specs.Fields.{two, four, part, fieldAt, onField, Scan, scan}
+use Rattle.definitions.specs.Fields.{two, four, part, only, fieldAt, onField, Grammar, Scan, scan}
 
 -- a step (an edge)
 pub record ChartStep : Type 0 where
@@ -72,14 +72,18 @@ badHead number = record { number = number; place = 0; chart = noChart }
 abbrev pub withSteps : List ℕ → Scan ChartStep → ChartRead
 withSteps b x = record { number = x .number; place = x .place; chart = headOf b (x .passed) }
 
+-- after the head: steps, of tag 02 and length 8
+abbrev pub stepGrammar : ℕ → Grammar ChartStep
+stepGrammar stages = record { kind = λ before. only 2 8; fault = λ before tag. stepFaultAfter stages before; holds = λ before tag. stepOf }
+
 -- the steps of a chart file, from a place on
 abbrev pub scanSteps : List ℕ → ℕ → ℕ → Scan ChartStep
-scanSteps s stages at = scan s 2 8 (stepFaultAfter stages) stepOf (length s) at []
+scanSteps s stages at = scan s (stepGrammar stages) (length s) at []
 
 -- the head first, once; then steps to the file's end. An empty file is 2 at place 0
 unfoldable pub readChart : List ℕ → ChartRead
 readChart s =
-    onField (fieldAt s 0 1 6) (badHead 2) badHead
+    onField (fieldAt s 0 (only 1 6)) (badHead 2) badHead
     (λ start end.
     let b = part s start end in
     let whole = withSteps b (scanSteps s (two b 0) end) in

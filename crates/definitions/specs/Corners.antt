@@ -5,13 +5,14 @@ use mathlib.Core.Path.{_≡_, refl}
 use mathlib.Core.List.{List, [], _∷_, _++_}
 use mathlib.Core.Option.{Option, none, some}
 use lib.ListN.{take}
-use Rattle.definitions.specs.Basics.{pick, smaller, larger, plus, sumOf}
-use Rattle.definitions.specs.Fields.{fieldAt, onField, scan}
+use Rattle.definitions.specs.Basics.{pick, smaller, larger, sumOf}
+use Rattle.definitions.specs.Fields.{only, fieldAt, onField, scan}
 use Rattle.definitions.specs.Charts.{headFault, stepFault, readChart}
 use Rattle.definitions.specs.Diagrams.{nodeFault, readDiagram}
+use Rattle.definitions.specs.Bytes.{chartBytes, diagramBytes}
 use Rattle.definitions.specs.Answers.{readFiles, load}
 use Rattle.definitions.specs.Marked.{nd, chart, rules}
-use Rattle.definitions.specs.Examples.{chartBytes, diagramBytes, rulesRefusal, loadRefusal}
+use Rattle.definitions.specs.Examples.{rooted, rulesRefusal, loadRefusal}
 
 -- the smaller, the larger and the sum, where one is none
 pub options : List (Option ℕ)
@@ -20,7 +21,7 @@ options =
     ∷ sumOf none (some 5) ∷ sumOf (some 5) none ∷ sumOf (some 5) (some 7) ∷ []
 
 pub options-hold : options ≡ some 5 ∷ some 5 ∷ some 5 ∷ none ∷ none ∷ some 7 ∷ none ∷ none ∷ some 12 ∷ []
-unfolding options smaller larger plus sumOf
+unfolding options smaller larger sumOf
 options-hold = refl
 
 -- a step after 1,023 and after 1,024 steps, and a node after 509 and after 510 nodes
@@ -42,22 +43,22 @@ heads =
     ∷ rulesRefusal (17 ∷ 3 ∷ 0 ∷ 0 ∷ 0 ∷ 0 ∷ []) 6
     ∷ rulesRefusal (17 ∷ 2 ∷ 0 ∷ 0 ∷ []) 6
     ∷ rulesRefusal (18 ∷ 6 ∷ 0 ∷ 2 ∷ 0 ∷ 0 ∷ 0 ∷ 1 ∷ 0 ∷ []) 6
-    ∷ rulesRefusal (diagramBytes 1 [] ++ diagramBytes 1 []) 6
+    ∷ rulesRefusal (diagramBytes (rooted 1 []) ++ diagramBytes (rooted 1 [])) 6
     ∷ []
 
 pub heads-hold : heads ≡ (1 ∷ 0 ∷ []) ∷ (2 ∷ 0 ∷ []) ∷ (3 ∷ 0 ∷ []) ∷ (1 ∷ 0 ∷ []) ∷ (2 ∷ 0 ∷ []) ∷ (2 ∷ 5 ∷ []) ∷ []
-unfolding heads pick fieldAt onField scan nodeFault readDiagram
+unfolding heads pick only fieldAt onField scan nodeFault readDiagram
 heads-hold = refl
 
 -- number, file and place: the chart's second step cut, the diagram's second node cut, its second node beyond a limit; a faulty chart before a faulty diagram
 pub places : List (List ℕ)
 places =
-    loadRefusal (load (take 25 (chartBytes chart)) (diagramBytes 3 (rules .nodes)) (20 ∷ []) 4)
-    ∷ loadRefusal (load (chartBytes chart) (take 22 (diagramBytes 3 (rules .nodes))) (20 ∷ []) 4)
-    ∷ loadRefusal (load (chartBytes chart) (diagramBytes 3 (nd 2 0 1 ∷ nd 2 1 2 ∷ [])) (20 ∷ []) 4)
-    ∷ loadRefusal (load (take 25 (chartBytes chart)) (take 22 (diagramBytes 3 (rules .nodes))) [] 0)
+    loadRefusal (load (take 25 (chartBytes chart)) (diagramBytes rules) (20 ∷ []) 4)
+    ∷ loadRefusal (load (chartBytes chart) (take 22 (diagramBytes rules)) (20 ∷ []) 4)
+    ∷ loadRefusal (load (chartBytes chart) (diagramBytes (rooted 3 (nd 2 0 1 ∷ nd 2 1 2 ∷ []))) (20 ∷ []) 4)
+    ∷ loadRefusal (load (take 25 (chartBytes chart)) (take 22 (diagramBytes rules)) [] 0)
     ∷ []
 
 pub places-hold : places ≡ (1 ∷ 1 ∷ 20 ∷ []) ∷ (1 ∷ 2 ∷ 14 ∷ []) ∷ (6 ∷ 2 ∷ 14 ∷ []) ∷ (1 ∷ 1 ∷ 20 ∷ []) ∷ []
-unfolding places pick fieldAt onField scan headFault stepFault readChart nodeFault readDiagram readFiles load
+unfolding places pick only fieldAt onField scan headFault stepFault readChart nodeFault readDiagram readFiles load
 places-hold = refl

@@ -6,7 +6,7 @@ use mathlib.Core.List.{List, []}
 use lib.Dec.{leb, ltb, eqb}
 use lib.ListN.{length, getD}
 use Rattle.definitions.specs.Basics.{pick}
-use Rattle.definitions.specs.Fields.{two, part, fieldAt, onField, Scan, scan}
+use Rattle.definitions.specs.Fields.{two, part, only, fieldAt, onField, Grammar, Scan, scan}
 
 -- an inner node
 pub record InnerNode : Type 0 where
@@ -68,14 +68,18 @@ withNodes root x =
     (pick (leb (length (x .passed) + 2) root) (diagramRead 6 0 root (x .passed))
     (diagramRead 0 0 root (x .passed)))
 
--- the nodes of a diagram file over a chart of so many steps, from a place on
+-- after the head: nodes, of tag 12 (hexadecimal) and length 6, over a chart of so many steps
+abbrev pub nodeGrammar : ℕ → Grammar InnerNode
+nodeGrammar steps = record { kind = λ before. only 18 6; fault = λ before tag. nodeFaultAfter steps before; holds = λ before tag. innerNodeOf }
+
+-- the nodes of a diagram file, from a place on
 abbrev pub scanNodes : List ℕ → ℕ → ℕ → Scan InnerNode
-scanNodes s steps at = scan s 18 6 (nodeFaultAfter steps) innerNodeOf (length s) at []
+scanNodes s steps at = scan s (nodeGrammar steps) (length s) at []
 
 -- the head first, once; then nodes to the file's end. An empty file is 2 at place 0
 unfoldable pub readDiagram : List ℕ → ℕ → DiagramRead
 readDiagram s steps =
-    onField (fieldAt s 0 17 2) (diagramRead 2 0 0 []) (λ number. diagramRead number 0 0 [])
+    onField (fieldAt s 0 (only 17 2)) (diagramRead 2 0 0 []) (λ number. diagramRead number 0 0 [])
     (λ start end. withNodes (two (part s start end) 0) (scanNodes s steps end))
 
 -- ---- the walk

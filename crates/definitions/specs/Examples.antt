@@ -2,35 +2,20 @@
 -- Assumes nothing.
 use Prim.Native.Nat.{ℕ, _/_, _%_}
 use mathlib.Core.Path.{_≡_, refl}
-use mathlib.Core.List.{List, [], _∷_, _++_}
-use lib.ListN.{take}
+use mathlib.Core.Bool.{Bool, true, false, _&&_}
+use mathlib.Core.List.{List, [], _∷_, _++_, map}
+use lib.Dec.{leb, eqb}
+use lib.ListN.{length, getD, take}
 use Rattle.definitions.specs.Basics.{pick, each}
-use Rattle.definitions.specs.Fields.{fieldAt, onField, scan, fieldBytes, refusedField}
+use Rattle.definitions.specs.Fields.{Kind, foreign, exactly, atLeast, passedOver, only, fieldAt, onField, Grammar, scan, fieldBytes, refusedField}
 use Rattle.definitions.specs.Charts.{Chart, ChartStep, headFault, stepFault, readChart}
-use Rattle.definitions.specs.Diagrams.{InnerNode, nodeFault, readDiagram}
+use Rattle.definitions.specs.Diagrams.{Diagram, InnerNode, nodeFault, readDiagram}
+use Rattle.definitions.specs.Bytes.{headBytes, stepBytes, chartBytes, diagramBytes}
 use Rattle.definitions.specs.Answers.{Load, ready, refused, readFiles, load}
 use Rattle.definitions.specs.Marked.{st, nd, chart, rules}
 
-abbrev le2 : ℕ → List ℕ
-le2 n = n % 256 ∷ n / 256 ∷ []
-
-abbrev le4 : ℕ → List ℕ
-le4 n = n % 256 ∷ n / 256 % 256 ∷ n / 65536 % 256 ∷ n / 16777216 ∷ []
-
-abbrev headBytes : ℕ → ℕ → ℕ → List ℕ
-headBytes stages start end = 1 ∷ 6 ∷ 0 ∷ le2 stages ++ le2 start ++ le2 end
-
-abbrev stepBytes : ChartStep → List ℕ
-stepBytes x = 2 ∷ 8 ∷ 0 ∷ le2 (x .from) ++ le2 (x .to) ++ le4 (x .cost)
-
-abbrev nodeBytes : InnerNode → List ℕ
-nodeBytes x = 18 ∷ 6 ∷ 0 ∷ le2 (x .step) ++ le2 (x .lo) ++ le2 (x .hi)
-
-abbrev pub chartBytes : Chart → List ℕ
-chartBytes c = headBytes (c .stages) (c .start) (c .end) ++ each stepBytes (c .steps)
-
-abbrev pub diagramBytes : ℕ → List InnerNode → List ℕ
-diagramBytes root nodes = (17 ∷ 2 ∷ 0 ∷ le2 root) ++ each nodeBytes nodes
+abbrev pub rooted : ℕ → List InnerNode → Diagram
+rooted root nodes = record { root = root; nodes = nodes }
 
 -- a chart of five stages with these steps
 abbrev steps : List ChartStep → List ℕ
@@ -47,11 +32,11 @@ loadRefusal (ready c d) = []
 loadRefusal (refused number file place) = number ∷ file ∷ place ∷ []
 
 pub whole-chart : readChart (chartBytes chart) ≡ record { number = 0; place = 0; chart = chart }
-unfolding pick fieldAt onField scan headFault stepFault readChart
+unfolding pick only fieldAt onField scan headFault stepFault readChart
 whole-chart = refl
 
-pub whole-diagram : readDiagram (diagramBytes 3 (rules .nodes)) 6 ≡ record { number = 0; place = 0; diagram = rules }
-unfolding pick fieldAt onField scan nodeFault readDiagram
+pub whole-diagram : readDiagram (diagramBytes rules) 6 ≡ record { number = 0; place = 0; diagram = rules }
+unfolding pick only fieldAt onField scan nodeFault readDiagram
 whole-diagram = refl
 
 pub computed : List (List ℕ)
@@ -73,14 +58,14 @@ computed =
     ∷ chartRefusal (steps (st 3 5 7 ∷ []))
     ∷ chartRefusal (steps (st 1 2 7 ∷ st 0 1 7 ∷ []))
     ∷ rulesRefusal [] 6
-    ∷ rulesRefusal (take 22 (diagramBytes 3 (rules .nodes))) 6
-    ∷ rulesRefusal (diagramBytes 4 (rules .nodes)) 6
-    ∷ rulesRefusal (diagramBytes 3 (rules .nodes)) 2
-    ∷ rulesRefusal (diagramBytes 9 (nd 2 0 1 ∷ nd 2 1 2 ∷ [])) 6
-    ∷ rulesRefusal (diagramBytes 2 (nd 2 0 2 ∷ [])) 6
-    ∷ refusedField (chartBytes chart) (diagramBytes 3 (rules .nodes)) 2 5
-    ∷ refusedField (chartBytes chart) (diagramBytes 3 (rules .nodes)) 1 73
-    ∷ refusedField (chartBytes chart) (diagramBytes 3 (rules .nodes)) 3 0
+    ∷ rulesRefusal (take 22 (diagramBytes rules)) 6
+    ∷ rulesRefusal (diagramBytes (rooted 4 (rules .nodes))) 6
+    ∷ rulesRefusal (diagramBytes rules) 2
+    ∷ rulesRefusal (diagramBytes (rooted 9 (nd 2 0 1 ∷ nd 2 1 2 ∷ []))) 6
+    ∷ rulesRefusal (diagramBytes (rooted 2 (nd 2 0 2 ∷ []))) 6
+    ∷ refusedField (chartBytes chart) (diagramBytes rules) 2 5
+    ∷ refusedField (chartBytes chart) (diagramBytes rules) 1 73
+    ∷ refusedField (chartBytes chart) (diagramBytes rules) 3 0
     ∷ []
 
 pub expected : List (List ℕ)
@@ -113,19 +98,90 @@ expected =
     ∷ []
 
 pub refusals-hold : computed ≡ expected
-unfolding computed expected pick fieldAt onField scan headFault stepFault readChart nodeFault readDiagram fieldBytes refusedField
+unfolding computed expected pick only fieldAt onField scan headFault stepFault readChart nodeFault readDiagram fieldBytes refusedField
 refusals-hold = refl
 
 -- the space: 5 × 4 entries for each work slice and 4 for the plan
 pub loads : List (List ℕ)
 loads =
-    loadRefusal (load (chartBytes chart) (diagramBytes 3 (rules .nodes)) (20 ∷ 20 ∷ []) 4)
-    ∷ loadRefusal (load (chartBytes chart) (diagramBytes 3 (rules .nodes)) (20 ∷ 19 ∷ []) 4)
-    ∷ loadRefusal (load (chartBytes chart) (diagramBytes 3 (rules .nodes)) (20 ∷ 20 ∷ []) 3)
-    ∷ loadRefusal (load (chartBytes chart) (diagramBytes 4 (rules .nodes)) (0 ∷ []) 0)
+    loadRefusal (load (chartBytes chart) (diagramBytes rules) (20 ∷ 20 ∷ []) 4)
+    ∷ loadRefusal (load (chartBytes chart) (diagramBytes rules) (20 ∷ 19 ∷ []) 4)
+    ∷ loadRefusal (load (chartBytes chart) (diagramBytes rules) (20 ∷ 20 ∷ []) 3)
+    ∷ loadRefusal (load (chartBytes chart) (diagramBytes (rooted 4 (rules .nodes))) (0 ∷ []) 0)
     ∷ loadRefusal (load (9 ∷ []) [] [] 0)
     ∷ []
 
 pub loads-hold : loads ≡ [] ∷ (7 ∷ 0 ∷ 0 ∷ []) ∷ (7 ∷ 0 ∷ 0 ∷ []) ∷ (6 ∷ 2 ∷ 0 ∷ []) ∷ (1 ∷ 1 ∷ 0 ∷ []) ∷ []
-unfolding loads pick fieldAt onField scan headFault stepFault readChart nodeFault readDiagram readFiles load
+unfolding loads pick only fieldAt onField scan headFault stepFault readChart nodeFault readDiagram readFiles load
 loads-hold = refl
+
+-- ---- each kind of field. Of a small file: tags from 128 on are passed over; 34 has at least 4 bytes, and an even number of them; another tag has as many
+-- bytes as its number says, and the first such field fixes which one it is. A body may not begin with 0 (6)
+abbrev smallKind : List (List ℕ) → ℕ → Kind
+smallKind before tag =
+    pick (leb 128 tag) passedOver
+    (pick (eqb tag 34) (atLeast 4)
+    (pick (eqb tag (getD (getD before 0 (tag ∷ [])) 0 0)) (exactly tag)
+    foreign))
+
+abbrev smallFault : ℕ → List ℕ → ℕ
+smallFault tag body = pick (eqb (getD body 0 0) 0) 6 (pick (eqb tag 34 && eqb (length body % 2) 1) 3 0)
+
+-- an element is a tag and a body
+abbrev small : Grammar (List ℕ)
+small = record { kind = smallKind; fault = λ before tag body. smallFault tag body; holds = λ before tag body. tag ∷ body }
+
+-- number, place, and the elements joined
+abbrev smallRead : List ℕ → List ℕ
+smallRead s =
+    let x = scan s small (length s) 0 [] in
+    x .number ∷ x .place ∷ each (λ e. e) (x .passed)
+
+-- a file, and what it reads as
+pub smallFiles : List (List ℕ × List ℕ)
+smallFiles =
+    -- exactly: as many bytes; another length, also where the body is cut; a cut body; another tag than the first
+    (1 ∷ 1 ∷ 0 ∷ 9 ∷ 1 ∷ 1 ∷ 0 ∷ 8 ∷ [], 0 ∷ 0 ∷ 1 ∷ 9 ∷ 1 ∷ 8 ∷ [])
+    ∷ (2 ∷ 2 ∷ 0 ∷ 5 ∷ 5 ∷ [], 0 ∷ 0 ∷ 2 ∷ 5 ∷ 5 ∷ [])
+    ∷ (1 ∷ 2 ∷ 0 ∷ [], 3 ∷ 0 ∷ [])
+    ∷ (2 ∷ 2 ∷ 0 ∷ 5 ∷ [], 1 ∷ 0 ∷ [])
+    ∷ (1 ∷ 1 ∷ 0 ∷ 9 ∷ 2 ∷ 2 ∷ 0 ∷ [], 2 ∷ 4 ∷ 1 ∷ 9 ∷ [])
+    -- at least: as many bytes or more; fewer, also where the body is cut; a cut body; content, then length
+    ∷ (34 ∷ 4 ∷ 0 ∷ 5 ∷ 6 ∷ 7 ∷ 8 ∷ [], 0 ∷ 0 ∷ 34 ∷ 5 ∷ 6 ∷ 7 ∷ 8 ∷ [])
+    ∷ (34 ∷ 6 ∷ 0 ∷ 5 ∷ 6 ∷ 7 ∷ 8 ∷ 5 ∷ 5 ∷ [], 0 ∷ 0 ∷ 34 ∷ 5 ∷ 6 ∷ 7 ∷ 8 ∷ 5 ∷ 5 ∷ [])
+    ∷ (34 ∷ 3 ∷ 0 ∷ [], 3 ∷ 0 ∷ [])
+    ∷ (34 ∷ 5 ∷ 0 ∷ 5 ∷ [], 1 ∷ 0 ∷ [])
+    ∷ (34 ∷ 5 ∷ 0 ∷ 0 ∷ 6 ∷ 7 ∷ 8 ∷ 9 ∷ [], 6 ∷ 0 ∷ [])
+    ∷ (34 ∷ 5 ∷ 0 ∷ 5 ∷ 6 ∷ 7 ∷ 8 ∷ 9 ∷ [], 3 ∷ 0 ∷ [])
+    -- passed over: any length, no element, the content is not looked at; a cut header and a cut body
+    ∷ (128 ∷ 0 ∷ 0 ∷ 255 ∷ 2 ∷ 0 ∷ 0 ∷ 7 ∷ 1 ∷ 1 ∷ 0 ∷ 9 ∷ 200 ∷ 1 ∷ 0 ∷ 7 ∷ [], 0 ∷ 0 ∷ 1 ∷ 9 ∷ [])
+    ∷ (200 ∷ 1 ∷ 0 ∷ 7 ∷ 1 ∷ 1 ∷ 0 ∷ 0 ∷ [], 6 ∷ 4 ∷ [])
+    ∷ (1 ∷ 1 ∷ 0 ∷ 9 ∷ 200 ∷ 2 ∷ [], 1 ∷ 4 ∷ 1 ∷ 9 ∷ [])
+    ∷ (200 ∷ 2 ∷ 0 ∷ 7 ∷ [], 1 ∷ 0 ∷ [])
+    ∷ []
+
+pub small-files-hold : map (λ x. smallRead (x .0)) smallFiles ≡ map (λ x. x .1) smallFiles
+unfolding smallFiles pick only fieldAt onField scan
+small-files-hold = refl
+
+-- and what it does not read as: an element of a field that is passed over, a second kind let through, the body's cut before the length, the length before
+-- the content, 1 for a field that ends with the file, a place without the fields passed over
+pub smallMistakes : List (List ℕ × List ℕ)
+smallMistakes =
+    (200 ∷ 1 ∷ 0 ∷ 7 ∷ [], 0 ∷ 0 ∷ 200 ∷ 7 ∷ [])
+    ∷ (1 ∷ 1 ∷ 0 ∷ 9 ∷ 2 ∷ 2 ∷ 0 ∷ 5 ∷ 5 ∷ [], 0 ∷ 0 ∷ 1 ∷ 9 ∷ 2 ∷ 5 ∷ 5 ∷ [])
+    ∷ (34 ∷ 3 ∷ 0 ∷ [], 1 ∷ 0 ∷ [])
+    ∷ (34 ∷ 5 ∷ 0 ∷ 0 ∷ 6 ∷ 7 ∷ 8 ∷ 9 ∷ [], 3 ∷ 0 ∷ [])
+    ∷ (200 ∷ 1 ∷ 0 ∷ 7 ∷ [], 1 ∷ 0 ∷ [])
+    ∷ (200 ∷ 1 ∷ 0 ∷ 7 ∷ 1 ∷ 1 ∷ 0 ∷ 0 ∷ [], 6 ∷ 0 ∷ [])
+    ∷ []
+
+abbrev alike : List ℕ → List ℕ → Bool
+alike [] [] = true
+alike [] (y ∷ ys) = false
+alike (x ∷ xs) [] = false
+alike (x ∷ xs) (y ∷ ys) = eqb x y && alike xs ys
+
+pub small-mistakes-refuted : map (λ x. alike (smallRead (x .0)) (x .1)) smallMistakes ≡ map (λ x. false) smallMistakes
+unfolding smallMistakes pick only fieldAt onField scan
+small-mistakes-refuted = refl

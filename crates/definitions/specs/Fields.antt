@@ -1,7 +1,7 @@
 -- Tagged fields: a one-byte tag, a two-byte length, a body (type-length-value). Numbers are unsigned, low byte first.
 -- Assumes nothing.
 use Prim.Native.Nat.{ℕ, zero, suc, _+_, _-_, _*_}
-use mathlib.Core.Bool.{not}
+use mathlib.Core.Bool.{Bool, true, false, not}
 use mathlib.Core.List.{List, [], _∷_, _++_}
 use lib.Dec.{leb, ltb, eqb}
 use lib.ListN.{length, getD, take, drop}
@@ -20,13 +20,46 @@ four s at = two s at + 65536 * two s (at + 2)
 abbrev pub part : List ℕ → ℕ → ℕ → List ℕ
 part s a e = take (e - a) (drop a s)
 
--- The field at a place where one of this tag and length is due. In this order: header cut (1), tag (2), length (3), body cut (1)
-unfoldable pub fieldAt : List ℕ → ℕ → ℕ → ℕ → Field
-fieldAt s at tag len =
+-- What a tag is at its place: not of this file, a field of exactly n bytes, a field of at least n bytes whose length is judged with its content, or
+-- a field of any length that is passed over
+pub data Kind : Type 0 where
+  foreign : Kind
+  exactly : ℕ → Kind
+  atLeast : ℕ → Kind
+  passedOver : Kind
+
+abbrev pub isForeign : Kind → Bool
+isForeign foreign = true
+isForeign (exactly n) = false
+isForeign (atLeast n) = false
+isForeign passedOver = false
+
+abbrev pub isPassedOver : Kind → Bool
+isPassedOver foreign = false
+isPassedOver (exactly n) = false
+isPassedOver (atLeast n) = false
+isPassedOver passedOver = true
+
+-- a length is one that the kind may have
+abbrev pub lengthFits : Kind → ℕ → Bool
+lengthFits foreign len = false
+lengthFits (exactly n) len = eqb len n
+lengthFits (atLeast n) len = leb n len
+lengthFits passedOver len = true
+
+-- fields of one tag and length only
+unfoldable pub only : ℕ → ℕ → ℕ → Kind
+only tag len found = pick (eqb found tag) (exactly len) foreign
+
+-- The field at a place where `kind` says what each tag is. In this order: header cut (1), tag (2), length (3), body cut (1)
+unfoldable pub fieldAt : List ℕ → ℕ → (ℕ → Kind) → Field
+fieldAt s at kind =
+    let tag = getD s at 0 in
+    let len = two s (at + 1) in
     pick (leb (length s) at) Absent
     (pick (ltb (length s - at) 3) (Faulty 1)
-    (pick (not (eqb (getD s at 0) tag)) (Faulty 2)
-    (pick (not (eqb (two s (at + 1)) len)) (Faulty 3)
+    (pick (isForeign (kind tag)) (Faulty 2)
+    (pick (not (lengthFits (kind tag) len)) (Faulty 3)
     (pick (ltb (length s - at - 3) len) (Faulty 1)
     (Whole (at + 3) (at + 3 + len))))))
 
@@ -45,17 +78,27 @@ pub record Scan (A : Type 0) : Type 0 where
 abbrev pub stopped : {A : Type 0} → List A → ℕ → ℕ → Scan A
 stopped before number place = record { passed = before; number = number; place = place }
 
--- The fields of one kind from a place to the file's end. `fault` judges a body after the fields before it (0: it passes), `holds` says what it holds.
+-- What the fields after a file's head may be and hold, each after the elements before it: what a tag is, what is wrong with the body of a field that has it
+-- (0: nothing), and the element that the body holds
+pub record Grammar (A : Type 0) : Type 0 where
+  pub kind : List A → ℕ → Kind
+  pub fault : List A → ℕ → List ℕ → ℕ
+  pub holds : List A → ℕ → List ℕ → A
+
+-- The fields from a place to the file's end. A field that is passed over gives no element.
 -- Each turn passes a field, so as many turns as the file has bytes are enough
-module _ {A : Type 0} (s : List ℕ) (tag len : ℕ) (fault : List A → List ℕ → ℕ) (holds : List ℕ → A) where
+module _ {A : Type 0} (s : List ℕ) (g : Grammar A) where
   unfoldable pub scan : ℕ → ℕ → List A → Scan A
   scan zero at before = stopped before 0 0
   scan (suc turns) at before =
-      onField (fieldAt s at tag len) (stopped before 0 0) (λ number. stopped before number at)
+      onField (fieldAt s at (g .kind before)) (stopped before 0 0) (λ number. stopped before number at)
       (λ start end.
+      let tag = getD s at 0 in
       let body = part s start end in
-      let rest = scan turns end (before ++ holds body ∷ []) in
-      pick (eqb (fault before body) 0) rest (stopped before (fault before body) at))
+      let fault = g .fault before tag body in
+      let over = scan turns end before in
+      let rest = scan turns end (before ++ g .holds before tag body ∷ []) in
+      pick (isPassedOver (g .kind before tag)) over (pick (eqb fault 0) rest (stopped before fault at)))
 
 -- The refused field: three header bytes and the body by its length, cut at the file's end
 unfoldable pub fieldBytes : List ℕ → ℕ → List ℕ

@@ -2,6 +2,7 @@ pub mod Basics
 pub mod Fields
 pub mod Charts
 pub mod Diagrams
+pub mod Bytes
 pub mod Ways
 pub mod Pairs
 pub mod Plans

@@ -9,11 +9,11 @@ use mathlib.Core.Option.{Option, none, some}
 use native.Mathlib.Omega.{arith}
 use lib.Dec.{eqb}
 use lib.ListN.{length, getD}
-use Rattle.definitions.specs.Basics.{pick, smaller, larger, plus, sumOf, upto}
+use Rattle.definitions.specs.Basics.{pick, smaller, larger, sumOf, upto}
 use Rattle.definitions.specs.Diagrams.{descend, descendIn, advance, finish}
 use Rattle.definitions.specs.Ways.{Graph, waysIn, ways, leastWay}
 use Rattle.definitions.specs.Pairs.{Automaton, Estimate, stands, leastCost, reached, goal, reachedPairs, toEnd, sum}
-use Rattle.definitions.specs.Plans.{graph, automaton, chartEstimate, diagramEstimate, estimate}
+use Rattle.definitions.specs.Plans.{graph, variable, variableCost, automaton, chartEstimate, diagramEstimate, estimate}
 use Rattle.definitions.specs.Promises.{leastCosts, leastCostAt, sumAt, goalAt, Follows, Settled, Found, Ended, Logged}
 use Rattle.definitions.specs.Marked.{chart, rules, single, leaf}
 
@@ -45,11 +45,11 @@ costs =
     ∷ none ∷ some 170 ∷ none ∷ none ∷ []
 
 pub sums-hold : map (sumAt g a h) (upto 20) ≡ sums
-unfolding sums pick smaller larger plus sumOf descend descendIn advance waysIn ways leastWay stands leastCost toEnd sum chartEstimate diagramEstimate estimate
+unfolding sums pick smaller larger sumOf descend descendIn advance waysIn ways leastWay stands leastCost toEnd sum chartEstimate diagramEstimate estimate variable variableCost
 sums-hold = refl
 
 pub costs-hold : map (leastCostAt g a h) (upto 20) ≡ costs
-unfolding costs pick smaller descend descendIn advance waysIn ways leastWay stands leastCost
+unfolding costs pick smaller descend descendIn advance waysIn ways leastWay stands leastCost variable
 costs-hold = refl
 
 -- the sweep's cost slice at each pair, and in the cases (g) and (h)
@@ -64,7 +64,7 @@ pub cost-slices-hold : cost-slices ≡
     ∷ (NONE ∷ 0 ∷ [])
     ∷ (NONE ∷ NONE ∷ [])
     ∷ []
-unfolding cost-slices pick smaller descend descendIn advance waysIn ways leastWay stands leastCost leastCosts
+unfolding cost-slices pick smaller descend descendIn advance waysIn ways leastWay stands leastCost leastCosts variable
 cost-slices-hold = refl
 
 -- one pair's entry in the tables
@@ -75,7 +75,7 @@ cost-of : (p : ℕ) → getD (map (leastCostAt g a h) (upto 20)) p none ≡ getD
 cost-of p = ap (λ (l : List (Option ℕ)). getD l p none) costs-hold
 
 goals-hold : map (goalAt g a h) (3 ∷ 5 ∷ 6 ∷ 13 ∷ 17 ∷ []) ≡ false ∷ false ∷ false ∷ false ∷ true ∷ []
-unfolding pick smaller descend descendIn advance finish waysIn ways leastWay stands leastCost reached goal
+unfolding pick smaller descend descendIn advance finish waysIn ways leastWay stands leastCost reached goal variable
 goals-hold = refl
 
 -- ---- small laws: each of the first n numbers; options
@@ -146,7 +146,7 @@ good-once j i l u =
     also tt) j u i l
 
 good-follows : (j : ℕ) → j < 4 → 0 < j → (i : ℕ) × (i < j) × Follows g a h (getD good i 0) (getD good j 0)
-unfolding costs pick descend descendIn advance
+unfolding costs pick descend descendIn advance variable
 good-follows =
     each 4 (λ j. 0 < j → (i : ℕ) × (i < j) × Follows g a h (getD good i 0) (getD good j 0))
     ((λ l. absurd (omega arith))
@@ -221,10 +221,10 @@ twice s = s .once 1 2 (omega arith) (omega arith) refl
 
 -- no step leads from 3, the pair of stage 0 and node 3, or from 5, the pair of stage 1 and node 1, to 17
 abbrev Apart : ℕ → ℕ → ℕ → Type 0
-Apart s n e = g .from e ≡ s → 17 ≡ g .to e * 4 + advance rules e n → ⊥
+Apart s n e = g .from e ≡ s → 17 ≡ g .to e * 4 + a .next e n → ⊥
 
 apart : Each 6 (Apart 0 3) × Each 6 (Apart 1 1)
-unfolding pick descend descendIn advance
+unfolding pick descend descendIn advance variable
 apart = (
   (λ l e. omega arith) also (λ l e. omega arith) also (λ l e. omega arith) also (λ l e. omega arith) also (λ l e. omega arith) also (λ l e. omega arith) also tt,
   (λ l e. omega arith) also (λ l e. omega arith) also (λ l e. omega arith) also (λ l e. omega arith) also (λ l e. omega arith) also (λ l e. omega arith) also tt,
@@ -268,7 +268,7 @@ ends-early e = List·Memᴰ·not-nil (e 3 (omega arith) 120 (sum-of 3) tt)
 -- ---- the log slice: the log, then the entries that stay
 
 pub good-logged : Logged g a h (some 170) 4 (0 ∷ 0 ∷ 0 ∷ 0 ∷ 9 ∷ []) (3 ∷ 5 ∷ 13 ∷ 17 ∷ 9 ∷ [])
-unfolding pick smaller descend descendIn advance waysIn ways leastWay stands leastCost reached reachedPairs
+unfolding pick smaller descend descendIn advance waysIn ways leastWay stands leastCost reached reachedPairs variable
 good-logged = record { fits = omega arith; settled = good-settled; ended = good-found; few = omega arith; long = refl; rest = refl }
 
 pub writes-past : Logged g a h (some 170) 4 (0 ∷ 0 ∷ 0 ∷ 0 ∷ 9 ∷ []) (3 ∷ 5 ∷ 13 ∷ 17 ∷ 8 ∷ []) → ⊥

@@ -5,12 +5,12 @@ use mathlib.Core.Path.{_≡_, refl}
 use mathlib.Core.Bool.{Bool, cond}
 use mathlib.Core.List.{List, [], _∷_, _++_, map}
 use mathlib.Core.Option.{Option, none, some}
-use Rattle.definitions.specs.Basics.{pick, smaller, larger, plus, sumOf, upto}
+use Rattle.definitions.specs.Basics.{pick, smaller, larger, sumOf, upto}
 use Rattle.definitions.specs.Charts.{Chart, ChartStep}
 use Rattle.definitions.specs.Diagrams.{Diagram, InnerNode, descend, descendIn, advance, finish, verdict}
 use Rattle.definitions.specs.Ways.{waysIn, ways, leastWay, wayCost}
 use Rattle.definitions.specs.Pairs.{stageOf, nodeOf, stands, leastCost, reached, goal, reachedPairs, goalPairs, toEnd, sum}
-use Rattle.definitions.specs.Plans.{graph, automaton, saysYes, legal, cheapest, chartEstimate, diagramEstimate, estimate}
+use Rattle.definitions.specs.Plans.{graph, variable, variableCost, automaton, saysYes, legal, cheapest, chartEstimate, diagramEstimate, estimate}
 
 abbrev pub st : ℕ → ℕ → ℕ → ChartStep
 st from to cost = record { from = from; to = to; cost = cost }
@@ -84,5 +84,5 @@ marked =
     ∷ []
 
 pub marked-holds : computed ≡ marked
-unfolding computed marked pick smaller larger plus sumOf descend descendIn advance finish verdict waysIn ways leastWay stands leastCost reached goal reachedPairs goalPairs toEnd sum saysYes legal cheapest chartEstimate diagramEstimate estimate
+unfolding computed marked pick smaller larger sumOf descend descendIn advance finish verdict waysIn ways leastWay stands leastCost reached goal reachedPairs goalPairs toEnd sum variable variableCost saysYes legal cheapest chartEstimate diagramEstimate estimate
 marked-holds = refl

@@ -7,7 +7,7 @@ use mathlib.Core.List.{List, map}
 use mathlib.Core.Option.{Option, none, some}
 use lib.Dec.{eqb}
 use lib.ListN.{length, getD}
-use Rattle.definitions.specs.Basics.{smaller, larger, plus, has}
+use Rattle.definitions.specs.Basics.{smaller, larger, sumOf, has}
 use Rattle.definitions.specs.Charts.{Chart, noStep}
 use Rattle.definitions.specs.Diagrams.{Diagram, size, descend, advance, finish, verdict}
 use Rattle.definitions.specs.Ways.{Graph, IsWay, isWay, endOf, leastWay}
@@ -26,12 +26,12 @@ graph c = record {
 }
 
 -- the diagram's variable that a step sets: the step itself
-abbrev pub variable : Chart → ℕ → ℕ
+unfoldable pub variable : Chart → ℕ → ℕ
 variable c e = e
 
--- what it costs to set a variable: the cost of its step
-abbrev pub variableCost : Chart → ℕ → ℕ
-variableCost c k = graph c .cost k
+-- what it costs to set a variable, or none where no step sets it: the cost of its step
+unfoldable pub variableCost : Chart → ℕ → Option ℕ
+variableCost c k = some (graph c .cost k)
 
 -- the diagram as the automaton that reads the steps of a way
 abbrev pub automaton : Chart → Diagram → Automaton
@@ -76,7 +76,7 @@ leafEstimate (suc n) = some 0
 
 -- and at an inner node the smaller of that at lo and that at hi plus the step's cost
 unfoldable pub diagramEstimate : Chart → Diagram → ℕ → Option ℕ
-diagramEstimate c d n = descend d leafEstimate (λ n x lo hi. smaller lo (plus (variableCost c (x .step)) hi)) n
+diagramEstimate c d n = descend d leafEstimate (λ n x lo hi. smaller lo (sumOf (variableCost c (x .step)) hi)) n
 
 -- a pair's estimate: the larger of the two, none if either is none
 unfoldable pub estimate : Chart → Diagram → Estimate

@@ -11,7 +11,7 @@ use Rattle.definitions.specs.Basics.{pick, smaller}
 use Rattle.definitions.specs.Diagrams.{descend, descendIn, advance, finish, verdict}
 use Rattle.definitions.specs.Ways.{waysIn, ways, leastWay}
 use Rattle.definitions.specs.Pairs.{stands, leastCost, reached, reachedPairs}
-use Rattle.definitions.specs.Plans.{saysYes, cheapest}
+use Rattle.definitions.specs.Plans.{variable, saysYes, cheapest}
 use Rattle.definitions.specs.Answers.{ready, refused, refusal, accepted}
 use Rattle.definitions.specs.Promises.{Planned, Outcome, Scratch, leastCosts, Swept, Guided}
 use Rattle.definitions.specs.declared.Answer.{Answer}
@@ -33,7 +33,7 @@ answers-hold = refl
 -- ---- the plan slice: steps 1, 3, 5 of document 01's chart cost 170
 
 pub good-planned : Planned chart rules 170 3 (7 ∷ 7 ∷ 7 ∷ 7 ∷ []) (1 ∷ 3 ∷ 5 ∷ 7 ∷ [])
-unfolding pick descend descendIn verdict saysYes
+unfolding pick descend descendIn verdict saysYes variable
 good-planned = record {
   fits = omega arith;
   legal = (((omega arith, refl, (omega arith, refl, (omega arith, refl, tt))), refl), refl);
@@ -47,7 +47,7 @@ pub no-room : Planned single (leaf 1) 0 1 [] [] → ⊥
 no-room p = omega (arith, p .fits)
 
 pub not-legal : Planned chart rules 120 3 (7 ∷ 7 ∷ 7 ∷ []) (0 ∷ 3 ∷ 5 ∷ []) → ⊥
-unfolding pick descend descendIn verdict saysYes
+unfolding pick descend descendIn verdict saysYes variable
 not-legal p = false-true (p .legal .1)
 
 pub not-its-cost : Planned chart rules 171 3 (7 ∷ 7 ∷ 7 ∷ []) (1 ∷ 3 ∷ 5 ∷ []) → ⊥
@@ -118,21 +118,21 @@ guided-log-changed s = let e = differ (s .2) 0 in omega arith
 -- ---- whole searches: the sweep in case (g), the guided search on document 01's chart
 
 pub sweep-holds : Swept (ready single (leaf 1)) (7 ∷ []) (7 ∷ []) (5 ∷ 5 ∷ 6 ∷ []) (4294967295 ∷ 0 ∷ 6 ∷ []) (accepted 0 0 1)
-unfolding pick smaller descend descendIn advance verdict saysYes waysIn ways leastWay stands leastCost reached reachedPairs cheapest leastCosts
+unfolding pick smaller descend descendIn advance verdict saysYes waysIn ways leastWay stands leastCost reached reachedPairs cheapest leastCosts variable
 sweep-holds = ((refl, record { fits = omega arith; legal = ((tt, refl), refl); costs = refl; long = refl; rest = refl }), refl)
 
 pub sweep-counts : Swept (ready single (leaf 1)) (7 ∷ []) (7 ∷ []) (5 ∷ 5 ∷ 6 ∷ []) (4294967295 ∷ 0 ∷ 6 ∷ []) (accepted 0 0 2) → ⊥
-unfolding pick smaller descend descendIn advance verdict saysYes waysIn ways leastWay stands leastCost reached reachedPairs cheapest
+unfolding pick smaller descend descendIn advance verdict saysYes waysIn ways leastWay stands leastCost reached reachedPairs cheapest variable
 sweep-counts s = let e = ap (λ (r : Answer). r .count) (s .0 .0) in omega arith
 
 pub sweep-writes-past : Swept (ready single (leaf 1)) (7 ∷ []) (7 ∷ []) (5 ∷ 5 ∷ 6 ∷ []) (4294967295 ∷ 0 ∷ 7 ∷ []) (accepted 0 0 1) → ⊥
-unfolding pick smaller descend descendIn advance waysIn ways leastWay stands leastCost leastCosts
+unfolding pick smaller descend descendIn advance waysIn ways leastWay stands leastCost leastCosts variable
 sweep-writes-past s = let e = differ (s .1) 2 in omega arith
 
 pub guided-holds : Guided (ready chart rules) (7 ∷ 7 ∷ 7 ∷ 7 ∷ []) (1 ∷ 3 ∷ 5 ∷ 7 ∷ []) (0 ∷ 0 ∷ 0 ∷ 0 ∷ 9 ∷ []) (3 ∷ 5 ∷ 13 ∷ 17 ∷ 9 ∷ []) (accepted 170 3 4)
-unfolding pick smaller descend descendIn verdict saysYes waysIn ways leastWay cheapest
+unfolding pick smaller descend descendIn verdict saysYes waysIn ways leastWay cheapest variable
 guided-holds = ((refl, good-planned), good-logged)
 
 pub guided-cost : Guided (ready chart rules) (7 ∷ 7 ∷ 7 ∷ 7 ∷ []) (1 ∷ 3 ∷ 5 ∷ 7 ∷ []) (0 ∷ 0 ∷ 0 ∷ 0 ∷ 9 ∷ []) (3 ∷ 5 ∷ 13 ∷ 17 ∷ 9 ∷ []) (accepted 171 3 4) → ⊥
-unfolding pick smaller descend descendIn verdict saysYes waysIn ways leastWay cheapest
+unfolding pick smaller descend descendIn verdict saysYes waysIn ways leastWay cheapest variable
 guided-cost s = let e = ap (λ (r : Answer). r .cost) (s .0 .0) in omega arith

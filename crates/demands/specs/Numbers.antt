@@ -8,9 +8,9 @@ use native.Mathlib.Omega.{arith}
 use lib.Dec.{leb, ltb, eqb}
 use lib.ListN.{length, getD}
 use Rattle.definitions.specs.Basics.{pick}
-use Rattle.definitions.specs.Fields.{two, four, part, fieldAt, onField, Scan, stopped, scan}
-use Rattle.definitions.specs.Charts.{ChartRead, headFault, stepFault, lastFrom, stepFaultAfter, badHead, withSteps, scanSteps, readChart}
-use Rattle.definitions.specs.Diagrams.{InnerNode, noNode, childFits, nodeFault, nodeFaultAfter, DiagramRead, diagramRead, withNodes, scanNodes, readDiagram}
+use Rattle.definitions.specs.Fields.{two, part, Kind, isPassedOver, only, fieldAt, onField, Grammar, Scan, stopped, scan}
+use Rattle.definitions.specs.Charts.{ChartRead, headFault, stepFault, lastFrom, badHead, withSteps, stepGrammar, scanSteps, readChart}
+use Rattle.definitions.specs.Diagrams.{InnerNode, noNode, childFits, nodeFault, DiagramRead, diagramRead, withNodes, nodeGrammar, scanNodes, readDiagram}
 use Rattle.definitions.specs.declared.Field.{Field}
 use Rattle.definitions.specs.declared.Field.the-variants.{Absent, Faulty, Whole}
 use Rattle.fields.specs.Choices.{both}
@@ -24,9 +24,9 @@ FewField Absent = Unit {0}
 FewField (Faulty number) = Few number
 FewField (Whole start end) = Unit {0}
 
-field-few : (s : List ℕ) (at tag len : ℕ) → FewField (fieldAt s at tag len)
+field-few : (s : List ℕ) (at : ℕ) (kind : ℕ → Kind) → FewField (fieldAt s at kind)
 unfolding fieldAt
-field-few s at tag len =
+field-few s at kind =
     both FewField _ tt
     (both FewField _ (omega arith)
     (both FewField _ (omega arith)
@@ -59,23 +59,36 @@ node-few steps stepAt count b =
     (both Few _ (omega arith) (omega arith))))
 
 -- a walk from field to field, by the number of each body
-module _ {A : Type 0} (s : List ℕ) (tag len : ℕ) (fault : List A → List ℕ → ℕ) (holds : List ℕ → A) (few : (before : List A) (b : List ℕ) → Few (fault before b)) where
-  scan-few : (turns at : ℕ) (before : List A) → Few (scan s tag len fault holds turns at before .number)
+module _ {A : Type 0} (s : List ℕ) (g : Grammar A) (few : (before : List A) (tag : ℕ) (b : List ℕ) → Few (g .fault before tag b)) where
+  scan-few : (turns at : ℕ) (before : List A) → Few (scan s g turns at before .number)
   unfolding scan onField
   scan-few zero at before = omega arith
-  scan-few (suc n) at before = go (fieldAt s at tag len) (field-few s at tag len) (scan-few n)
+  scan-few (suc n) at before = go (fieldAt s at (g .kind before)) (field-few s at (g .kind before)) (scan-few n)
     where
-      go : (r : Field) → FewField r → ((at : ℕ) (before : List A) → Few (scan s tag len fault holds n at before .number))
-          → Few (onField r (stopped before 0 0) (λ number. stopped before number at)
-          (λ start end. pick (eqb (fault before (part s start end)) 0) (scan s tag len fault holds n end (before ++ holds (part s start end) ∷ [])) (stopped before (fault before (part s start end)) at)) .number)
+      FewScan : Scan A → Type 0
+      FewScan x = Few (x .number)
+
+      -- what a whole field leads to
+      found : ℕ → ℕ → Scan A
+      found a e =
+          let tag = getD s at 0 in
+          let body = part s a e in
+          pick (isPassedOver (g .kind before tag)) (scan s g n e before)
+          (pick (eqb (g .fault before tag body) 0) (scan s g n e (before ++ g .holds before tag body ∷ [])) (stopped before (g .fault before tag body) at))
+
+      go : (r : Field) → FewField r → ((at : ℕ) (before : List A) → Few (scan s g n at before .number))
+          → Few (onField r (stopped before 0 0) (λ number. stopped before number at) found .number)
       go Absent f k = omega arith
       go (Faulty number) f k = f
       go (Whole a e) f k =
-          both (λ (x : Scan A). Few (x .number)) (eqb (fault before (part s a e)) 0) (k e (before ++ holds (part s a e) ∷ [])) (few before (part s a e))
+          let tag = getD s at 0 in
+          let body = part s a e in
+          both FewScan (isPassedOver (g .kind before tag)) (k e before)
+          (both FewScan (eqb (g .fault before tag body) 0) (k e (before ++ g .holds before tag body ∷ [])) (few before tag body))
 
 pub chart-few : (s : List ℕ) → readChart s .number ≤ 6
 unfolding readChart onField
-chart-few s = go (fieldAt s 0 1 6) (field-few s 0 1 6)
+chart-few s = go (fieldAt s 0 (only 1 6)) (field-few s 0 (only 1 6))
   where
     found : ℕ → ℕ → ChartRead
     found a e =
@@ -88,11 +101,11 @@ chart-few s = go (fieldAt s 0 1 6) (field-few s 0 1 6)
     go (Whole a e) f =
         let b = part s a e in
         both (λ (x : ChartRead). Few (x .number)) (eqb (headFault b) 0)
-        (scan-few s 2 8 (stepFaultAfter (two b 0)) _ (λ before b′. step-few (two b 0) (lastFrom before) (length before) b′) (length s) e []) (head-few b)
+        (scan-few s (stepGrammar (two b 0)) (λ before tag b′. step-few (two b 0) (lastFrom before) (length before) b′) (length s) e []) (head-few b)
 
 pub rules-few : (s : List ℕ) (steps : ℕ) → readDiagram s steps .number ≤ 6
 unfolding readDiagram onField
-rules-few s steps = go (fieldAt s 0 17 2) (field-few s 0 17 2)
+rules-few s steps = go (fieldAt s 0 (only 17 2)) (field-few s 0 (only 17 2))
   where
     rooted : (root : ℕ) (x : Scan InnerNode) → Few (x .number) → Few (withNodes root x .number)
     rooted root x f =
@@ -105,4 +118,4 @@ rules-few s steps = go (fieldAt s 0 17 2) (field-few s 0 17 2)
     go (Faulty number) f = f
     go (Whole a e) f =
         rooted (two (part s a e) 0) (scanNodes s steps e)
-        (scan-few s 18 6 (nodeFaultAfter steps) _ (λ before b. node-few steps (λ r. getD before (r - 2) noNode .step) (length before) b) (length s) e [])
+        (scan-few s (nodeGrammar steps) (λ before tag b. node-few steps (λ r. getD before (r - 2) noNode .step) (length before) b) (length s) e [])

@@ -7,7 +7,7 @@ use lib.Seq.{getD-set-same, getD-set-other, drop-set-lt}
 use native.Mathlib.Omega.{arith}
 use borrow.Author.Tests.{eq-eqb, ne-eqb, le-leb, lt-leb}
 use Rattle.definitions.specs.Basics.{pick}
-use Rattle.definitions.specs.Fields.{two, part, fieldAt, onField, Scan}
+use Rattle.definitions.specs.Fields.{two, part, only, fieldAt, onField, Scan}
 use Rattle.definitions.specs.Diagrams.{InnerNode, diagramRead, withNodes, scanNodes, readDiagram}
 use Rattle.definitions.specs.declared.Field.{Field}
 use Rattle.definitions.specs.declared.Field.the-variants.{Absent, Faulty, Whole}
@@ -95,7 +95,7 @@ module _ (root : ℕ) (x : Scan InnerNode) where
   unfolding pick
   with-good z l = simp (eq-eqb (x .number) 0 z, lt-leb (length (x .passed) + 2) root l)
 
-module _ (s : List ℕ) (steps : ℕ) (packed : List (List ℕ)) (r : Field) (given : r ≡ fieldAt s 0 17 2) where
+module _ (s : List ℕ) (steps : ℕ) (packed : List (List ℕ)) (r : Field) (given : r ≡ fieldAt s 0 (only 17 2)) where
   -- a head that is not whole
   no-head : (number : ℕ) (v : DiagramRead) → v ≡ diagramAnswer (diagramRead number 0 0 []) → readDiagram s steps ≡ diagramRead number 0 0 []
       → Reads s steps packed (marks packed) v

@@ -10,8 +10,8 @@ use lib.Seq.{getD-append-seam}
 use native.Mathlib.Omega.{arith}
 use borrow.Author.Tests.{leb-false, eqb-false}
 use Rattle.definitions.specs.Basics.{pick}
-use Rattle.definitions.specs.Fields.{two, part, fieldAt, onField, Scan}
-use Rattle.definitions.specs.Diagrams.{Diagram, InnerNode, noNode, inner, innerNodeOf, nodeFaultAfter, DiagramRead, diagramRead, withNodes, scanNodes, readDiagram}
+use Rattle.definitions.specs.Fields.{two, part, only, fieldAt, onField, Scan}
+use Rattle.definitions.specs.Diagrams.{Diagram, InnerNode, noNode, inner, innerNodeOf, nodeFaultAfter, DiagramRead, diagramRead, withNodes, nodeGrammar, scanNodes, readDiagram}
 use Rattle.theory.specs.Limits.{Ordered, Sound}
 use Rattle.definitions.specs.declared.Field.{Field}
 use Rattle.definitions.specs.declared.Field.the-variants.{Absent, Faulty, Whole}
@@ -100,8 +100,8 @@ module _ (root steps : ℕ) where
 
   scanned : (s : List ℕ) (at : ℕ) → Limited root steps (scanNodes s steps at .passed)
   scanned s at =
-      scan-keeps s 18 6 (nodeFaultAfter steps) innerNodeOf (Limited root steps)
-      (λ at a e before w t was.
+      scan-keeps s (nodeGrammar steps) (Limited root steps)
+      (λ at a e before w o t was.
       let f = node-fits steps (λ r. getD before (r - 2) noNode .step) (length before) (part s a e) (sym t) in
       node-added before (innerNodeOf (part s a e)) was (f .few) (f .exists) (f .lo) (f .hi))
       (length s) at [] none-limited
@@ -130,4 +130,4 @@ from-field s steps (Whole a b) e = rooted (two (part s a b) 0) steps (scanNodes 
 
 pub diagram-accepted : (s : List ℕ) (steps : ℕ) → readDiagram s steps .number ≡ 0 → Sound steps (readDiagram s steps .diagram)
 unfolding readDiagram
-diagram-accepted s steps = from-field s steps (fieldAt s 0 17 2)
+diagram-accepted s steps = from-field s steps (fieldAt s 0 (only 17 2))

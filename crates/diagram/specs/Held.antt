@@ -8,19 +8,19 @@ use lib.Seq.{getD-set-same, getD-set-other}
 use native.Mathlib.Omega.{arith}
 use Rattle.definitions.specs.Diagrams.{Diagram, InnerNode, noNode, size, inner}
 use Rattle.theory.specs.Limits.{Ordered}
-use Rattle.fields.specs.Listed.{listed-length, listed-getD, grown}
-use Rattle.diagram.specs.Tables.{entry, heldNodes, heldDiagram, Marked, Held}
+use Rattle.theory.specs.Basics.{length-map-run, getD-map-upto, upto-grown}
+use Rattle.diagram.specs.Tables.{heldNode, heldNodes, heldDiagram, Marked, Held}
 
 module _ (count : ℕ) (step lo hi : List ℕ) where
   pub length-held : length (heldNodes count step lo hi) ≡ count
   unfolding heldNodes
-  length-held = listed-length (λ (i : ℕ). entry step lo hi (i + 2)) count
+  length-held = length-map-run (λ (i : ℕ). heldNode step lo hi (i + 2)) 0 count
 
-  pub getD-held : (n : ℕ) → 2 ≤ n → n < count + 2 → getD (heldNodes count step lo hi) (n - 2) noNode ≡ entry step lo hi n
+  pub getD-held : (n : ℕ) → 2 ≤ n → n < count + 2 → getD (heldNodes count step lo hi) (n - 2) noNode ≡ heldNode step lo hi n
   unfolding heldNodes
   getD-held n h l =
       let q : n - 2 + 2 ≡ n = omega arith in
-      listed-getD (λ (i : ℕ). entry step lo hi (i + 2)) count (n - 2) noNode (omega arith) ∙ ap (entry step lo hi) q
+      getD-map-upto (λ (i : ℕ). heldNode step lo hi (i + 2)) count (n - 2) noNode (omega arith) ∙ ap (heldNode step lo hi) q
 
   pub held-tables : (root : ℕ) → Ordered (heldDiagram root count step lo hi) → count ≤ 510 → Marked step → Held (heldDiagram root count step lo hi) step lo hi
   held-tables root o f m = record {
@@ -33,9 +33,9 @@ module _ (count : ℕ) (step lo hi : List ℕ) where
 -- one more node stored
 module _ (count : ℕ) (step lo hi : List ℕ) (x : InnerNode) (ls : length step ≡ 512) (ll : length lo ≡ 512) (lh : length hi ≡ 512) (below : count < 510) where
   abbrev stored : (ℕ → InnerNode)
-  stored n = entry (set step (count + 2) (x .step)) (set lo (count + 2) (x .lo)) (set hi (count + 2) (x .hi)) n
+  stored n = heldNode (set step (count + 2) (x .step)) (set lo (count + 2) (x .lo)) (set hi (count + 2) (x .hi)) n
 
-  stored-before : (i : ℕ) → i < count → stored (i + 2) ≡ entry step lo hi (i + 2)
+  stored-before : (i : ℕ) → i < count → stored (i + 2) ≡ heldNode step lo hi (i + 2)
   stored-before i l =
       rw (
         getD-set-other step (count + 2) (i + 2) (x .step) 0 (λ q. omega arith),
@@ -53,11 +53,11 @@ module _ (count : ℕ) (step lo hi : List ℕ) (x : InnerNode) (ls : length step
 
   pub held-grown : heldNodes (count + 1) (set step (count + 2) (x .step)) (set lo (count + 2) (x .lo)) (set hi (count + 2) (x .hi)) ≡ heldNodes count step lo hi ++ x ∷ []
   unfolding heldNodes
-  held-grown = grown (λ (i : ℕ). entry step lo hi (i + 2)) (λ (i : ℕ). stored (i + 2)) count x stored-before stored-here
+  held-grown = upto-grown (λ (i : ℕ). heldNode step lo hi (i + 2)) (λ (i : ℕ). stored (i + 2)) count x stored-before stored-here
 
 module _ (d : Diagram) (step lo hi : List ℕ) (held : Held d step lo hi) where
   module _ (n : ℕ) (h : 2 ≤ n) (l : n < size d) where
-    pub held-inner : inner d n ≡ entry step lo hi n
+    pub held-inner : inner d n ≡ heldNode step lo hi n
     held-inner = ap (λ (x : List InnerNode). getD x (n - 2) noNode) (sym (held .nodes)) ∙ getD-held (length (d .nodes)) step lo hi n h l
 
     pub held-step : inner d n .step ≡ getD step n 0

@@ -9,12 +9,12 @@ use Rattle.definitions.specs.Diagrams.{Diagram, InnerNode}
 use Rattle.theory.specs.Limits.{Ordered}
 
 -- the node that stands at a number
-abbrev pub entry : List ℕ → List ℕ → List ℕ → ℕ → InnerNode
-entry step lo hi n = record { step = getD step n 0; lo = getD lo n 0; hi = getD hi n 0 }
+abbrev pub heldNode : List ℕ → List ℕ → List ℕ → ℕ → InnerNode
+heldNode step lo hi n = record { step = getD step n 0; lo = getD lo n 0; hi = getD hi n 0 }
 
 -- the first `count` inner nodes: those of the numbers 2, 3, 4 ..
 unfoldable pub heldNodes : ℕ → List ℕ → List ℕ → List ℕ → List InnerNode
-heldNodes count step lo hi = map (λ i. entry step lo hi (i + 2)) (upto count)
+heldNodes count step lo hi = map (λ i. heldNode step lo hi (i + 2)) (upto count)
 
 abbrev pub heldDiagram : ℕ → ℕ → List ℕ → List ℕ → List ℕ → Diagram
 heldDiagram root count step lo hi = record { root = root; nodes = heldNodes count step lo hi }

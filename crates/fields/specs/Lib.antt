@@ -1,6 +1,5 @@
 pub mod Choices
 pub mod Positions
 pub mod Scans
-pub mod Listed
 pub mod Refused
 pub mod Lies

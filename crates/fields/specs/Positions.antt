@@ -1,48 +1,55 @@
--- Where a field stands: one law for each case of `fieldAt`, with the code's tests as premises, and what is known of a whole field's body.
+-- Where a field stands: one law for each case of `fieldAt`, what is known of a whole field, and the same for fields of one tag and length only.
 -- Assumes nothing.
 use Prim.Native.Nat.{ℕ, _+_, _-_, _≤_, _<_}
-use mathlib.Core.Path.{_≡_, sym, _∙_, subst}
-use mathlib.Core.Bool.{not}
+use mathlib.Core.Path.{_≡_, refl, sym, _∙_, ap, subst}
+use mathlib.Core.Bool.{Bool, true, false, not}
 use mathlib.Core.List.{List}
 use lib.Dec.{ltb, leb, eqb}
 use lib.ListN.{length, getD, length-take, length-drop}
 use native.Mathlib.Omega.{arith}
-use borrow.Author.Tests.{leb-false, ltb-false}
+use borrow.Author.Tests.{leb-false, ltb-false, eqb-true, eq-eqb, ne-eqb, not-false}
 use Rattle.definitions.specs.Basics.{pick}
-use Rattle.definitions.specs.Fields.{two, part, fieldAt}
+use Rattle.definitions.specs.Fields.{two, part, Kind, foreign, exactly, isForeign, isPassedOver, lengthFits, only, fieldAt}
 use Rattle.definitions.specs.declared.Field.{Field}
 use Rattle.definitions.specs.declared.Field.the-variants.{Absent, Faulty, Whole}
 use Rattle.fields.specs.Choices.{tests, past, both}
 
-module _ (s : List ℕ) (at tag len : ℕ) where
-  pub field-absent : length s ≤ at → Absent ≡ fieldAt s at tag len
+-- ---- fields of any kind
+
+module _ (s : List ℕ) (at : ℕ) (kind : ℕ → Kind) where
+  abbrev found : Kind
+  found = kind (getD s at 0)
+
+  abbrev said : ℕ
+  said = two s (at + 1)
+
+  pub field-absent : length s ≤ at → Absent ≡ fieldAt s at kind
   unfolding fieldAt pick
   field-absent p = simp tests
 
-  pub field-cut : at < length s → length s - at < 3 → Faulty 1 ≡ fieldAt s at tag len
-  unfolding fieldAt pick
-  field-cut p q = simp tests
-
-  pub field-tag : at < length s → 3 ≤ length s - at → (getD s at 0 ≡ tag → ⊥) → Faulty 2 ≡ fieldAt s at tag len
-  unfolding fieldAt pick
-  field-tag p q r = simp tests
-
-  module _ (said : ℕ) (read : said ≡ two s (at + 1)) where
-    pub field-length : at < length s → 3 ≤ length s - at → getD s at 0 ≡ tag → (said ≡ len → ⊥) → Faulty 3 ≡ fieldAt s at tag len
+  module _ (p : at < length s) where
+    pub field-cut : length s - at < 3 → Faulty 1 ≡ fieldAt s at kind
     unfolding fieldAt pick
-    field-length p q r t = simp (← read, tests)
+    field-cut q = simp tests
 
-    pub field-body-cut : at < length s → 3 ≤ length s - at → getD s at 0 ≡ tag → said ≡ len → length s - at - 3 < len
-        → Faulty 1 ≡ fieldAt s at tag len
-    unfolding fieldAt pick
-    field-body-cut p q r t u = simp (← read, tests)
+    module _ (q : 3 ≤ length s - at) where
+      pub field-foreign : isForeign found ≡ true → Faulty 2 ≡ fieldAt s at kind
+      unfolding fieldAt pick
+      field-foreign r = simp (r, tests)
 
-    pub field-whole : at < length s → 3 ≤ length s - at → getD s at 0 ≡ tag → said ≡ len → len ≤ length s - at - 3
-        → Whole (at + 3) (at + 3 + len) ≡ fieldAt s at tag len
-    unfolding fieldAt pick
-    field-whole p q r t u = simp (← read, tests)
+      module _ (r : isForeign found ≡ false) where
+        pub field-unfit : lengthFits found said ≡ false → Faulty 3 ≡ fieldAt s at kind
+        unfolding fieldAt pick
+        field-unfit t = simp (r, t, tests)
 
-pub ruleset field-laws = (field-absent, field-cut, field-tag, field-length, field-body-cut, field-whole)
+        module _ (t : lengthFits found said ≡ true) where
+          pub field-short : length s - at - 3 < said → Faulty 1 ≡ fieldAt s at kind
+          unfolding fieldAt pick
+          field-short u = simp (r, t, tests)
+
+          pub field-whole : said ≤ length s - at - 3 → Whole (at + 3) (at + 3 + said) ≡ fieldAt s at kind
+          unfolding fieldAt pick
+          field-whole u = simp (r, t, tests)
 
 -- a faulty field has a number other than 0
 abbrev Numbered : Field → Type 0
@@ -50,23 +57,24 @@ Numbered Absent = Unit {0}
 Numbered (Faulty number) = 0 < number
 Numbered (Whole start end) = Unit {0}
 
-numbered : (s : List ℕ) (at tag len : ℕ) → Numbered (fieldAt s at tag len)
+numbered : (s : List ℕ) (at : ℕ) (kind : ℕ → Kind) → Numbered (fieldAt s at kind)
 unfolding fieldAt
-numbered s at tag len =
+numbered s at kind =
     both Numbered (leb (length s) at) tt
     (both Numbered (ltb (length s - at) 3) (omega arith)
-    (both Numbered (not (eqb (getD s at 0) tag)) (omega arith)
-    (both Numbered (not (eqb (two s (at + 1)) len)) (omega arith)
-    (both Numbered (ltb (length s - at - 3) len) (omega arith) tt))))
+    (both Numbered (isForeign (kind (getD s at 0))) (omega arith)
+    (both Numbered (not (lengthFits (kind (getD s at 0)) (two s (at + 1)))) (omega arith)
+    (both Numbered (ltb (length s - at - 3) (two s (at + 1))) (omega arith) tt))))
 
-pub faulty-number : (s : List ℕ) (at tag len number : ℕ) → Faulty number ≡ fieldAt s at tag len → 0 < number
-faulty-number s at tag len number p = subst Numbered (sym p) (numbered s at tag len)
+pub faulty-number : (s : List ℕ) (at : ℕ) (kind : ℕ → Kind) (number : ℕ) → Faulty number ≡ fieldAt s at kind → 0 < number
+faulty-number s at kind number p = subst Numbered (sym p) (numbered s at kind)
 
--- a body stands inside the file, right after its header
-pub record Within (s : List ℕ) (at len a e : ℕ) : Type 0 where
+-- a body stands inside the file, right after its header, with a length that its kind may have
+pub record Within (s : List ℕ) (at : ℕ) (kind : ℕ → Kind) (a e : ℕ) : Type 0 where
   pub starts : a ≡ at + 3
-  pub ends : e ≡ a + len
-  pub fits : e ≤ length s
+  pub ends : e ≡ a + two s (at + 1)
+  pub inside : e ≤ length s
+  pub fits : lengthFits (kind (getD s at 0)) (two s (at + 1)) ≡ true
 
 unlike-absent : {a e : ℕ} → Whole a e ≡ Absent → ⊥
 unlike-absent p = let z : _≡_ {A = ℕ} 0 1 = cc in omega arith
@@ -74,38 +82,98 @@ unlike-absent p = let z : _≡_ {A = ℕ} 0 1 = cc in omega arith
 unlike-faulty : {a e n : ℕ} → Whole a e ≡ Faulty n → ⊥
 unlike-faulty p = let z : _≡_ {A = ℕ} 0 1 = cc in omega arith
 
-pub within : (s : List ℕ) (at tag len a e : ℕ) → Whole a e ≡ fieldAt s at tag len → Within s at len a e
+pub within : (s : List ℕ) (at : ℕ) (kind : ℕ → Kind) (a e : ℕ) → Whole a e ≡ fieldAt s at kind → Within s at kind a e
 unfolding fieldAt
-within s at tag len a e p =
+within s at kind a e p =
+    let len = two s (at + 1) in
     let p1 = past (leb (length s) at) unlike-absent p in
     let p2 = past (ltb (length s - at) 3) unlike-faulty (p1 .1) in
-    let p3 = past (not (eqb (getD s at 0) tag)) unlike-faulty (p2 .1) in
-    let p4 = past (not (eqb (two s (at + 1)) len)) unlike-faulty (p3 .1) in
+    let p3 = past (isForeign (kind (getD s at 0))) unlike-faulty (p2 .1) in
+    let p4 = past (not (lengthFits (kind (getD s at 0)) len)) unlike-faulty (p3 .1) in
     let p5 = past (ltb (length s - at - 3) len) unlike-faulty (p4 .1) in
     let ea : a ≡ at + 3 = cc (p5 .1) in
     let ee : e ≡ at + 3 + len = cc (p5 .1) in
     record {
       starts = ea;
       ends = omega arith;
-      fits = omega (arith, leb-false (length s) at (p1 .0), ltb-false (length s - at) 3 (p2 .0), ltb-false (length s - at - 3) len (p5 .0));
+      inside = omega (arith, leb-false (length s) at (p1 .0), ltb-false (length s - at) 3 (p2 .0), ltb-false (length s - at - 3) len (p5 .0));
+      fits = not-false _ (p4 .0);
     }
 
+-- ---- fields of one tag and length only
+
+module _ (tag len : ℕ) where
+  only-same : (found : ℕ) → found ≡ tag → only tag len found ≡ exactly len
+  unfolding only pick
+  only-same found p = rw (eq-eqb found tag p)
+
+  only-other : (found : ℕ) → (found ≡ tag → ⊥) → only tag len found ≡ foreign
+  unfolding only pick
+  only-other found p = rw (ne-eqb found tag p)
+
+  -- none is passed over
+  pub only-gives : (found : ℕ) → isPassedOver (only tag len found) ≡ false
+  unfolding only pick
+  only-gives found = go (eqb found tag)
+    where
+      go : (b : Bool) → isPassedOver (pick b (exactly len) foreign) ≡ false
+      go true = refl
+      go false = refl
+
+  -- a length that fits is that one
+  only-length : (found said : ℕ) → lengthFits (only tag len found) said ≡ true → said ≡ len
+  unfolding only pick
+  only-length found said = go (eqb found tag)
+    where
+      go : (b : Bool) → lengthFits (pick b (exactly len) foreign) said ≡ true → said ≡ len
+      go true t = eqb-true said len t
+      go false t = let z : _≡_ {A = ℕ} 0 1 = cc in absurd (omega arith)
+
+-- with the tests of the code as premises
+module _ (s : List ℕ) (at tag len : ℕ) (p : at < length s) (q : 3 ≤ length s - at) where
+  pub only-tag : (getD s at 0 ≡ tag → ⊥) → Faulty 2 ≡ fieldAt s at (only tag len)
+  only-tag r = field-foreign s at (only tag len) p q (ap isForeign (only-other tag len (getD s at 0) r))
+
+  module _ (said : ℕ) (read : said ≡ two s (at + 1)) (r : getD s at 0 ≡ tag) where
+    known : isForeign (only tag len (getD s at 0)) ≡ false
+    known = ap isForeign (only-same tag len (getD s at 0) r)
+
+    fitting : lengthFits (only tag len (getD s at 0)) (two s (at + 1)) ≡ eqb said len
+    fitting = rw (only-same tag len (getD s at 0) r, read)
+
+    pub only-unfit : (said ≡ len → ⊥) → Faulty 3 ≡ fieldAt s at (only tag len)
+    only-unfit t = field-unfit s at (only tag len) p q known (fitting ∙ ne-eqb said len t)
+
+    module _ (t : said ≡ len) where
+      pub only-short : length s - at - 3 < len → Faulty 1 ≡ fieldAt s at (only tag len)
+      only-short u = field-short s at (only tag len) p q known (fitting ∙ eq-eqb said len t) (omega arith)
+
+      pub only-whole : len ≤ length s - at - 3 → Whole (at + 3) (at + 3 + len) ≡ fieldAt s at (only tag len)
+      only-whole u =
+          let l : two s (at + 1) ≡ len = sym read ∙ t in
+          ap (λ (k : ℕ). Whole (at + 3) (at + 3 + k)) (sym l) ∙ field-whole s at (only tag len) p q known (fitting ∙ eq-eqb said len t) (omega arith)
+
+pub ruleset field-laws = (field-absent, field-cut, only-tag, only-unfit, only-short, only-whole)
+
 -- what a caller of `field_at` asks of the body that it was given
-module _ (s : List ℕ) (at tag len a e : ℕ) (r : Field) (given : r ≡ fieldAt s at tag len) (found : r ≡ Whole a e) where
-  pub body-within : Within s at len a e
-  body-within = within s at tag len a e (sym found ∙ given)
+module _ (s : List ℕ) (at tag len a e : ℕ) (r : Field) (given : r ≡ fieldAt s at (only tag len)) (found : r ≡ Whole a e) where
+  pub body-within : Within s at (only tag len) a e
+  body-within = within s at (only tag len) a e (sym found ∙ given)
+
+  ends : e ≡ a + len
+  ends = omega (arith, body-within .ends, only-length tag len (getD s at 0) (two s (at + 1)) (body-within .fits))
 
   pub body-order : a ≤ e
-  body-order = omega (arith, body-within)
+  body-order = omega (arith, ends)
 
   pub body-fits : e ≤ length s
-  body-fits = omega (arith, body-within)
+  body-fits = body-within .inside
 
   pub body-length : length (part s a e) ≡ len
-  body-length = simp (length-take, length-drop) (omega (arith, body-within))
+  body-length = simp (length-take, length-drop) (omega (arith, ends, body-fits))
 
   -- the rest of the file after it is shorter
   pub body-less : length s - e < length s - at
-  body-less = omega (arith, body-within)
+  body-less = omega (arith, body-within .starts, ends, body-fits)
 
 pub ruleset body-laws = (body-order, body-fits, body-length, body-less)

@@ -5,7 +5,7 @@ ghost use mathlib.Core.Path.{_≡_};
 ghost use Prim.Native.Nat.{_+_, _-_, _*_, _<_, min};
 ghost use lib.ListN.{length};
 ghost use Rattle.fields.specs.Lies.{refusedAt};
-ghost use Rattle.definitions.specs.Fields.{two, four, fieldAt, refusedField};
+ghost use Rattle.definitions.specs.Fields.{two, four, only, fieldAt, refusedField};
 use crate::reader::moved;
 use crate::reader::new;
 use crate::reader::next;
@@ -39,7 +39,7 @@ pub fn read_u32(b: &[u8], at: usize) -> u32
 // What stands at a place where a field of this tag and length is due, asked of a reader that is moved there. The
 // parameters are plain, so that the callers are covered.
 pub fn field_at(s: &[u8], at: usize, tag: u8, len: u16) -> Field
-    ensures { λ r. ⌜ r ≡ fieldAt (now (s .entry)) at tag len ⌝ }
+    ensures { λ r. ⌜ r ≡ fieldAt (now (s .entry)) at (only tag len) ⌝ }
 {
     next(moved(new(s), at), tag, len)
 }

@@ -2,7 +2,7 @@
 // The borrow checker covers no function over a struct that holds a reference, so these are proved by hand. They are thin:
 // the work is done by `look_at`, which takes a plain slice and is covered.
 ghost use mathlib.Core.Path.{_≡_};
-ghost use Rattle.definitions.specs.Fields.{fieldAt};
+ghost use Rattle.definitions.specs.Fields.{only, fieldAt};
 use crate::read_u16;
 use definitions::Field;
 
@@ -14,7 +14,7 @@ pub struct Reader<'a> {
 
 // What stands at a place where a field of this tag and length is due.
 fn look_at(s: &[u8], at: usize, tag: u8, len: u16) -> Field
-    ensures { λ r. ⌜ r ≡ fieldAt (now (s .entry)) at tag len ⌝ }
+    ensures { λ r. ⌜ r ≡ fieldAt (now (s .entry)) at (only tag len) ⌝ }
 {
     if s.len() <= at {
         return Field::Absent;
@@ -57,7 +57,7 @@ pub fn moved<'a>(r: Reader<'a>, at: usize) -> Reader<'a>
 
 // The next field's body, where a field of this tag and length is due, or what is wrong there.
 pub fn next<'a>(r: Reader<'a>, tag: u8, len: u16) -> Field
-    ensures { λ f. ⌜ f ≡ fieldAt (now (r .entry .src)) (r .entry .at) tag len ⌝ }
+    ensures { λ f. ⌜ f ≡ fieldAt (now (r .entry .src)) (r .entry .at) (only tag len) ⌝ }
 {
     look_at(r.src, r.at, tag, len)
 }

@@ -1,195 +1,163 @@
--- From the cleared keys to the plan: what the search needs, and that its end is the promised one.
+-- From the filled tables to the promise: what clearing and the search ask, and that the search's end is the promised one.
 -- Assumes nothing.
-use Prim.Native.Nat.{ℕ, _+_, _-_, _*_, _≤_, _<_}
-use mathlib.Core.Path.{_≡_, refl, sym, _∙_, ap, subst}
+use Prim.Native.Nat.{ℕ, _+_, _≤_, _<_}
+use mathlib.Core.Path.{_≡_, refl, sym, ap, subst}
 use mathlib.Core.Bool.{Bool, true, false}
-use mathlib.Core.List.{List, [], _∷_, _++_}
-use mathlib.Core.Option.{Option, none, some}
+use mathlib.Core.List.{List}
+use mathlib.Core.Option.{some}
 use native.Mathlib.Omega.{arith}
-use native.Mathlib.Nat.{mul-le-mul-right}
-use lib.ListN.{length, getD, take, drop, length-append}
-use lib.Seq.{drop-drop, take-append-seam, drop-append-seam}
+use lib.ListN.{length, getD}
 use Rattle.definitions.specs.Charts.{Chart}
-use Rattle.definitions.specs.Diagrams.{Diagram, size}
-use Rattle.definitions.specs.Ways.{wayCost}
-use Rattle.definitions.specs.Plans.{graph, Legal, cheapest}
-use Rattle.definitions.specs.Answers.{refusal, accepted}
-use Rattle.definitions.specs.Promises.{Outcome, Logged}
+use Rattle.definitions.specs.Diagrams.{Diagram}
+use Rattle.definitions.specs.Plans.{cheapest}
+use Rattle.definitions.specs.Answers.{refusal}
+use Rattle.definitions.specs.Promises.{Logged, GuidedSlices, guidedSlices}
 use Rattle.definitions.specs.declared.Answer.{Answer}
-use Rattle.trace.specs.Trails.{Trail, begin, more, Traceable, LongAs, Written}
 use Rattle.definitions.specs.declared.Shape.{Shape}
-use Rattle.checks.specs.Tables.{chartIn, diagramIn}
-use Rattle.checks.specs.Ready.{graphIn, automatonIn, width-is, few-stages, few-nodes, row-start}
-use Rattle.guided_model.specs.Charts.{GoalSettled, guide}
-use Rattle.guided_expand.specs.Tables.{estimateIn, pairsIn}
+use Rattle.chart.specs.FirstSteps.{FirstTable}
+use Rattle.chart.specs.Estimates.{EstimateTable}
+use Rattle.nodes.specs.Walks.{Finishing}
+use Rattle.nodes.specs.Estimates.{Estimated}
+use Rattle.rows.specs.Rows.{rowStarts}
+use Rattle.trace.specs.Trails.{Trail}
+use Rattle.checks.specs.Tables.{Read, chartIn, diagramIn, Tables}
+use Rattle.checks.specs.Ready.{Walk, walk, Ready, graphIn, automatonIn, width-is}
+use Rattle.guided_model.specs.State.{unopened}
+use Rattle.guided_model.specs.Bounds.{estimate-none, estimate-some}
+use Rattle.guided_model.specs.Based.{logged-plain}
+use Rattle.guided_model.specs.Charts.{GoalSettled, NoneSettled, none-begun}
+use Rattle.guided_model.specs.Guides.{estimate-until}
+use Rattle.guided_expand.specs.Estimates.{estimates, paired}
+use Rattle.guided_expand.specs.Work.{Work, work, Past, past-same, past-more}
+use Rattle.guided_expand.specs.Guides.{pairsIn}
+use Rattle.guided_loop.specs.Search.{Start, Searched}
 use Rattle.guided_loop.specs.declared.turns.Ended.{Ended}
 use Rattle.guided.specs.Clears.{Cleared}
-use Rattle.guided_loop.specs.Search.{Prepared, Begun, Past, Searched}
-use Rattle.guided.specs.Runs.{Space, Fits, Traces, Promised}
-use Rattle.guided_loop.proofs.Beginning.{past-more, sound}
+use Rattle.guided.specs.Runs.{estimateIn, workOf, Room, Trails, Ending, Concludes, Runs}
+use Rattle.guided.proofs.Clearing.{rows-ordered, rows-inside, rows-clear, rows-past}
+use Rattle.guided.proofs.Planning.{trail-short, outcome-some, outcome-none}
+use Rattle.guided.proofs.Preparing.{sound, run-narrow, run-root, run-guide, run-shown, run-prepared}
 
--- ---- the plan
-
--- a trail climbs from stage to stage
-pub trail-short : {via from : List ℕ} {width start s n : ℕ} {w : List ℕ} → Trail via from width start s n w → start + length w ≤ s
-trail-short begin = omega arith
-trail-short (more {s} {n} {e} {m} {w} a b c d f t) = omega (arith, trail-short t, length-append w (e ∷ []))
-
-pub trail-fits : {via from row : List ℕ} {width stages start s n r k : ℕ} → Traceable via from row width stages start s n
-    → ((w : List ℕ) → Trail via from width start s n w → length w ≤ k) → LongAs via from width start s n r → r ≤ k
-trail-fits t f l = omega (arith, l (t .steps) (t .trail), f (t .steps) (t .trail))
-
-pub traces-plan : (z : Shape) {via from : List ℕ} {node l : ℕ} (cost count : ℕ) (plan : List ℕ) {plan′ : List ℕ} → LongAs via from (z .nodes + 2) (z .start) (z .end) node l
-    → Written via from (z .nodes + 2) (z .start) (z .end) node l plan plan′ → Traces z via from node cost count plan plan′ (accepted cost l count)
-traces-plan z {via} {from} {node} {l} cost count plan {plan′} long written w t =
-    (ap (λ (k : ℕ). accepted cost k count) (long w t), written w t ∙ ap (λ (k : ℕ). w ++ drop k plan) (long w t))
-
--- the answer with a plan, and without one
-module _ (c : Chart) (d : Diagram) (count : ℕ) (plan : List ℕ) where
-  pub outcome-some : (m : ℕ) (w plan′ : List ℕ) (r : Answer) → cheapest c d ≡ some m → Legal c d w → wayCost (graph c) w ≡ m → length w ≤ length plan
-      → r ≡ accepted m (length w) count → plan′ ≡ w ++ drop (length w) plan → length plan′ ≡ length plan → Outcome (cheapest c d) c d (r .count) plan plan′ r
-  outcome-some m w plan′ r best legal costs fits er ep long =
-      subst (λ (a : Answer). Outcome (cheapest c d) c d (a .count) plan plan′ a) (sym er)
-      (subst (λ (o : Option ℕ). Outcome o c d count plan plan′ (accepted m (length w) count)) (sym best) (
-        refl,
-        record {
-          fits = fits;
-          legal = subst (Legal c d) (sym front) legal;
-          costs = ap (wayCost (graph c)) front ∙ costs;
-          long = long;
-          rest = ap (drop (length w)) ep ∙ drop-append-seam w (drop (length w) plan);
-        },
-      ))
-    where
-      front : take (length w) plan′ ≡ w
-      front = ap (take (length w)) ep ∙ take-append-seam w (drop (length w) plan)
-
-  pub outcome-none : cheapest c d ≡ none → Outcome (cheapest c d) c d count plan plan (refusal 8 0 0 count)
-  outcome-none best = subst (λ (o : Option ℕ). Outcome o c d count plan plan (refusal 8 0 0 count)) (sym best) (refl, refl)
-
--- ---- the search
-
-drop-later : (m n : ℕ) (x y : List ℕ) → m ≤ n → drop m x ≡ drop m y → drop n x ≡ drop n y
-drop-later m n x y l e =
-    let q : m + (n - m) ≡ n = omega arith in
-    rw (← q) (sym (drop-drop (n - m) m x) ∙ ap (drop (n - m)) e ∙ drop-drop (n - m) m y)
-
-module _ {z : Shape} {from to cost first row step lo hi byStage byNode : List ℕ} {yes-at : List Bool} (t : Prepared z from to cost first row step lo hi byStage byNode yes-at)
-    {keys via heap pos stack log : List ℕ} (plan : List ℕ) (sp : Space z keys via heap pos stack log × (z .stages - 1 ≤ length plan)) {rest : ℕ}
-    (has : estimateIn z from to cost step lo hi (z .start) (z .root) ≡ some rest) where
+module _ {z : Shape} {t : Read} (in-tables : Tables z t) {byStage byNode : List ℕ} (es : EstimateTable (chartIn z t) byStage)
+    (en : Estimated (t .inner .step) (t .inner .lo) (t .inner .hi) (t .steps .cost) (z .nodes) byNode)
+    {rest : ℕ} (er : rest ≡ paired (estimates byStage byNode) (z .start .0) (z .root .0)) where
   abbrev C : Chart
-  C = chartIn z from to cost
+  C = chartIn z t
 
   abbrev D : Diagram
-  D = diagramIn z step lo hi
+  D = diagramIn z t
 
-  width : size D ≡ z .nodes + 2
-  width = width-is z from to cost step lo hi (t .ready .tables)
+  -- the pair of start and root has no estimate: nothing is settled
+  pub runs-none : {x : GuidedSlices} {r : Answer} → rest ≡ unopened → r ≡ refusal 8 0 0 0 → Runs z t x x r
+  runs-none {x} {r} q e = record {
+    outcome = outcome-none C D 0 (x .plan) (x .plan) r (begun .best) e refl;
+    logged = subst (λ (i : Answer). Logged (graphIn z t) (automatonIn z t) (estimateIn z t) (cheapest C D) (i .count) (x .log) (x .log)) (sym e)
+        (logged-plain (graphIn z t) (automatonIn z t) (estimateIn z t) (cheapest C D) 0 (x .log) (x .log) (begun .logged));
+    past = past-same;
+  }
+    where
+      begun : NoneSettled C D (estimateIn z t) 0 0 (x .log) (x .log)
+      begun =
+          none-begun C D (sound in-tables) (run-guide in-tables) (x .log)
+          (estimate-none (run-guide in-tables) (z .start .0) (z .root .0) rest (sound in-tables .root-inside) (run-shown in-tables es en er) q)
 
-  pub find-width : z .nodes + 2 ≤ 512
-  find-width = omega (arith, few-nodes z from to cost step lo hi (t .ready .tables))
+  module _ (q : rest ≡ unopened → ⊥) {first row : List ℕ} {yes-at : List Bool} (ef : FirstTable (z .steps) (z .stages) (t .steps .from) first)
+      (ew : row ≡ rowStarts (z .stages) (z .nodes + 2)) (ey : Finishing (t .inner .lo) (z .nodes) yes-at) {x : GuidedSlices} (room : Room z x) where
+    abbrev on : Walk
+    on = walk t first row
 
-  pub find-stages : z .stages ≤ 256
-  find-stages = few-stages z from to cost step lo hi (t .ready .tables)
+    abbrev ready : Ready z on
+    ready = record { tables = in-tables; firsts = ef; rows = ew }
 
-  pub find-start : z .start < 256
-  find-start = omega (arith, find-stages, t .ready .tables .valid .start-inside)
+    pub has-estimate : estimateIn z t (z .start .0) (z .root .0) ≡ some rest
+    has-estimate = estimate-some (run-guide in-tables) (z .start .0) (z .root .0) rest (run-shown in-tables es en er) q
 
-  pub find-end : z .end < 256
-  find-end = omega (arith, find-stages, t .ready .tables .valid .end-inside)
+    pub until-end : (s n m : ℕ) → estimateIn z t s n ≡ some m → s ≤ z .end .0
+    until-end = estimate-until C D (in-tables .valid)
 
-  pub find-pairs : pairsIn z ≤ 131072
-  find-pairs = let x = mul-le-mul-right (z .nodes + 2) find-stages in omega (arith, find-width)
+    -- what clearing asks
+    pub clears : ((z .start .0 < 256) × (z .end .0 < 256))
+        × ((getD row (z .start .0) 0 ≤ getD row (z .end .0) 0 + (z .nodes + 2)) × (getD row (z .end .0) 0 + (z .nodes + 2) ≤ length (x .keys)))
+    clears = (
+      (run-root in-tables .0, omega (arith, in-tables .valid .end-inside, run-narrow in-tables)),
+      (
+        rows-ordered ready (in-tables .valid .end-inside) (until-end (z .start .0) (z .root .0) rest has-estimate),
+        omega (arith, rows-inside ready (in-tables .valid .end-inside), room .space .keys-fit),
+      ),
+    )
 
-  row-at : (s : ℕ) → s < z .stages → getD row s 0 ≡ s * (z .nodes + 2)
-  row-at s h = row-start z from to cost first row step lo hi (t .ready) s h
+    module _ {keys′ : List ℕ} (cl : Cleared (getD row (z .start .0) 0) (getD row (z .end .0) 0 + (z .nodes + 2)) (x .keys) keys′) (long : length keys′ ≡ length (x .keys)) where
+      abbrev pub cleared : Work
+      cleared = work keys′ (x .via) (x .heap) (x .pos) (x .stack)
 
-  in-order : z .start ≤ z .end
-  in-order = guide C D (t .ready .tables .valid) (t .ready .tables .small) (sound (t .ready .tables)) .until-end (z .start) (z .root) rest has
-
-  module _ {low high : ℕ} (el : low ≡ getD row (z .start) 0 + 0) (eh : high ≡ getD row (z .end) 0 + 0) where
-    low-is : low ≡ z .start * (z .nodes + 2)
-    low-is = omega (arith, row-at (z .start) (t .ready .tables .valid .start-inside))
-
-    high-is : high ≡ z .end * (z .nodes + 2)
-    high-is = omega (arith, row-at (z .end) (t .ready .tables .valid .end-inside))
-
-    pub high-inside : high + (z .nodes + 2) ≤ pairsIn z
-    high-inside = let x = mul-le-mul-right (z .nodes + 2) (t .ready .tables .valid .end-inside) in omega (arith, high-is)
-
-    pub clear-asks : (low ≤ high + (z .nodes + 2)) × (high + (z .nodes + 2) ≤ length keys)
-    clear-asks = let x = mul-le-mul-right (z .nodes + 2) in-order in (omega (arith, low-is, high-is), omega (arith, high-inside, sp .0 .keys-fit))
-
-    module _ {keys′ : List ℕ} (cl : Cleared low (high + (z .nodes + 2)) keys keys′) (lk : length keys′ ≡ length keys) where
-      pub find-begun : {start : ℕ} → start ≡ getD row (z .start) 0 + z .root → Begun z from to cost step lo hi (pairsIn z) start rest keys′ via heap pos stack log
-      find-begun eb = record {
-        pairs = refl;
-        keys-fit = omega (arith, sp .0 .keys-fit);
-        via-fits = sp .0 .via-fits;
-        heap-fits = sp .0 .heap-fits;
-        pos-fits = sp .0 .pos-fits;
-        stack-fits = sp .0 .stack-fits;
-        log-fits = sp .0 .log-fits;
-        begins = eb ∙ ap (λ (k : ℕ). k + z .root) (row-at (z .start) (t .ready .tables .valid .start-inside) ∙ ap (λ (k : ℕ). z .start * k) (sym width));
-        has = has;
-        clear = λ k r.
-            let x : z .start * size D ≡ z .start * (z .nodes + 2) = ap (λ (i : ℕ). z .start * i) width in
-            let y : z .end * size D ≡ z .end * (z .nodes + 2) = ap (λ (i : ℕ). z .end * i) width in
-            cl .clear k (omega (arith, r .0, low-is)) (omega (arith, r .1, high-is, width));
+      abbrev pub cleared-start : Start z on (estimates byStage byNode) yes-at rest cleared (x .log)
+      cleared-start = record {
+        prepared = run-prepared in-tables es en ef ew ey;
+        space = record {
+          keys-fit = omega (arith, room .space .keys-fit);
+          via-fits = room .space .via-fits;
+          heap-fits = room .space .heap-fits;
+          pos-fits = room .space .pos-fits;
+          stack-fits = room .space .stack-fits;
+          log-fits = room .space .log-fits;
+        };
+        has = has-estimate;
+        clear = rows-clear ready (in-tables .valid .end-inside) cl (estimateIn z t) until-end;
       }
 
-      cleared-past : Past (pairsIn z) keys via heap pos stack keys′ via heap pos stack
-      cleared-past = record {
-        keys-past = drop-later (high + (z .nodes + 2)) (pairsIn z) keys′ keys high-inside (cl .past);
-        via-past = refl;
-        heap-past = refl;
-        pos-past = refl;
-        stack-past = refl;
-      }
+      cleared-past : Past (pairsIn z) (workOf x) cleared
+      cleared-past = record { keys-past = rows-past ready (in-tables .valid .end-inside) cl; via-past = refl; heap-past = refl; pos-past = refl; stack-past = refl }
 
-      module _ {keys″ via″ heap″ pos″ stack″ log″ : List ℕ} {e : Ended}
-          (s : Searched z from to cost step lo hi (pairsIn z) keys′ via heap pos stack log keys″ via″ heap″ pos″ stack″ log″ e) where
-        module _ (f : e .found ≡ true) where
-          -- a goal pair was settled
-          settled : GoalSettled C D (estimateIn z from to cost step lo hi) 0 via″ from (e .node .0) (e .cost) (e .count) log log″
-          settled = s .goal f
+      -- the search is done
+      module _ {y : Work} {log′ : List ℕ} {e : Ended} (s : Searched (run-prepared in-tables es en ef ew ey .by) cleared (x .log) y log′ e)
+          (via-long : length (y .via) ≡ length (x .via)) where
+        trail-in : {via : List ℕ} {width node : ℕ} {w : List ℕ} → Trail via (t .steps .from) width (z .start .0) (z .end .0) node w → length w ≤ length (x .plan)
+        trail-in w = omega (arith, trail-short w, in-tables .valid .end-inside, room .plan-fits)
 
-          trail : Trail via″ from (z .nodes + 2) (z .start) (z .end) (e .node .0) (settled .steps)
-          trail = subst (λ (k : ℕ). Trail via″ from k (z .start) (z .end) (e .node .0) (settled .steps)) width (settled .trail)
+        abbrev settled : e .found ≡ true → GoalSettled C D (estimateIn z t) 0 (y .via) (t .steps .from) (e .node .0) (e .cost) (e .count) (x .log) log′
+        settled f = s .goal f
 
-          short : {w : List ℕ} → Trail via″ from (z .nodes + 2) (z .start) (z .end) (e .node .0) w → length w ≤ length plan
-          short x = omega (arith, trail-short x, t .ready .tables .valid .end-inside, sp .1)
-
-          pub find-traces : length via″ ≡ length via
-              → Traceable via″ from row (z .nodes + 2) (z .stages) (z .start) (z .end) (e .node .0) × Fits z via″ from (e .node .0) plan
-          find-traces l = (
-            record {
-              rows = t .ready .rows;
-              few = find-stages;
-              narrow = find-width;
-              fits = omega (arith, sp .0 .via-fits);
-              stage = t .ready .tables .valid .end-inside;
-              node = omega (arith, settled .inside, width);
-              steps = settled .steps;
-              trail = trail;
-            },
-            λ w x. short x,
-          )
-
-          pub find-some : {plan′ : List ℕ} {r : Answer} → Traces z via″ from (e .node .0) (e .cost) (e .count) plan plan′ r → length plan′ ≡ length plan
-              → Promised z from to cost step lo hi keys via heap pos stack log plan keys″ via″ heap″ pos″ stack″ log″ plan′ r
-          find-some {plan′} {r} x l = record {
-            outcome = outcome-some C D (e .count) plan (e .cost) (settled .steps) plan′ r (settled .best) (settled .legal) (settled .costs) (short trail)
-                (x (settled .steps) trail .0) (x (settled .steps) trail .1) l;
-            logged = subst (λ (a : Answer). Logged (graphIn z from to cost) (automatonIn z from to cost step lo hi) (estimateIn z from to cost step lo hi) 0 (cheapest C D) (a .count) log log″)
-                (sym (x (settled .steps) trail .0)) (settled .logged);
-            past = past-more cleared-past (s .past);
-          }
-
-        -- none was
-        pub find-none : e .found ≡ false → Promised z from to cost step lo hi keys via heap pos stack log plan keys″ via″ heap″ pos″ stack″ log″ plan (refusal 8 0 0 (e .count))
-        find-none f = record {
-          outcome = outcome-none C D (e .count) plan (s .no-goal f .best);
-          logged = s .no-goal f .logged;
-          past = past-more cleared-past (s .past);
+        abbrev trail-of : e .found ≡ true → Trails z (y .via) (t .steps) row e
+        trail-of f = record {
+          stages = z .stages;
+          width = z .nodes + 2;
+          rows = ew;
+          few = run-narrow in-tables .0;
+          narrow = run-narrow in-tables .1;
+          fits = omega (arith, room .space .via-fits);
+          stage = in-tables .valid .end-inside;
+          node = omega (arith, settled f .inside, width-is z t in-tables);
+          steps = settled f .steps;
+          trail = subst (λ (k : ℕ). Trail (y .via) (t .steps .from) k (z .start .0) (z .end .0) (e .node .0) (settled f .steps)) (width-is z t in-tables) (settled f .trail);
         }
+
+        pub found-traceable : Ending z (y .via) (t .steps) row e (x .plan)
+        found-traceable = record { traceable = trail-of; fits = λ w. trail-in (w .trail) }
+
+        pub found-runs : {plan′ : List ℕ} {r : Answer} → Concludes z (y .via) (t .steps) row e (x .plan) plan′ r → length plan′ ≡ length (x .plan)
+            → Runs z t x (guidedSlices (y .keys) (y .via) (y .heap) (y .pos) (y .stack) log′ plan′) r
+        found-runs {plan′} {r} c l = go (e .found) refl
+          where
+            logged-with : (k : ℕ) → r .count ≡ k → Logged (graphIn z t) (automatonIn z t) (estimateIn z t) (cheapest C D) k (x .log) log′
+                → Logged (graphIn z t) (automatonIn z t) (estimateIn z t) (cheapest C D) (r .count) (x .log) log′
+            logged-with k q w = rw q w
+
+            go : (b : Bool) → e .found ≡ b → Runs z t x (guidedSlices (y .keys) (y .via) (y .heap) (y .pos) (y .stack) log′ plan′) r
+            go true f =
+                let a = c .found f (trail-of f) in
+                record {
+                  outcome = outcome-some C D (e .count) (x .plan) (e .cost) (settled f .steps) plan′ r (settled f .best) (settled f .legal) (settled f .costs) (trail-in (settled f .trail))
+                      (a .0) (a .1) l;
+                  logged = logged-with (e .count) (ap (λ (i : Answer). i .count) (a .0))
+                      (logged-plain (graphIn z t) (automatonIn z t) (estimateIn z t) (cheapest C D) (e .count) (x .log) log′ (settled f .logged));
+                  past = past-more cleared-past (s .past);
+                }
+            go false f =
+                let a = c .not-found f in
+                let n = s .no-goal f in
+                record {
+                  outcome = outcome-none C D (e .count) (x .plan) plan′ r (n .best) (a .0) (a .1);
+                  logged = logged-with (e .count) (ap (λ (i : Answer). i .count) (a .0))
+                      (logged-plain (graphIn z t) (automatonIn z t) (estimateIn z t) (cheapest C D) (e .count) (x .log) log′ (n .logged));
+                  past = past-more cleared-past (s .past);
+                }

@@ -1,4 +1,5 @@
 mod Clearing
-mod Finding
+mod Planning
 mod Preparing
+mod Finding
 mod Loading

@@ -1,75 +1,122 @@
 -- From the outcome of the checks to the promise of `guided`.
 -- Assumes nothing.
-use Prim.Native.Nat.{ℕ, _+_, _-_, _*_, _≤_, min}
-use mathlib.Core.Path.{_≡_, refl, sym, _∙_, ap, ap₂, subst₂}
+use Prim.Native.Nat.{ℕ, _*_, _≤_, min}
+use mathlib.Core.Path.{_≡_, refl, sym, _∙_, ap, ap₂, subst}
 use mathlib.Core.List.{List, [], _∷_}
 use native.Mathlib.Omega.{arith}
 use lib.ListN.{length, drop}
 use Rattle.definitions.specs.Charts.{Chart}
-use Rattle.definitions.specs.Diagrams.{Diagram, size}
-use Rattle.definitions.specs.Answers.{Load, ready, refused, load, workNeed, refusal}
-use Rattle.definitions.specs.Promises.{Guided, Scratch}
+use Rattle.definitions.specs.Diagrams.{Diagram}
+use Rattle.definitions.specs.Answers.{Load, ready, refused, load, workNeed, planNeed, refusal}
+use Rattle.definitions.specs.Promises.{Guided, Scratch, GuidedSlices, guidedLoad, GuidedCall}
 use Rattle.definitions.specs.declared.Answer.{Answer}
+use Rattle.definitions.specs.declared.Shape.{Shape}
 use Rattle.checks.specs.declared.Loaded.{Loaded}
-use Rattle.checks.specs.Tables.{chartIn, diagramIn, Tables, LoadsAs}
+use Rattle.checks.specs.Tables.{Read, chartIn, diagramIn, Tables, LoadsAs}
 use Rattle.checks.specs.Ready.{width-is}
-use Rattle.checks.specs.Outcome.{load-shorter, ready-space}
-use Rattle.guided_expand.specs.Tables.{pairsIn}
-use Rattle.guided.specs.Runs.{Promised}
+use Rattle.checks.specs.Outcome.{shortest, load-shortest, ready-space}
+use Rattle.guided_expand.specs.Guides.{pairsIn}
+use Rattle.guided.specs.Runs.{Room, Runs}
 
--- ---- six work slices are judged by the shortest
+-- the shortest of six work slices, found by five comparisons
+pub shortest-of : (keys via heap pos stack log : ℕ) {a b c d e : ℕ} → a ≡ min keys via → b ≡ min a heap → c ≡ min b pos → d ≡ min c stack → e ≡ min d log
+    → e ≡ shortest keys (via ∷ heap ∷ pos ∷ stack ∷ log ∷ [])
+shortest-of keys via heap pos stack log ea eb ec ed ee =
+    ee ∙ ap (λ (i : ℕ). min i log) (ed ∙ ap (λ (i : ℕ). min i stack) (ec ∙ ap (λ (i : ℕ). min i pos) (eb ∙ ap (λ (i : ℕ). min i heap) ea)))
 
-pub six-shorter : (s t : List ℕ) (plan a b e f g h v w x y z : ℕ) → v ≡ min a b → w ≡ min v e → x ≡ min w f → y ≡ min x g → z ≡ min y h
-    → load s t (a ∷ b ∷ e ∷ f ∷ g ∷ h ∷ []) plan ≡ load s t (z ∷ []) plan
-six-shorter s t plan a b e f g h v w x y z ev ew ex ey ez =
-    load-shorter s t a b (e ∷ f ∷ g ∷ h ∷ []) plan ∙ ap (λ (i : ℕ). load s t (i ∷ e ∷ f ∷ g ∷ h ∷ []) plan) (sym ev)
-    ∙ load-shorter s t v e (f ∷ g ∷ h ∷ []) plan ∙ ap (λ (i : ℕ). load s t (i ∷ f ∷ g ∷ h ∷ []) plan) (sym ew)
-    ∙ load-shorter s t w f (g ∷ h ∷ []) plan ∙ ap (λ (i : ℕ). load s t (i ∷ g ∷ h ∷ []) plan) (sym ex)
-    ∙ load-shorter s t x g (h ∷ []) plan ∙ ap (λ (i : ℕ). load s t (i ∷ h ∷ []) plan) (sym ey)
-    ∙ load-shorter s t y h [] plan ∙ ap (λ (i : ℕ). load s t (i ∷ []) plan) (sym ez)
+-- what the call promises, by the outcome of the checks
+record Kept (o : Load) (x y : GuidedSlices) (r : Answer) : Type 0 where
+  pub guided : Guided o (x .plan) (y .plan) (x .log) (y .log) r
+  pub keys : Scratch o (x .keys) (y .keys)
+  pub via : Scratch o (x .via) (y .via)
+  pub heap : Scratch o (x .heap) (y .heap)
+  pub pos : Scratch o (x .pos) (y .pos)
+  pub stack : Scratch o (x .stack) (y .stack)
 
--- ---- the promise, by the outcome
+kept-call : {s u : List ℕ} {x y : GuidedSlices} {r : Answer} (o : Load) → guidedLoad s u x ≡ o → Kept o x y r → GuidedCall s u x y r
+kept-call {s} {u} {x} {y} {r} o e k = record {
+  guided = subst (λ (p : Load). Guided p (x .plan) (y .plan) (x .log) (y .log) r) (sym e) (k .guided);
+  keys = subst (λ (p : Load). Scratch p (x .keys) (y .keys)) (sym e) (k .keys);
+  via = subst (λ (p : Load). Scratch p (x .via) (y .via)) (sym e) (k .via);
+  heap = subst (λ (p : Load). Scratch p (x .heap) (y .heap)) (sym e) (k .heap);
+  pos = subst (λ (p : Load). Scratch p (x .pos) (y .pos)) (sym e) (k .pos);
+  stack = subst (λ (p : Load). Scratch p (x .stack) (y .stack)) (sym e) (k .stack);
+}
 
--- all of it: the answer, the plan and the log, and the five slices that are work space
-abbrev pub Whole : Load → List ℕ → List ℕ → List ℕ → List ℕ → List ℕ → List ℕ → List ℕ → List ℕ → List ℕ → List ℕ → List ℕ → List ℕ → List ℕ → List ℕ → Answer → Type 0
-Whole o keys via heap pos stack log plan keys′ via′ heap′ pos′ stack′ log′ plan′ r =
-    Guided o plan plan′ log log′ r
-    × (Scratch o keys keys′ × (Scratch o via via′ × (Scratch o heap heap′ × (Scratch o pos pos′ × Scratch o stack stack′))))
+-- a refusal leaves everything
+kept-refused : (o : Load) (t : Read) (x : GuidedSlices) (l : Loaded) (r : Answer) → LoadsAs o t l → (l .number ≡ 0 → ⊥) → r ≡ refusal (l .number) (l .file) (l .place) 0 → Kept o x x r
+kept-refused (refused number file place) t x l r h n e = record {
+  guided = (e ∙ rw (h .0 .0, h .0 .1, h .0 .2), refl, refl);
+  keys = refl;
+  via = refl;
+  heap = refl;
+  pos = refl;
+  stack = refl;
+}
+kept-refused (ready c d) t x l r h n e = absurd (n (h .0))
 
-module _ (from to cost step lo hi : List ℕ) (r : Loaded) where
-  pub whole-refused : (o : Load) (keys via heap pos stack log plan : List ℕ) → LoadsAs o from to cost step lo hi r → (r .number ≡ 0 → ⊥)
-      → Whole o keys via heap pos stack log plan keys via heap pos stack log plan (refusal (r .number) (r .file) (r .place) 0)
-  whole-refused (refused number file place) keys via heap pos stack log plan x h =
-      ((rw (x .0, x .1, x .2) refl, refl, refl), (refl, (refl, (refl, (refl, refl)))))
-  whole-refused (ready c d) keys via heap pos stack log plan x h = absurd (h (x .0))
+-- where all checks pass, the chart and the diagram stand in the tables
+record Passed (o : Load) (t : Read) (l : Loaded) : Type 0 where
+  pub tables : Tables (l .shape) t
+  pub is : o ≡ ready (chartIn (l .shape) t) (diagramIn (l .shape) t)
 
-  -- the chart and the diagram stand in the tables, and there is room
-  pub load-ready : (s t : List ℕ) (work plan : ℕ) → LoadsAs (load s t (work ∷ []) plan) from to cost step lo hi r → r .number ≡ 0
-      → Tables (r .shape) from to cost step lo hi × (pairsIn (r .shape) ≤ work) × (r .shape .stages - 1 ≤ plan)
-  load-ready s t work plan x h = go (load s t (work ∷ []) plan) refl x
-    where
-      go : (o : Load) → load s t (work ∷ []) plan ≡ o → LoadsAs o from to cost step lo hi r
-          → Tables (r .shape) from to cost step lo hi × (pairsIn (r .shape) ≤ work) × (r .shape .stages - 1 ≤ plan)
-      go (refused number file place) e y = absurd (y .3 (sym (y .0) ∙ h))
-      go (ready c d) e y =
-          let f = ready-space s t work plan c d e in
-          let ec : c .stages ≡ r .shape .stages = sym (ap (λ (i : Chart). i .stages) (y .1)) in
-          let ed : size d ≡ r .shape .nodes + 2 = sym (ap (λ (i : Diagram). size i) (y .2)) ∙ width-is (r .shape) from to cost step lo hi (y .3) in
-          let p : c .stages * size d ≡ r .shape .stages * (r .shape .nodes + 2) = ap₂ (λ (i j : ℕ). i * j) ec ed in
-          (y .3, omega (arith, f .0), omega (arith, f .1))
+passed : (o : Load) (t : Read) (l : Loaded) → LoadsAs o t l → l .number ≡ 0 → Passed o t l
+passed (refused number file place) t l h n = absurd (h .1 (sym (h .0 .0) ∙ n))
+passed (ready c d) t l h n = record { tables = h .3; is = sym (ap₂ (λ (i : Chart) (j : Diagram). ready i j) (h .1) (h .2)) }
 
-  pub whole-ready : (o : Load) (keys via heap pos stack log plan keys′ via′ heap′ pos′ stack′ log′ plan′ : List ℕ) (a : Answer) → LoadsAs o from to cost step lo hi r → r .number ≡ 0
-      → Promised (r .shape) from to cost step lo hi keys via heap pos stack log plan keys′ via′ heap′ pos′ stack′ log′ plan′ a
-      → length keys′ ≡ length keys → length via′ ≡ length via → length heap′ ≡ length heap → length pos′ ≡ length pos → length stack′ ≡ length stack
-      → Whole o keys via heap pos stack log plan keys′ via′ heap′ pos′ stack′ log′ plan′ a
-  whole-ready (refused number file place) keys via heap pos stack log plan keys′ via′ heap′ pos′ stack′ log′ plan′ a x h p lk lv lh lp ls = absurd (x .3 (sym (x .0) ∙ h))
-  whole-ready (ready c d) keys via heap pos stack log plan keys′ via′ heap′ pos′ stack′ log′ plan′ a x h p lk lv lh lp ls =
-      subst₂ (λ (i : Chart) (j : Diagram). Whole (ready i j) keys via heap pos stack log plan keys′ via′ heap′ pos′ stack′ log′ plan′ a) (x .1) (x .2)
-      ((p .outcome, p .logged), ((lk, at keys′ keys (p .past .keys-past)), ((lv, at via′ via (p .past .via-past)), ((lh, at heap′ heap (p .past .heap-past)), ((lp, at pos′ pos (p .past .pos-past)), (ls, at stack′ stack (p .past .stack-past)))))))
-    where
-      need : workNeed (chartIn (r .shape) from to cost) (diagramIn (r .shape) step lo hi) ≡ pairsIn (r .shape)
-      need = ap (λ (k : ℕ). r .shape .stages * k) (width-is (r .shape) from to cost step lo hi (x .3))
+-- the files s and u, the slices x, of whose work slices the shortest has `lent` entries
+module _ (s u : List ℕ) (x : GuidedSlices) {lent : ℕ}
+    (ew : lent ≡ shortest (length (x .keys)) (length (x .via) ∷ length (x .heap) ∷ length (x .pos) ∷ length (x .stack) ∷ length (x .log) ∷ []))
+    (t : Read) (l : Loaded) (h : LoadsAs (load s u (lent ∷ []) (length (x .plan))) t l) where
+  judged : guidedLoad s u x ≡ load s u (lent ∷ []) (length (x .plan))
+  judged =
+      load-shortest s u (length (x .keys)) (length (x .via) ∷ length (x .heap) ∷ length (x .pos) ∷ length (x .stack) ∷ length (x .log) ∷ []) (length (x .plan))
+      ∙ ap (λ (k : ℕ). load s u (k ∷ []) (length (x .plan))) (sym ew)
 
-      at : (u w : List ℕ) → drop (pairsIn (r .shape)) u ≡ drop (pairsIn (r .shape)) w
-          → drop (workNeed (chartIn (r .shape) from to cost) (diagramIn (r .shape) step lo hi)) u ≡ drop (workNeed (chartIn (r .shape) from to cost) (diagramIn (r .shape) step lo hi)) w
-      at u w e = rw need e
+  pub call-refused : {r : Answer} → (l .number ≡ 0 → ⊥) → r ≡ refusal (l .number) (l .file) (l .place) 0 → GuidedCall s u x x r
+  call-refused {r} n e = kept-call (load s u (lent ∷ []) (length (x .plan))) judged (kept-refused (load s u (lent ∷ []) (length (x .plan))) t x l r h n e)
+
+  module _ (n : l .number ≡ 0) where
+    abbrev z : Shape
+    z = l .shape
+
+    ok : Passed (load s u (lent ∷ []) (length (x .plan))) t l
+    ok = passed (load s u (lent ∷ []) (length (x .plan))) t l h n
+
+    need : workNeed (chartIn z t) (diagramIn z t) ≡ pairsIn z
+    need = ap (λ (k : ℕ). z .stages * k) (width-is z t (ok .tables))
+
+    enough : (workNeed (chartIn z t) (diagramIn z t) ≤ lent) × (planNeed (chartIn z t) ≤ length (x .plan))
+    enough = ready-space s u lent (length (x .plan)) (chartIn z t) (diagramIn z t) (ok .is)
+
+    -- what `run` asks
+    pub call-runs : Tables z t × Room z x
+    call-runs = (
+      ok .tables,
+      record {
+        space = record {
+          keys-fit = omega (arith, need, enough);
+          via-fits = omega (arith, need, enough);
+          heap-fits = omega (arith, need, enough);
+          pos-fits = omega (arith, need, enough);
+          stack-fits = omega (arith, need, enough);
+          log-fits = omega (arith, need, enough);
+        };
+        plan-fits = enough .1;
+      },
+    )
+
+    scratch : (w w′ : List ℕ) → length w′ ≡ length w → drop (pairsIn z) w′ ≡ drop (pairsIn z) w → Scratch (ready (chartIn z t) (diagramIn z t)) w w′
+    scratch w w′ e p = (e, ap (λ (k : ℕ). drop k w′) need ∙ p ∙ ap (λ (k : ℕ). drop k w) (sym need))
+
+    pub call-done : {y : GuidedSlices} {r : Answer} → Runs z t x y r → length (y .keys) ≡ length (x .keys) → length (y .via) ≡ length (x .via) → length (y .heap) ≡ length (x .heap)
+        → length (y .pos) ≡ length (x .pos) → length (y .stack) ≡ length (x .stack) → GuidedCall s u x y r
+    call-done {y} {r} m lk lv lh lp ls =
+        kept-call (ready (chartIn z t) (diagramIn z t)) (judged ∙ ok .is) (record {
+          guided = (m .outcome, m .logged);
+          keys = scratch (x .keys) (y .keys) lk (m .past .keys-past);
+          via = scratch (x .via) (y .via) lv (m .past .via-past);
+          heap = scratch (x .heap) (y .heap) lh (m .past .heap-past);
+          pos = scratch (x .pos) (y .pos) lp (m .past .pos-past);
+          stack = scratch (x .stack) (y .stack) ls (m .past .stack-past);
+        })

@@ -1,15 +1,22 @@
--- The tables of the search, from those of the chart and the diagram.
+-- The tables of the search, from those of the chart and the diagram; the larger of both estimates guides it.
 -- Assumes nothing.
-use Prim.Native.Nat.{ℕ, _+_, _-_, _≤_, _<_}
-use mathlib.Core.Path.{_≡_, refl}
+use Prim.Native.Nat.{ℕ, _+_, _≤_, _<_, max}
+use mathlib.Core.Path.{_≡_, refl, _∙_}
 use mathlib.Core.Bool.{Bool}
 use mathlib.Core.List.{List}
-use mathlib.Core.Option.{some}
+use mathlib.Core.Option.{Option, none, some}
 use native.Mathlib.Omega.{arith}
-use Rattle.definitions.specs.Answers.{refusal}
+use lib.ListN.{length, getD}
+use Rattle.definitions.specs.Basics.{larger}
 use Rattle.definitions.specs.Charts.{Chart}
 use Rattle.definitions.specs.Diagrams.{Diagram, size}
+use Rattle.definitions.specs.Ways.{Graph}
+use Rattle.definitions.specs.Pairs.{Automaton}
+use Rattle.definitions.specs.Plans.{chartEstimate, diagramEstimate, estimate}
 use Rattle.definitions.specs.Promises.{shown}
+use Rattle.definitions.specs.declared.Shape.{Shape}
+use Rattle.theory.specs.Limits.{Sound}
+use Rattle.theory.specs.Estimates.{chart-bounded, diagram-bounded}
 use Rattle.chart.specs.FirstSteps.{SortedTable, FirstTable}
 use Rattle.chart.specs.HeldGraph.{held-sorted}
 use Rattle.chart.specs.Estimates.{EstimateTable}
@@ -18,86 +25,87 @@ use Rattle.nodes.specs.Falling.{lo-falls, hi-falls}
 use Rattle.nodes.specs.Estimates.{Priced, Costs, Estimated}
 use Rattle.nodes.specs.Prices.{priced}
 use Rattle.rows.specs.Rows.{rowStarts}
-use Rattle.definitions.specs.declared.Shape.{Shape}
-use Rattle.checks.specs.Tables.{chartIn, diagramIn, Tables}
-use Rattle.checks.specs.Ready.{graphIn, automatonIn, count-is, width-is, lawful-in, few-stages, few-nodes, cost-at}
-use Rattle.guided_model.specs.State.{unopened}
-use Rattle.guided_model.specs.Bounds.{estimate-none, estimate-some}
-use Rattle.guided_model.specs.Charts.{NoneSettled, guide, none-begun}
-use Rattle.guided_expand.specs.Estimates.{Estimates, PairEstimate}
-use Rattle.guided_expand.specs.Tables.{estimateIn}
+use Rattle.checks.specs.Tables.{Read, chartIn, diagramIn, Tables}
+use Rattle.checks.specs.Ready.{walk, graphIn, automatonIn, count-is, width-is, sound-in, few-stages, few-nodes, cost-at}
+use Rattle.guided_model.specs.State.{Guide}
+use Rattle.guided_model.specs.Guides.{guide}
+use Rattle.guided_expand.specs.Estimates.{estimates, paired, Holds}
 use Rattle.guided_loop.specs.Search.{Prepared}
-use Rattle.guided.specs.Runs.{Promised}
-use Rattle.guided_loop.proofs.Beginning.{sound}
-use Rattle.guided.proofs.Finding.{outcome-none}
+use Rattle.guided.specs.Runs.{estimateIn}
 
-module _ {z : Shape} {from to cost step lo hi : List ℕ} (t : Tables z from to cost step lo hi) where
+-- the larger of two entries is that of the larger estimate, since none is shown by the largest number
+larger-shown : (a b : Option ℕ) (x y : ℕ) → x ≡ shown a → y ≡ shown b → ((m : ℕ) → a ≡ some m → m ≤ 510000000) → ((m : ℕ) → b ≡ some m → m ≤ 510000000)
+    → max x y ≡ shown (larger a b)
+unfolding larger
+larger-shown none none x y p q i j = omega arith
+larger-shown none (some m) x y p q i j = omega (arith, j m refl)
+larger-shown (some k) none x y p q i j = omega (arith, i k refl)
+larger-shown (some k) (some m) x y p q i j = omega arith
+
+module _ {z : Shape} {t : Read} (in-tables : Tables z t) where
   abbrev C : Chart
-  C = chartIn z from to cost
+  C = chartIn z t
 
   abbrev D : Diagram
-  D = diagramIn z step lo hi
+  D = diagramIn z t
+
+  abbrev g : Graph
+  g = graphIn z t
+
+  abbrev a : Automaton
+  a = automatonIn z t
+
+  pub sound : Sound (length (C .steps)) D
+  sound = sound-in z t in-tables
 
   width : size D ≡ z .nodes + 2
-  width = width-is z from to cost step lo hi t
+  width = width-is z t in-tables
 
-  prices : Costs C cost
-  prices k h = cost-at z from to cost step lo hi t k (omega (arith, count-is z from to cost step lo hi t))
+  prices : Costs C (t .steps .cost)
+  prices k h = cost-at z t in-tables k (omega (arith, count-is z t in-tables))
 
-  pub run-lo : Falls lo (z .nodes + 1)
-  run-lo = lo-falls D step lo hi (t .held) (z .nodes + 1) (omega (arith, width))
+  -- what the calls that fill tables ask
+  pub run-lo : Falls (t .inner .lo) (z .nodes + 1)
+  run-lo = lo-falls D (t .inner .step) (t .inner .lo) (t .inner .hi) (in-tables .held) (z .nodes + 1) (omega (arith, width))
 
-  pub run-nodes : Falls lo (z .nodes + 1) × Falls hi (z .nodes + 1) × Priced step cost (z .nodes)
+  pub run-nodes : Falls (t .inner .lo) (z .nodes + 1) × Falls (t .inner .hi) (z .nodes + 1) × Priced (t .inner .step) (t .steps .cost) (z .nodes)
   run-nodes = (
     run-lo,
-    hi-falls D step lo hi (t .held) (z .nodes + 1) (omega (arith, width)),
-    priced C D step lo hi cost (z .nodes) prices (t .held) (t .valid) (t .small) (sound t) (omega (arith, width)),
+    hi-falls D (t .inner .step) (t .inner .lo) (t .inner .hi) (in-tables .held) (z .nodes + 1) (omega (arith, width)),
+    priced C D (t .inner .step) (t .inner .lo) (t .inner .hi) (t .steps .cost) (z .nodes) prices (in-tables .held) (in-tables .valid) (in-tables .small) sound (omega (arith, width)),
   )
 
-  pub run-sorted : SortedTable (z .steps) from × (z .stages ≤ 256)
-  run-sorted = (held-sorted (z .stages) (z .start) (z .end) (z .steps) from to cost (t .valid), few-stages z from to cost step lo hi t)
+  pub run-sorted : SortedTable (z .steps) (t .steps .from) × (z .stages ≤ 256)
+  run-sorted = (held-sorted (z .stages) (z .start .0) (z .end .0) (z .steps) (t .steps) (in-tables .valid), few-stages z t in-tables)
 
-  pub run-width : z .nodes + 2 ≤ 512
-  run-width = omega (arith, few-nodes z from to cost step lo hi t)
+  pub run-narrow : (z .stages ≤ 256) × (z .nodes + 2 ≤ 512)
+  run-narrow = (few-stages z t in-tables, omega (arith, few-nodes z t in-tables))
 
-  pub run-root : (z .start < 256) × (z .root < 512)
-  run-root = (omega (arith, t .valid .start-inside, few-stages z from to cost step lo hi t), omega (arith, sound t .root-inside, width, run-width))
+  pub run-root : (z .start .0 < 256) × (z .root .0 < 512)
+  run-root = (omega (arith, in-tables .valid .start-inside, run-narrow), omega (arith, sound .root-inside, width, run-narrow))
 
-  module _ {byStage byNode : List ℕ} (es : EstimateTable C byStage) (en : Estimated step lo hi cost (z .nodes) byNode) where
-    pub run-estimates : Estimates C D byStage byNode
-    run-estimates = record {
-      stages = es .at;
-      nodes = λ n h. en .is C D prices (t .held) (sound t) (omega (arith, width)) n h;
-    }
+  abbrev pub run-guide : Guide g a (estimateIn z t)
+  run-guide = guide C D (in-tables .valid) (in-tables .small) sound
 
-    module _ {rest : ℕ} (r : PairEstimate byStage byNode (z .start) (z .root) rest) where
-      shown-is : rest ≡ shown (estimateIn z from to cost step lo hi (z .start) (z .root))
-      shown-is = r C D run-estimates (sound t .root-inside)
+  module _ {byStage byNode : List ℕ} (es : EstimateTable C byStage) (en : Estimated (t .inner .step) (t .inner .lo) (t .inner .hi) (t .steps .cost) (z .nodes) byNode) where
+    pub run-holds : Holds (estimateIn z t) (z .nodes + 2) (estimates byStage byNode)
+    unfolding estimate
+    run-holds s n h i =
+        larger-shown (chartEstimate C s) (diagramEstimate C D n) (getD byStage s 0) (getD byNode n 0) (es .at s h)
+        (en .is C D prices (in-tables .held) sound (omega (arith, width)) n (omega (arith, width)))
+        (λ m e. chart-bounded C (in-tables .valid) s m e) (λ m e. diagram-bounded C D (in-tables .valid) (in-tables .small) sound n m (omega (arith, width)) e)
 
-      pub run-some : (rest ≡ unopened → ⊥) → estimateIn z from to cost step lo hi (z .start) (z .root) ≡ some rest
-      run-some q =
-          estimate-some (graphIn z from to cost) (automatonIn z from to cost step lo hi) (estimateIn z from to cost step lo hi) (t .valid) (lawful-in z from to cost step lo hi t)
-          (guide C D (t .valid) (t .small) (sound t)) (z .start) (z .root) rest shown-is q
+    pub run-shown : {rest : ℕ} → rest ≡ paired (estimates byStage byNode) (z .start .0) (z .root .0) → rest ≡ shown (estimateIn z t (z .start .0) (z .root .0))
+    run-shown e = e ∙ run-holds (z .start .0) (z .root .0) (run-root .0) (omega (arith, sound .root-inside, width))
 
-      -- the pair of start and root has no estimate: nothing is settled
-      pub run-none : {keys via heap pos stack log plan : List ℕ} → rest ≡ unopened
-          → Promised z from to cost step lo hi keys via heap pos stack log plan keys via heap pos stack log plan (refusal 8 0 0 0)
-      run-none {keys} {via} {heap} {pos} {stack} {log} {plan} q = record {
-        outcome = outcome-none C D 0 plan (begun .best);
-        logged = begun .logged;
-        past = record { keys-past = refl; via-past = refl; heap-past = refl; pos-past = refl; stack-past = refl };
-      }
-        where
-          begun : NoneSettled C D (estimateIn z from to cost step lo hi) 0 0 log log
-          begun =
-              none-begun C D (estimateIn z from to cost step lo hi) (t .valid) (sound t) (guide C D (t .valid) (t .small) (sound t)) log
-              (estimate-none (graphIn z from to cost) (automatonIn z from to cost step lo hi) (estimateIn z from to cost step lo hi) (t .valid) (lawful-in z from to cost step lo hi t)
-              (guide C D (t .valid) (t .small) (sound t)) (z .start) (z .root) rest (sound t .root-inside) shown-is q)
-
-    pub run-prepared : {first row : List ℕ} {yes-at : List Bool} → FirstTable (z .steps) (z .stages) from first → row ≡ rowStarts (z .stages) (z .nodes + 2)
-        → Finishing lo (z .nodes) yes-at → Prepared z from to cost first row step lo hi byStage byNode yes-at
+    abbrev pub run-prepared : {first row : List ℕ} {yes-at : List Bool} → FirstTable (z .steps) (z .stages) (t .steps .from) first → row ≡ rowStarts (z .stages) (z .nodes + 2)
+        → Finishing (t .inner .lo) (z .nodes) yes-at → Prepared z (walk t first row) (estimates byStage byNode) yes-at
     run-prepared f r y = record {
-      ready = record { tables = t; firsts = f; rows = r };
-      estimates = run-estimates;
-      accepts = λ n h. y .is D step hi (t .held) (omega (arith, width)) n h;
+      by = record {
+        ready = record { tables = in-tables; firsts = f; rows = r };
+        h = estimateIn z t;
+        guide = run-guide;
+        holds = run-holds;
+      };
+      accepts = λ n h. y .is D (t .inner .step) (t .inner .hi) (in-tables .held) (omega (arith, width-is z t in-tables)) n h;
     }

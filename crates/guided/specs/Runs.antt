@@ -1,41 +1,55 @@
 -- What the parts of the guided search ask of each other once both files stand in tables.
 -- Assumes nothing.
-use Prim.Native.Nat.{ℕ, _+_, _≤_}
+use Prim.Native.Nat.{ℕ, _-_, _≤_}
 use mathlib.Core.Path.{_≡_}
+use mathlib.Core.Bool.{true, false}
 use mathlib.Core.List.{List, _++_}
 use lib.ListN.{length, drop}
-use Rattle.definitions.specs.Plans.{cheapest}
-use Rattle.definitions.specs.Answers.{accepted}
-use Rattle.definitions.specs.Promises.{Outcome, Logged}
+use Rattle.definitions.specs.Pairs.{Estimate}
+use Rattle.definitions.specs.Plans.{cheapest, estimate}
+use Rattle.definitions.specs.Answers.{refusal, accepted}
+use Rattle.definitions.specs.Promises.{Outcome, Logged, GuidedSlices}
 use Rattle.definitions.specs.declared.Answer.{Answer}
-use Rattle.trace.specs.Trails.{Trail}
 use Rattle.definitions.specs.declared.Shape.{Shape}
-use Rattle.checks.specs.Tables.{chartIn, diagramIn}
+use Rattle.trace.specs.Trails.{Traceable}
+use Rattle.chart.specs.Tables.{Steps}
+use Rattle.checks.specs.Tables.{Read, chartIn, diagramIn}
 use Rattle.checks.specs.Ready.{graphIn, automatonIn}
-use Rattle.guided_expand.specs.Tables.{estimateIn, pairsIn}
-use Rattle.guided_loop.specs.Search.{Past}
+use Rattle.guided_expand.specs.Work.{Work, work, Past}
+use Rattle.guided_expand.specs.Guides.{pairsIn}
+use Rattle.guided_loop.specs.Search.{Space}
+use Rattle.guided_loop.specs.declared.turns.Ended.{Ended}
 
--- each work slice has an entry for each pair
-pub record Space (z : Shape) (keys via heap pos stack log : List ℕ) : Type 0 where
-  pub keys-fit : pairsIn z ≤ length keys
-  pub via-fits : pairsIn z ≤ length via
-  pub heap-fits : pairsIn z ≤ length heap
-  pub pos-fits : pairsIn z ≤ length pos
-  pub stack-fits : pairsIn z ≤ length stack
-  pub log-fits : pairsIn z ≤ length log
+-- the estimate that guides the search
+abbrev pub estimateIn : Shape → Read → Estimate
+estimateIn z t = estimate (chartIn z t) (diagramIn z t)
 
--- the trails from the start to the node of the end stage are no longer than the plan slice
-abbrev pub Fits : Shape → List ℕ → List ℕ → ℕ → List ℕ → Type 0
-Fits z via from node plan = (w : List ℕ) → Trail via from (z .nodes + 2) (z .start) (z .end) node w → length w ≤ length plan
+-- the work slices among all slices
+abbrev pub workOf : GuidedSlices → Work
+workOf x = work (x .keys) (x .via) (x .heap) (x .pos) (x .stack)
 
--- the answer and the plan slice with the trail to the node of the end stage
-abbrev pub Traces : Shape → List ℕ → List ℕ → ℕ → ℕ → ℕ → List ℕ → List ℕ → Answer → Type 0
-Traces z via from node cost count plan plan′ r =
-    (w : List ℕ) → Trail via from (z .nodes + 2) (z .start) (z .end) node w → (r ≡ accepted cost (length w) count) × (plan′ ≡ w ++ drop (length w) plan)
+-- the slices are long enough
+pub record Room (z : Shape) (x : GuidedSlices) : Type 0 where
+  pub space : Space z (workOf x) (x .log)
+  pub plan-fits : z .stages - 1 ≤ length (x .plan)
+
+-- the pair of the end stage and a node can be traced back to the start
+abbrev pub Trails : Shape → List ℕ → Steps → List ℕ → Ended → Type 0
+Trails z via steps row e = Traceable via (steps .from) row (z .start .0) (z .end .0) (e .node .0)
+
+-- where a goal pair was settled it can be traced back, and the plan slice has room for each trail
+pub record Ending (z : Shape) (via : List ℕ) (steps : Steps) (row : List ℕ) (e : Ended) (plan : List ℕ) : Type 0 where
+  pub traceable : e .found ≡ true → Trails z via steps row e
+  pub fits : (x : Trails z via steps row e) → length (x .steps) ≤ length plan
+
+-- the answer and the plan slice, by how the search ended
+pub record Concludes (z : Shape) (via : List ℕ) (steps : Steps) (row : List ℕ) (e : Ended) (plan plan′ : List ℕ) (r : Answer) : Type 0 where
+  pub found : e .found ≡ true → (x : Trails z via steps row e)
+      → (r ≡ accepted (e .cost) (length (x .steps)) (e .count)) × (plan′ ≡ x .steps ++ drop (length (x .steps)) plan)
+  pub not-found : e .found ≡ false → (r ≡ refusal 8 0 0 (e .count)) × (plan′ ≡ plan)
 
 -- the answer and all slices are as promised
-pub record Promised (z : Shape) (from to cost step lo hi keys via heap pos stack log plan keys′ via′ heap′ pos′ stack′ log′ plan′ : List ℕ) (r : Answer) : Type 0 where
-  pub outcome : Outcome (cheapest (chartIn z from to cost) (diagramIn z step lo hi)) (chartIn z from to cost) (diagramIn z step lo hi) (r .count) plan plan′ r
-  pub logged : Logged (graphIn z from to cost) (automatonIn z from to cost step lo hi) (estimateIn z from to cost step lo hi) 0
-      (cheapest (chartIn z from to cost) (diagramIn z step lo hi)) (r .count) log log′
-  pub past : Past (pairsIn z) keys via heap pos stack keys′ via′ heap′ pos′ stack′
+pub record Runs (z : Shape) (t : Read) (before after : GuidedSlices) (r : Answer) : Type 0 where
+  pub outcome : Outcome (cheapest (chartIn z t) (diagramIn z t)) (chartIn z t) (diagramIn z t) (r .count) (before .plan) (after .plan) r
+  pub logged : Logged (graphIn z t) (automatonIn z t) (estimateIn z t) (cheapest (chartIn z t) (diagramIn z t)) (r .count) (before .log) (after .log)
+  pub past : Past (pairsIn z) (workOf before) (workOf after)

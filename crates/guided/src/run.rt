@@ -1,153 +1,63 @@
 // The guided search of two files: the checks, the search, and the plan.
-ghost use mathlib.Core.Path.{_≡_};
-ghost use mathlib.Core.List.{[], _∷_};
-ghost use mathlib.Core.Option.{some};
-ghost use Prim.Native.Nat.{_+_, _-_, _≤_};
-ghost use lib.ListN.{length};
-ghost use Rattle.definitions.specs.Answers.{load as outcome};
-ghost use Rattle.definitions.specs.Promises.{Guided, Scratch};
-ghost use Rattle.trace.specs.Trails.{Traceable};
-ghost use Rattle.checks.specs.Tables.{Tables};
-ghost use Rattle.guided_expand.specs.Tables.{estimateIn};
-ghost use Rattle.guided_loop.specs.Search.{Prepared};
-ghost use Rattle.guided.specs.Runs.{Space, Fits, Traces, Promised};
-use crate::clear::clear_keys;
+ghost use Rattle.definitions.specs.Promises.{guidedSlices, GuidedCall};
+ghost use Rattle.chart.specs.Tables.{stepsIn};
+ghost use Rattle.checks.specs.Tables.{read, Tables};
+ghost use Rattle.guided.specs.Runs.{Room, Runs, Ending, Concludes};
+use crate::clear::clear_rows;
+use chart::COST;
 use chart::ChartRead;
+use chart::FROM;
 use chart::chart_estimates;
 use chart::first_steps;
+use checks::accepted;
 use checks::load;
+use checks::refusal;
 use convert::lesser;
 use definitions::Answer;
 use definitions::NONE;
-use definitions::Node;
 use definitions::Shape;
-use definitions::Stage;
+use diagram::HI;
+use diagram::LO;
+use diagram::STEP;
 use guided_expand::pair_estimate;
+use guided_loop::Ended;
 use guided_loop::search;
 use nodes::diagram_estimates;
 use nodes::finishing;
 use rows::row_starts;
-use trace::pair_at;
 use trace::trail_length;
 use trace::write_trail;
 
-// The answer of a goal pair, and its plan: the trail from the start to the node of the end stage.
-fn trace_plan<'a>(
+// The answer by how the search ended; where a goal pair was settled, the trail from the start to it is written as the plan.
+fn conclude<'a>(
     via: &'a [u32],
-    from: &'a [u16; 1024],
+    steps: &'a [[u32; 1024]; 3],
     row: &'a [u32; 256],
     z: Shape,
-    node: Node,
-    cost: u32,
-    count: usize,
+    ended: Ended,
     plan: &mut [u16],
 ) -> Answer
-    requires { ⌜ Traceable (now via) (now from) (now row) (z .nodes + 2) (z .stages) (z .start) (z .end) (node .0) ⌝ }
-    requires { ⌜ Fits z (now via) (now from) (node .0) (now plan) ⌝ }
-    ensures { λ r. ⌜ Traces z (now (via .entry)) (now (from .entry)) (node .0) cost count (now (plan .entry)) (now (plan .exit)) r ⌝ }
+    requires { ⌜ Ending z (now via) (stepsIn (now steps)) (now row) ended (now plan) ⌝ }
+    ensures { λ r. ⌜
+        (let table = stepsIn (now (steps .entry)) in
+        Concludes z (now (via .entry)) table (now (row .entry)) ended (now (plan .entry)) (now (plan .exit)) r)
+        ⌝ }
 {
-    let width = z.nodes + 2;
-    let stages = z.stages as usize;
-    let length = trail_length(
-        via,
-        from,
-        row,
-        width,
-        stages,
-        Stage(z.start),
-        Stage(z.end),
-        node,
-    );
-    write_trail(
-        via,
-        from,
-        row,
-        width,
-        stages,
-        Stage(z.start),
-        Stage(z.end),
-        node,
-        length,
-        plan,
-    );
-    Answer {
-        number: 0,
-        file: 0,
-        place: 0,
-        cost,
-        length,
-        count,
+    if ended.found {
+        let length = trail_length(via, &steps[FROM], row, z.start, z.end, ended.node);
+        write_trail(
+            via,
+            &steps[FROM],
+            row,
+            z.start,
+            z.end,
+            ended.node,
+            length,
+            plan,
+        );
+        return accepted(ended.cost, length, ended.count);
     }
-}
-
-// The search where the pair of start and root has the estimate `rest`.
-fn find<'a>(
-    keys: &mut [u32],
-    via: &mut [u32],
-    heap: &mut [u32],
-    pos: &mut [u32],
-    stack: &mut [u32],
-    log: &mut [u32],
-    plan: &mut [u16],
-    from: &'a [u16; 1024],
-    to: &'a [u16; 1024],
-    cost: &'a [u32; 1024],
-    first: &'a [u16; 257],
-    row: &'a [u32; 256],
-    step: &'a [u16; 512],
-    lo: &'a [u16; 512],
-    hi: &'a [u16; 512],
-    by_stage: &'a [u32; 256],
-    by_node: &'a [u32; 512],
-    yes: &'a [bool; 512],
-    z: Shape,
-    rest: u32,
-) -> Answer
-    requires { ⌜ Prepared z (now from) (now to) (now cost) (now first) (now row) (now step) (now lo) (now hi) (now «by_stage») (now «by_node») (now yes) ⌝ }
-    requires { ⌜ Space z (now keys) (now via) (now heap) (now pos) (now stack) (now log) × (z .stages - 1 ≤ length (now plan)) ⌝ }
-    requires { ⌜ estimateIn z (now from) (now to) (now cost) (now step) (now lo) (now hi) (z .start) (z .root) ≡ some rest ⌝ }
-    ensures { λ r. ⌜ Promised z (now (from .entry)) (now (to .entry)) (now (cost .entry)) (now (step .entry)) (now (lo .entry)) (now (hi .entry)) (now (keys .entry)) (now (via .entry)) (now (heap .entry)) (now (pos .entry)) (now (stack .entry)) (now (log .entry)) (now (plan .entry)) (now (keys .exit)) (now (via .exit)) (now (heap .exit)) (now (pos .exit)) (now (stack .exit)) (now (log .exit)) (now (plan .exit)) r ⌝ }
-{
-    let width = z.nodes + 2;
-    let stages = z.stages as usize;
-    let low = pair_at(row, Stage(z.start), Node(0));
-    let high = pair_at(row, Stage(z.end), Node(0));
-    clear_keys(keys, low, high + width);
-    let begin = pair_at(row, Stage(z.start), Node(z.root));
-    let e = search(
-        keys,
-        via,
-        heap,
-        pos,
-        stack,
-        log,
-        stages * width,
-        from,
-        to,
-        cost,
-        first,
-        row,
-        step,
-        lo,
-        hi,
-        by_stage,
-        by_node,
-        yes,
-        z,
-        begin,
-        rest,
-    );
-    if e.found {
-        return trace_plan(via, from, row, z, e.node, e.cost, e.count, plan);
-    }
-    Answer {
-        number: 8,
-        file: 0,
-        place: 0,
-        cost: 0,
-        length: 0,
-        count: e.count,
-    }
+    refusal(8, 0, 0, ended.count)
 }
 
 // The guided search of a chart and a diagram that stand in tables.
@@ -159,68 +69,64 @@ fn run<'a>(
     stack: &mut [u32],
     log: &mut [u32],
     plan: &mut [u16],
-    from: &'a [u16; 1024],
-    to: &'a [u16; 1024],
-    cost: &'a [u32; 1024],
-    step: &'a [u16; 512],
-    lo: &'a [u16; 512],
-    hi: &'a [u16; 512],
     z: Shape,
+    steps: &'a [[u32; 1024]; 3],
+    inner: &'a [[u16; 512]; 3],
 ) -> Answer
-    requires { ⌜ Tables z (now from) (now to) (now cost) (now step) (now lo) (now hi) ⌝ }
-    requires { ⌜ Space z (now keys) (now via) (now heap) (now pos) (now stack) (now log) × (z .stages - 1 ≤ length (now plan)) ⌝ }
-    ensures { λ r. ⌜ Promised z (now (from .entry)) (now (to .entry)) (now (cost .entry)) (now (step .entry)) (now (lo .entry)) (now (hi .entry)) (now (keys .entry)) (now (via .entry)) (now (heap .entry)) (now (pos .entry)) (now (stack .entry)) (now (log .entry)) (now (plan .entry)) (now (keys .exit)) (now (via .exit)) (now (heap .exit)) (now (pos .exit)) (now (stack .exit)) (now (log .exit)) (now (plan .exit)) r ⌝ }
+    requires { ⌜ Tables z (read (now steps) (now inner)) ⌝ }
+    requires { ⌜
+        Room z (guidedSlices (now keys) (now via) (now heap) (now pos) (now stack) (now log) (now plan))
+        ⌝ }
+    ensures { λ r. ⌜
+        (let before =
+        guidedSlices (now (keys .entry)) (now (via .entry)) (now (heap .entry)) (now (pos .entry))
+        (now (stack .entry)) (now (log .entry)) (now (plan .entry)) in
+        let after =
+        guidedSlices (now (keys .exit)) (now (via .exit)) (now (heap .exit)) (now (pos .exit))
+        (now (stack .exit)) (now (log .exit)) (now (plan .exit)) in
+        Runs z (read (now (steps .entry)) (now (inner .entry))) before after r)
+        ⌝ }
 {
     let sizes = ChartRead {
         number: 0,
         place: 0,
         stages: z.stages,
-        start: z.start,
-        end: z.end,
+        start: z.start.0,
+        end: z.end.0,
         steps: z.steps,
     };
-    let by_stage = chart_estimates(sizes, from, to, cost);
-    let by_node = diagram_estimates(step, lo, hi, z.nodes, cost);
-    let rest = pair_estimate(&by_stage, &by_node, Stage(z.start), Node(z.root));
+    let by_stage = chart_estimates(sizes, steps);
+    let by_node = diagram_estimates(&inner[STEP], &inner[LO], &inner[HI], z.nodes, &steps[COST]);
+    let rest = pair_estimate(&by_stage, &by_node, z.start, z.root);
     if rest == NONE {
-        return Answer {
-            number: 8,
-            file: 0,
-            place: 0,
-            cost: 0,
-            length: 0,
-            count: 0,
-        };
+        return refusal(8, 0, 0, 0);
     }
-    let first = first_steps(from, z.steps, z.stages);
+    let first = first_steps(&steps[FROM], z.steps, z.stages);
     let row = row_starts(z.stages as usize, z.nodes + 2);
-    let yes = finishing(lo, z.nodes);
-    find(
+    let yes = finishing(&inner[LO], z.nodes);
+    clear_rows(keys, &row, z.nodes + 2, z.start, z.end);
+    let ended = search(
         keys,
         via,
         heap,
         pos,
         stack,
         log,
-        plan,
-        from,
-        to,
-        cost,
+        steps,
         &first,
         &row,
-        step,
-        lo,
-        hi,
+        inner,
         &by_stage,
         &by_node,
         &yes,
         z,
         rest,
-    )
+    );
+    conclude(via, steps, &row, z, ended, plan)
 }
 
-// A cheapest legal plan from both files, found by the guided search. `log` gets the settled pairs in order; `keys`, `via`, `heap`, `pos` and `stack` are
-// work space. Each of these six needs stage count × N entries, `plan` stage count − 1.
+// A cheapest legal plan from both files, found by the guided search. `log` gets the settled pairs in order; `keys`, `via`,
+// `heap`, `pos` and `stack` are work space. Each of these six needs stage count × N entries, `plan` stage count − 1.
 pub fn guided(
     chart: &[u8],
     rules: &[u8],
@@ -232,42 +138,23 @@ pub fn guided(
     log: &mut [u32],
     plan: &mut [u16],
 ) -> Answer
-    ensures { λ r. ⌜ Guided (outcome (now (chart .entry)) (now (rules .entry)) (length (now (keys .entry)) ∷ length (now (via .entry)) ∷ length (now (heap .entry)) ∷ length (now (pos .entry)) ∷ length (now (stack .entry)) ∷ length (now (log .entry)) ∷ []) (length (now (plan .entry)))) (now (plan .entry)) (now (plan .exit)) (now (log .entry)) (now (log .exit)) r ⌝ }
-    ensures { λ r. ⌜ Scratch (outcome (now (chart .entry)) (now (rules .entry)) (length (now (keys .entry)) ∷ length (now (via .entry)) ∷ length (now (heap .entry)) ∷ length (now (pos .entry)) ∷ length (now (stack .entry)) ∷ length (now (log .entry)) ∷ []) (length (now (plan .entry)))) (now (keys .entry)) (now (keys .exit)) ⌝ }
-    ensures { λ r. ⌜ Scratch (outcome (now (chart .entry)) (now (rules .entry)) (length (now (keys .entry)) ∷ length (now (via .entry)) ∷ length (now (heap .entry)) ∷ length (now (pos .entry)) ∷ length (now (stack .entry)) ∷ length (now (log .entry)) ∷ []) (length (now (plan .entry)))) (now (via .entry)) (now (via .exit)) ⌝ }
-    ensures { λ r. ⌜ Scratch (outcome (now (chart .entry)) (now (rules .entry)) (length (now (keys .entry)) ∷ length (now (via .entry)) ∷ length (now (heap .entry)) ∷ length (now (pos .entry)) ∷ length (now (stack .entry)) ∷ length (now (log .entry)) ∷ []) (length (now (plan .entry)))) (now (heap .entry)) (now (heap .exit)) ⌝ }
-    ensures { λ r. ⌜ Scratch (outcome (now (chart .entry)) (now (rules .entry)) (length (now (keys .entry)) ∷ length (now (via .entry)) ∷ length (now (heap .entry)) ∷ length (now (pos .entry)) ∷ length (now (stack .entry)) ∷ length (now (log .entry)) ∷ []) (length (now (plan .entry)))) (now (pos .entry)) (now (pos .exit)) ⌝ }
-    ensures { λ r. ⌜ Scratch (outcome (now (chart .entry)) (now (rules .entry)) (length (now (keys .entry)) ∷ length (now (via .entry)) ∷ length (now (heap .entry)) ∷ length (now (pos .entry)) ∷ length (now (stack .entry)) ∷ length (now (log .entry)) ∷ []) (length (now (plan .entry)))) (now (stack .entry)) (now (stack .exit)) ⌝ }
+    ensures { λ r. ⌜
+        (let before =
+        guidedSlices (now (keys .entry)) (now (via .entry)) (now (heap .entry)) (now (pos .entry))
+        (now (stack .entry)) (now (log .entry)) (now (plan .entry)) in
+        let after =
+        guidedSlices (now (keys .exit)) (now (via .exit)) (now (heap .exit)) (now (pos .exit))
+        (now (stack .exit)) (now (log .exit)) (now (plan .exit)) in
+        GuidedCall (now (chart .entry)) (now (rules .entry)) before after r)
+        ⌝ }
 {
-    let mut from = [0u16; 1024];
-    let mut to = [0u16; 1024];
-    let mut cost = [0u32; 1024];
-    let mut step = [0u16; 512];
-    let mut lo = [0u16; 512];
-    let mut hi = [0u16; 512];
+    let mut steps = [[0u32; 1024]; 3];
+    let mut inner = [[0u16; 512]; 3];
     let shorter = lesser(lesser(lesser(keys.len(), via.len()), heap.len()), pos.len());
     let work = lesser(lesser(shorter, stack.len()), log.len());
-    let got = load(
-        chart,
-        rules,
-        work,
-        plan.len(),
-        &mut from,
-        &mut to,
-        &mut cost,
-        &mut step,
-        &mut lo,
-        &mut hi,
-    );
+    let got = load(chart, rules, work, plan.len(), &mut steps, &mut inner);
     if got.number != 0 {
-        return Answer {
-            number: got.number,
-            file: got.file,
-            place: got.place,
-            cost: 0,
-            length: 0,
-            count: 0,
-        };
+        return refusal(got.number, got.file, got.place, 0);
     }
     run(
         keys,
@@ -277,12 +164,8 @@ pub fn guided(
         stack,
         log,
         plan,
-        &from,
-        &to,
-        &cost,
-        &step,
-        &lo,
-        &hi,
         got.shape,
+        &steps,
+        &inner,
     )
 }

@@ -7,55 +7,59 @@ use native.Mathlib.Omega.{arith}
 use lib.ListN.{length, getD, set, drop}
 use lib.Seq.{drop-set-lt}
 use Rattle.queue.specs.declared.Counts.{Counts}
-use Rattle.queue.specs.Queue.{Contains, Queue, Inserted, Decreased}
+use Rattle.queue.specs.Queue.{state, Contains, Inserted, Decreased}
 use Rattle.queue.proofs.Facts.{keys-fit}
 use Rattle.guided_model.specs.State.{unopened}
-use Rattle.guided_model.specs.Moves.{Offerable, Relaxed, relaxed-none, relaxed-falls}
-use Rattle.guided_expand.specs.Kept.{Kept, kept-same}
+use Rattle.guided_model.specs.Moves.{relaxed-none, relaxed-falls}
+use Rattle.guided_expand.specs.Work.{Work, work, queueIn, marksIn, kept-same, Offering, Relaxes}
 
-module _ {p : ℕ} {c : Counts} {y v : ℕ} {keys heap pos stack : List ℕ} (q : Queue keys heap pos stack p c) where
+module _ {p y v : ℕ} {x : Work} {c : Counts} (o : Offering p y v x c) where
   -- y has no higher key
-  pub relax-none : {mark : ℕ} {via : List ℕ} → getD keys y 0 ≤ v
-      → Relaxed y v mark keys via (Contains heap pos stack c) keys via (Contains heap pos stack c) × Kept p keys via heap pos stack c keys via heap pos stack c
-  relax-none {mark} {via} h = (relaxed-none y v mark keys via (Contains heap pos stack c) h, kept-same p keys via heap pos stack c q)
+  pub relax-none : {mark : ℕ} → getD (x .keys) y 0 ≤ v → Relaxes p y v mark x c x c
+  relax-none {mark} h = record { relaxed = relaxed-none y v mark (marksIn x c) h; kept = kept-same (o .queue) }
 
-  module _ {mark : ℕ} {via : List ℕ} (i : y < p) (f : p ≤ length via) (low : v < unopened) (less : v < getD keys y 0) where
+  pub relax-fits : (y < length (x .keys)) × (y < length (x .via))
+  relax-fits = (omega (arith, o .pair, keys-fit (o .queue)), omega (arith, o .pair, o .fits))
+
+  module _ {mark : ℕ} (less : v < getD (x .keys) y 0) where
     -- y is opened
-    pub relax-inserts : {c′ : Counts} {keys′ heap′ pos′ stack′ : List ℕ} → Inserted p c y v keys heap pos stack keys′ heap′ pos′ stack′ c′
-        → Relaxed y v mark keys via (Contains heap pos stack c) keys′ (set via y mark) (Contains heap′ pos′ stack′ c′)
-        × Kept p keys via heap pos stack c keys′ (set via y mark) heap′ pos′ stack′ c′
-    relax-inserts {c′} {keys′} {heap′} {pos′} {stack′} x = (
-      relaxed-falls y v mark keys via (Contains heap pos stack c) keys′ (set via y mark) (Contains heap′ pos′ stack′ c′)
-          (omega (arith, keys-fit q)) (omega arith) less low (x .stored) refl (x .here) (x .kept) (x .only),
-      record {
-        queue = x .queue;
-        same-floor = x .same-floor;
-        keys-past = ap (drop p) (x .stored) ∙ drop-set-lt p keys y v i;
-        via-past = drop-set-lt p via y mark i;
-        heap-past = x .heap-past;
-        pos-past = x .pos-past;
-        stack-past = x .stack-past;
-      },
-    )
+    pub relax-inserts : {keys′ heap′ pos′ stack′ : List ℕ} {c′ : Counts} → Inserted p y v (queueIn x c) (state keys′ heap′ pos′ stack′ c′)
+        → Relaxes p y v mark x c (work keys′ (set (x .via) y mark) heap′ pos′ stack′) c′
+    relax-inserts {keys′} {heap′} {pos′} {stack′} {c′} i = record {
+      relaxed = relaxed-falls y v mark (marksIn x c) (marksIn (work keys′ (set (x .via) y mark) heap′ pos′ stack′) c′)
+          (relax-fits .0) (relax-fits .1) less (o .low) (i .stored) refl (i .here) (i .kept) (i .only);
+      kept = record {
+        queue = i .queue;
+        same-floor = i .same-floor;
+        past = record {
+          keys-past = ap (drop p) (i .stored) ∙ drop-set-lt p (x .keys) y v (o .pair);
+          via-past = drop-set-lt p (x .via) y mark (o .pair);
+          heap-past = i .past .heap-past;
+          pos-past = i .past .pos-past;
+          stack-past = i .past .stack-past;
+        };
+      };
+    }
 
     -- y is moved up
-    pub relax-decreases : {keys′ heap′ pos′ : List ℕ} → Contains heap pos stack c y → Decreased p c y v keys heap pos stack keys′ heap′ pos′
-        → Relaxed y v mark keys via (Contains heap pos stack c) keys′ (set via y mark) (Contains heap′ pos′ stack c)
-        × Kept p keys via heap pos stack c keys′ (set via y mark) heap′ pos′ stack c
-    relax-decreases {keys′} {heap′} {pos′} o x = (
-      relaxed-falls y v mark keys via (Contains heap pos stack c) keys′ (set via y mark) (Contains heap′ pos′ stack c)
-          (omega (arith, keys-fit q)) (omega arith) less low (x .stored) refl (x .kept y o) (x .kept) (λ k w n. x .only k w),
-      record {
-        queue = x .queue;
+    pub relax-decreases : {keys′ heap′ pos′ : List ℕ} → Contains (queueIn x c) y → Decreased p y v (queueIn x c) (state keys′ heap′ pos′ (x .stack) c)
+        → Relaxes p y v mark x c (work keys′ (set (x .via) y mark) heap′ pos′ (x .stack)) c
+    relax-decreases {keys′} {heap′} {pos′} w d = record {
+      relaxed = relaxed-falls y v mark (marksIn x c) (marksIn (work keys′ (set (x .via) y mark) heap′ pos′ (x .stack)) c)
+          (relax-fits .0) (relax-fits .1) less (o .low) (d .stored) refl (d .kept y w) (d .kept) (λ k i n. d .only k i);
+      kept = record {
+        queue = d .queue;
         same-floor = refl;
-        keys-past = ap (drop p) (x .stored) ∙ drop-set-lt p keys y v i;
-        via-past = drop-set-lt p via y mark i;
-        heap-past = x .heap-past;
-        pos-past = x .pos-past;
-        stack-past = refl;
-      },
-    )
+        past = record {
+          keys-past = ap (drop p) (d .stored) ∙ drop-set-lt p (x .keys) y v (o .pair);
+          via-past = drop-set-lt p (x .via) y mark (o .pair);
+          heap-past = d .past .heap-past;
+          pos-past = d .past .pos-past;
+          stack-past = refl;
+        };
+      };
+    }
 
   -- y is open where it has a key
-  pub relax-inside : Offerable keys (Contains heap pos stack c) y v → v < getD keys y 0 → getD keys y 0 ≤ unopened → (getD keys y 0 ≡ unopened → ⊥) → Contains heap pos stack c y
-  relax-inside o less b n = o .inside less (omega arith)
+  pub relax-inside : v < getD (x .keys) y 0 → getD (x .keys) y 0 ≤ unopened → (getD (x .keys) y 0 ≡ unopened → ⊥) → Contains (queueIn x c) y
+  relax-inside less b n = o .offerable .inside less (omega arith)

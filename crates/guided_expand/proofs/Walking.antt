@@ -1,65 +1,139 @@
 -- The loop of `settle`: the steps before e have been offered, and the node is lowered for one of them.
 -- Assumes nothing.
-use Prim.Native.Nat.{ℕ, _+_, _≤_}
-use mathlib.Core.Path.{_≡_, subst}
-use mathlib.Core.List.{List}
+use Prim.Native.Nat.{ℕ, _+_, _≤_, _<_}
+use mathlib.Core.Path.{_≡_, sym, _∙_, subst}
 use native.Mathlib.Omega.{arith}
-use lib.ListN.{length}
+use lib.ListN.{length, getD}
 use Rattle.queue.specs.declared.Counts.{Counts}
-use Rattle.diagram.specs.Tables.{Marked}
-use Rattle.nodes.specs.Walks.{Falls, Lowers}
-use Rattle.nodes.specs.Advancing.{lowers-zero, lowers-on}
+use Rattle.definitions.specs.Ways.{Graph}
+use Rattle.definitions.specs.Pairs.{Automaton}
 use Rattle.definitions.specs.declared.Shape.{Shape}
-use Rattle.guided_expand.specs.Opening.{Opening, Opened, opening-on, opened-more}
-use Rattle.guided_expand.proofs.Stepping.{marked, falls-from, opened-none, opened-dead}
+use Rattle.theory.specs.Variables.{next-is}
+use Rattle.diagram.specs.Files.{Nodes}
+use Rattle.diagram.specs.Tables.{Marked}
+use Rattle.nodes.specs.Walks.{Falls, Lowers, BranchesTo}
+use Rattle.nodes.specs.Falling.{lo-falls}
+use Rattle.nodes.specs.Advancing.{lowers-zero, lowers-on, advancing-dead}
+use Rattle.checks.specs.Tables.{Tables, chartIn, diagramIn}
+use Rattle.checks.specs.Ready.{Walk, graphIn, automatonIn, width-is, few-stages, few-nodes, few-steps, first-leave, first-order}
+use Rattle.guided_model.specs.Bounds.{dead-steps}
+use Rattle.guided_model.specs.Moves.{expanded-none}
+use Rattle.guided_expand.specs.Estimates.{Estimates}
+use Rattle.guided_expand.specs.Work.{Work, marksIn, kept-same}
+use Rattle.guided_expand.specs.Guides.{Guides}
+use Rattle.guided_expand.specs.Opening.{Opens, Opened, opens-on, opened-more, Opening, Leading}
 
-pub record Walking (z : Shape) (from to cost row step lo hi byStage byNode : List ℕ) (s n base p first : ℕ)
-    (keys₀ via₀ heap₀ pos₀ stack₀ : List ℕ) (c₀ : Counts) (keys via heap pos stack : List ℕ) (c : Counts) (m e : ℕ) : Type 0 where
+-- the steps of stage s, by the table of first steps
+abbrev pub firstOf : Walk → ℕ → ℕ
+firstOf on s = getD (on .first) s 0
+
+module _ {on : Walk} {t : Estimates} {s n base p : ℕ} {x : Work} {c : Counts} (o : Opening on t s n base p x c) where
+  pub settles-stage : s < 256
+  settles-stage = omega (arith, o .opens .settling .stage, few-stages (o .z) (on .read) (o .by .ready .tables))
+
+  pub settles-order : firstOf on s ≤ firstOf on (s + 1)
+  settles-order = first-order (o .z) on (o .by .ready) s (o .opens .settling .stage) .0
+
+pub record Walking {z : Shape} {on : Walk} {t : Estimates} (by : Guides z on t) (s n base p : ℕ) (x₀ : Work) (c₀ : Counts) (x : Work) (c : Counts) (m e : ℕ) : Type 0 where
   pub for-step : ℕ
   pub not-later : for-step ≤ e
-  pub lowers : Lowers step lo for-step n m
-  pub opening : Opening z from to cost row step lo hi byStage byNode s n base p keys via heap pos stack c
-  pub opened : Opened z from to cost row step lo hi byStage byNode s n base p first e keys₀ via₀ heap₀ pos₀ stack₀ c₀ keys via heap pos stack c
+  pub lowers : Lowers (on .read .inner .step) (on .read .inner .lo) for-step n m
+  pub begun : firstOf on s ≤ e
+  pub opens : Opens by s n base p x c
+  pub opened : Opened by s n base p (firstOf on s) e x₀ c₀ x c
 
-module _ {z : Shape} {from to cost row step lo hi byStage byNode : List ℕ} {s n base p first : ℕ} where
-  pub walk-start : {keys via heap pos stack : List ℕ} {c : Counts} → Opening z from to cost row step lo hi byStage byNode s n base p keys via heap pos stack c
-      → Walking z from to cost row step lo hi byStage byNode s n base p first keys via heap pos stack c keys via heap pos stack c n first
-  walk-start o = record {
-    for-step = 0;
-    not-later = omega arith;
-    lowers = lowers-zero step lo n;
-    opening = o;
-    opened = opened-none o first first (λ e i j. absurd (omega arith));
-  }
+-- no step is offered
+opened-none : {z : Shape} {on : Walk} {t : Estimates} {by : Guides z on t} {s n base p : ℕ} {x : Work} {c : Counts} → Opens by s n base p x c → (first until : ℕ)
+    → ((e : ℕ) → first ≤ e → e < until → automatonIn z (on .read) .next e n ≡ 0) → Opened by s n base p first until x c x c
+opened-none {z} {on} {t} {by} {s} {n} {base} {p} {x} {c} o first until q = record {
+  expanded = expanded-none (graphIn z (on .read)) (automatonIn z (on .read)) (by .h) s n base first until (marksIn x c) (dead-steps (by .guide) n first until q);
+  kept = kept-same (o .queue);
+}
 
-  module _ {keys₀ via₀ heap₀ pos₀ stack₀ : List ℕ} {c₀ : Counts} {keys via heap pos stack : List ℕ} {c : Counts} {m e : ℕ}
-      (w : Walking z from to cost row step lo hi byStage byNode s n base p first keys₀ via₀ heap₀ pos₀ stack₀ c₀ keys via heap pos stack c m e) where
-    pub walk-falls : Marked step × Falls lo m
-    walk-falls = (marked (w .opening), falls-from (w .opening) m (w .lowers .below))
+pub walk-start : {on : Walk} {t : Estimates} {s n base p : ℕ} {x : Work} {c : Counts} (o : Opening on t s n base p x c) → Walking (o .by) s n base p x c x c n (firstOf on s)
+walk-start {on} {t} {s} {n} o = record {
+  for-step = 0;
+  not-later = omega arith;
+  lowers = lowers-zero (on .read .inner .step) (on .read .inner .lo) n;
+  begun = omega arith;
+  opens = o .opens;
+  opened = opened-none (o .opens) (firstOf on s) (firstOf on s) (λ e i j. absurd (omega arith));
+}
 
-    module _ {r : ℕ} (l : Lowers step lo e m r) where
-      pub walk-lowers : Lowers step lo e n r
-      walk-lowers = lowers-on step lo (w .for-step) e n m r (w .not-later) (w .lowers) l
+module _ {z : Shape} {on : Walk} {t : Estimates} {by : Guides z on t} {s n base p : ℕ} {x₀ : Work} {c₀ : Counts} {x : Work} {c : Counts} {m e : ℕ}
+    (w : Walking by s n base p x₀ c₀ x c m e) where
+  abbrev g : Graph
+  g = graphIn z (on .read)
+
+  abbrev a : Automaton
+  a = automatonIn z (on .read)
+
+  abbrev tables : Tables z (on .read)
+  tables = by .ready .tables
+
+  abbrev inner : Nodes
+  inner = on .read .inner
+
+  pub walk-falls : Marked (inner .step) × Falls (inner .lo) m
+  walk-falls = (
+    tables .held .marked,
+    lo-falls (diagramIn z (on .read)) (inner .step) (inner .lo) (inner .hi) (tables .held) m (omega (arith, w .lowers .below, w .opens .settling .node)),
+  )
+
+  module _ (more : e < firstOf on (s + 1)) where
+    pub leaving : (e < z .steps) × (g .from e ≡ s)
+    leaving = first-leave z on (by .ready) s e (w .opens .settling .stage) (w .begun) more
+
+    pub walk-step : e < 1024
+    walk-step = omega (arith, leaving .0, few-steps z (on .read) tables)
+
+    module _ {r : ℕ} (low : Lowers (inner .step) (inner .lo) e m r) where
+      pub lowered : Lowers (inner .step) (inner .lo) e n r
+      lowered = lowers-on (inner .step) (inner .lo) (w .for-step) e n m r (w .not-later) (w .lowers) low
+
+      pub walk-branches : Marked (inner .step) × (r < 512) × (e < 65535)
+      walk-branches = (
+        tables .held .marked,
+        omega (arith, lowered .below, w .opens .settling .node, width-is z (on .read) tables, few-nodes z (on .read) tables),
+        omega (arith, walk-step),
+      )
 
       -- node 0: no further step leads to a pair
-      pub walk-dead : (until : ℕ) → r ≡ 0
-          → Opened z from to cost row step lo hi byStage byNode s n base p first until keys₀ via₀ heap₀ pos₀ stack₀ c₀ keys via heap pos stack c
-      walk-dead until q =
-          opened-more z from to cost row step lo hi byStage byNode s n base p (w .opened) (opened-dead (w .opening) e until (subst (Lowers step lo e n) q walk-lowers))
+      pub walk-dead : r ≡ 0 → Opened by s n base p (firstOf on s) (firstOf on (s + 1)) x₀ c₀ x c
+      walk-dead q =
+          opened-more by s n base p (w .opened)
+          (opened-none (w .opens) e (firstOf on (s + 1))
+          (λ f i j. next-is (chartIn z (on .read)) (diagramIn z (on .read)) f n
+          ∙ sym (advancing-dead (inner .step) (inner .lo) (inner .hi) e f n i (subst (Lowers (inner .step) (inner .lo) e n) q lowered) .is
+          (diagramIn z (on .read)) (tables .held) (w .opens .settling .node))))
 
-      -- a step is offered
-      pub walk-more : {keys′ via′ heap′ pos′ stack′ : List ℕ} {c′ : Counts} → length via′ ≡ length via
-          → Opened z from to cost row step lo hi byStage byNode s n base p e (e + 1) keys via heap pos stack c keys′ via′ heap′ pos′ stack′ c′
-          → Walking z from to cost row step lo hi byStage byNode s n base p first keys₀ via₀ heap₀ pos₀ stack₀ c₀ keys′ via′ heap′ pos′ stack′ c′ r (e + 1)
-      walk-more q x = record {
-        for-step = e;
-        not-later = omega arith;
-        lowers = walk-lowers;
-        opening = opening-on z from to cost row step lo hi byStage byNode s n base p q (w .opening) x;
-        opened = opened-more z from to cost row step lo hi byStage byNode s n base p (w .opened) x;
-      }
+      -- the step leads to node `to`
+      module _ {to : ℕ} (b : BranchesTo (inner .step) (inner .hi) e r to) where
+        abbrev pub walk-leading : Leading (on .read .steps) (on .row) t n base p e to x c
+        walk-leading = record {
+          inner = on .read .inner;
+          first = on .first;
+          s = s;
+          z = z;
+          by = by;
+          opens = w .opens;
+          exists = leaving .0;
+          leaves = leaving .1;
+          enters =
+              b (inner .lo) n lowered .is (diagramIn z (on .read)) (tables .held) (w .opens .settling .node)
+              ∙ sym (next-is (chartIn z (on .read)) (diagramIn z (on .read)) e n);
+        }
 
-    pub walk-done : (until : ℕ) → e ≡ until
-        → Opened z from to cost row step lo hi byStage byNode s n base p first until keys₀ via₀ heap₀ pos₀ stack₀ c₀ keys via heap pos stack c
-    walk-done until q =
-        subst (λ (k : ℕ). Opened z from to cost row step lo hi byStage byNode s n base p first k keys₀ via₀ heap₀ pos₀ stack₀ c₀ keys via heap pos stack c) q (w .opened)
+        -- and is offered
+        pub walk-more : {x′ : Work} {c′ : Counts} → length (x′ .via) ≡ length (x .via) → Opened by s n base p e (e + 1) x c x′ c′ → Walking by s n base p x₀ c₀ x′ c′ r (e + 1)
+        walk-more q o = record {
+          for-step = e;
+          not-later = omega arith;
+          lowers = lowered;
+          begun = omega (arith, w .begun);
+          opens = opens-on by s n base p q (w .opens) o;
+          opened = opened-more by s n base p (w .opened) o;
+        }
+
+  pub walk-done : e ≡ firstOf on (s + 1) → Opened by s n base p (firstOf on s) (firstOf on (s + 1)) x₀ c₀ x c
+  walk-done q = subst (λ (k : ℕ). Opened by s n base p (firstOf on s) k x₀ c₀ x c) q (w .opened)

@@ -1,4 +1,4 @@
 pub mod Estimates
-pub mod Tables
-pub mod Kept
+pub mod Work
+pub mod Guides
 pub mod Opening

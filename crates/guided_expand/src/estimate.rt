@@ -1,13 +1,13 @@
 // The estimate of a pair, from those of its stage and of its node.
 ghost use mathlib.Core.Path.{_≡_};
-ghost use Prim.Native.Nat.{_≤_, _<_, max};
-ghost use Rattle.guided_expand.specs.Estimates.{PairEstimate};
+ghost use Prim.Native.Nat.{_<_, max};
+ghost use Rattle.guided_expand.specs.Estimates.{estimates, paired};
 use definitions::Node;
 use definitions::Stage;
 
 // The larger of two numbers.
 fn larger(a: u32, b: u32) -> u32
-    ensures { λ r. ⌜ (r ≡ max a b) × (a ≤ 4294967295) × (b ≤ 4294967295) ⌝ }
+    ensures { λ r. ⌜ r ≡ max a b ⌝ }
 {
     if a < b {
         return b;
@@ -23,7 +23,7 @@ pub fn pair_estimate<'a>(
     n: Node,
 ) -> u32
     requires { ⌜ (s .0 < 256) × (n .0 < 512) ⌝ }
-    ensures { λ r. ⌜ PairEstimate (now («by_stage» .entry)) (now («by_node» .entry)) (s .0) (n .0) r ⌝ }
+    ensures { λ r. ⌜ r ≡ paired (estimates (now («by_stage» .entry)) (now («by_node» .entry))) (s .0) (n .0) ⌝ }
 {
     larger(by_stage[s.0 as usize], by_node[n.0 as usize])
 }

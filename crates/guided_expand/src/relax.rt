@@ -1,13 +1,10 @@
 // One offer of a key to a pair.
-ghost use Prim.Native.Nat.{_≤_, _<_};
-ghost use lib.ListN.{length};
-ghost use Rattle.queue.specs.Queue.{Contains, Queue};
-ghost use Rattle.guided_model.specs.Moves.{Offerable, Relaxed};
-ghost use Rattle.guided_expand.specs.Kept.{Kept};
+ghost use Rattle.guided_expand.specs.Work.{work, Offering, Relaxes};
 use definitions::NONE;
 use queue::Counts;
 
-// Offers pair y the key v, by a step and a node that `mark` has: where that is lower than the key that y has, y gets it and is opened or moved up.
+// Offers pair y the key v, by a step and a node that `mark` has: where that is lower than the key that y has, y gets it
+// and is opened or moved up.
 pub fn relax(
     keys: &mut [u32],
     via: &mut [u32],
@@ -20,10 +17,12 @@ pub fn relax(
     v: u32,
     mark: u32,
 ) -> Counts
-    requires { ⌜ Queue (now keys) (now heap) (now pos) (now stack) p counts ⌝ }
-    requires { ⌜ (y < p) × (p ≤ length (now via)) × (counts .floor ≤ v) × (v < 4294967295) × Offerable (now keys) (Contains (now heap) (now pos) (now stack) counts) y v ⌝ }
-    ensures { λ r. ⌜ Relaxed y v mark (now (keys .entry)) (now (via .entry)) (Contains (now (heap .entry)) (now (pos .entry)) (now (stack .entry)) counts) (now (keys .exit)) (now (via .exit)) (Contains (now (heap .exit)) (now (pos .exit)) (now (stack .exit)) r) ⌝ }
-    ensures { λ r. ⌜ Kept p (now (keys .entry)) (now (via .entry)) (now (heap .entry)) (now (pos .entry)) (now (stack .entry)) counts (now (keys .exit)) (now (via .exit)) (now (heap .exit)) (now (pos .exit)) (now (stack .exit)) r ⌝ }
+    requires { ⌜ Offering p y v (work (now keys) (now via) (now heap) (now pos) (now stack)) counts ⌝ }
+    ensures { λ r. ⌜
+        (let before = work (now (keys .entry)) (now (via .entry)) (now (heap .entry)) (now (pos .entry)) (now (stack .entry)) in
+        let after = work (now (keys .exit)) (now (via .exit)) (now (heap .exit)) (now (pos .exit)) (now (stack .exit)) in
+        Relaxes p y v mark before counts after r)
+        ⌝ }
 {
     let old = keys[y];
     if old <= v {

@@ -1,22 +1,36 @@
 // The steps from a pair, in ascending order: each is offered to the pair that it leads to.
-ghost use mathlib.Core.Path.{_≡_};
-ghost use Prim.Native.Nat.{ℕ, _+_, _≤_, _<_};
-ghost use Rattle.nodes.specs.Walks.{Lowers};
-ghost use Rattle.checks.specs.Ready.{graphIn};
-ghost use Rattle.guided_expand.specs.Opening.{Opening, Opened};
+ghost use Prim.Native.Nat.{_+_};
+ghost use lib.ListN.{getD};
+ghost use Rattle.chart.specs.Tables.{stepsIn};
+ghost use Rattle.checks.specs.Tables.{read};
+ghost use Rattle.checks.specs.Ready.{walk};
+ghost use Rattle.guided_expand.specs.Estimates.{estimates};
+ghost use Rattle.guided_expand.specs.Work.{work};
+ghost use Rattle.guided_expand.specs.Opening.{Opened, Opening, Leading};
 use crate::estimate::pair_estimate;
 use crate::relax::relax;
+use chart::COST;
+use chart::TO;
 use definitions::NONE;
 use definitions::Node;
-use definitions::Shape;
 use definitions::Stage;
 use definitions::Step;
+use diagram::HI;
+use diagram::LO;
+use diagram::STEP;
 use nodes::branch;
 use nodes::descend_to;
 use queue::Counts;
+use trace::packed;
 use trace::pair_at;
 
-// Offers step e, which leaves the pair of stage s and node n; m is that node lowered for e.
+// A pair of a stage and a node.
+pub struct Pair {
+    pub stage: Stage,
+    pub node: Node,
+}
+
+// Offers step e, which leaves a pair of node n and the cost `base` and leads to node t.
 fn offer<'a>(
     keys: &mut [u32],
     via: &mut [u32],
@@ -25,41 +39,42 @@ fn offer<'a>(
     stack: &mut [u32],
     p: usize,
     counts: Counts,
-    from: &'a [u16; 1024],
-    to: &'a [u16; 1024],
-    cost: &'a [u32; 1024],
+    steps: &'a [[u32; 1024]; 3],
     row: &'a [u32; 256],
-    step: &'a [u16; 512],
-    lo: &'a [u16; 512],
-    hi: &'a [u16; 512],
     by_stage: &'a [u32; 256],
     by_node: &'a [u32; 512],
-    z: Shape,
-    s: Stage,
     n: Node,
     base: u32,
     e: Step,
-    m: Node,
+    t: Node,
 ) -> Counts
-    requires { ⌜ Opening z (now from) (now to) (now cost) (now row) (now step) (now lo) (now hi) (now «by_stage») (now «by_node») (s .0) (n .0) base p (now keys) (now via) (now heap) (now pos) (now stack) counts ⌝ }
-    requires { ⌜ (e .0 < z .steps) × (graphIn z (now from) (now to) (now cost) .from (e .0) ≡ s .0) × Lowers (now step) (now lo) (e .0) (n .0) (m .0) ⌝ }
-    ensures { λ r. ⌜ Opened z (now (from .entry)) (now (to .entry)) (now (cost .entry)) (now (row .entry)) (now (step .entry)) (now (lo .entry)) (now (hi .entry)) (now («by_stage» .entry)) (now («by_node» .entry)) (s .0) (n .0) base p (e .0) (e .0 + 1) (now (keys .entry)) (now (via .entry)) (now (heap .entry)) (now (pos .entry)) (now (stack .entry)) counts (now (keys .exit)) (now (via .exit)) (now (heap .exit)) (now (pos .exit)) (now (stack .exit)) r ⌝ }
+    requires { ⌜
+        (let before = work (now keys) (now via) (now heap) (now pos) (now stack) in
+        let estimated = estimates (now «by_stage») (now «by_node») in
+        Leading (stepsIn (now steps)) (now row) estimated (n .0) base p (e .0) (t .0) before counts)
+        ⌝ }
+    ensures { λ r. ⌜
+        (let before = work (now (keys .entry)) (now (via .entry)) (now (heap .entry)) (now (pos .entry)) (now (stack .entry)) in
+        let after = work (now (keys .exit)) (now (via .exit)) (now (heap .exit)) (now (pos .exit)) (now (stack .exit)) in
+        let estimated = estimates (now («by_stage» .entry)) (now («by_node» .entry)) in
+        (x : Leading (stepsIn (now (steps .entry))) (now (row .entry)) estimated (n .0) base p (e .0) (t .0) before counts)
+        → Opened (x .by) (x .s) (n .0) base p (e .0) (e .0 + 1) before counts after r)
+        ⌝ }
 {
     let i = e.0 as usize;
-    let t = branch(step, hi, e, m);
-    let stage = to[i];
-    let rest = pair_estimate(by_stage, by_node, Stage(stage), Node(t.0));
+    let entered = steps[TO][i] as u16;
+    let stage = Stage(entered);
+    let rest = pair_estimate(by_stage, by_node, stage, t);
     if rest == NONE {
         return counts;
     }
-    let y = pair_at(row, Stage(stage), t);
-    let v = base + cost[i] + rest;
-    let mark = e.0 as u32 * 512 + n.0 as u32;
-    relax(keys, via, heap, pos, stack, p, counts, y, v, mark)
+    let y = pair_at(row, stage, t);
+    let v = base + steps[COST][i] + rest;
+    relax(keys, via, heap, pos, stack, p, counts, y, v, packed(e, n))
 }
 
-// Offers the steps from `first` to before `until`, which leave the pair of stage s and node n. The node is lowered from one step to the next; once it
-// is 0, no further step leads to a pair.
+// Offers the steps that leave the pair `at`, of the cost `base`. Its node is lowered from one step to the next; once it is
+// 0, no further step leads to a pair.
 pub fn settle<'a>(
     keys: &mut [u32],
     via: &mut [u32],
@@ -68,34 +83,44 @@ pub fn settle<'a>(
     stack: &mut [u32],
     p: usize,
     counts: Counts,
-    from: &'a [u16; 1024],
-    to: &'a [u16; 1024],
-    cost: &'a [u32; 1024],
+    steps: &'a [[u32; 1024]; 3],
+    first: &'a [u16; 257],
     row: &'a [u32; 256],
-    step: &'a [u16; 512],
-    lo: &'a [u16; 512],
-    hi: &'a [u16; 512],
+    inner: &'a [[u16; 512]; 3],
     by_stage: &'a [u32; 256],
     by_node: &'a [u32; 512],
-    z: Shape,
-    s: Stage,
-    n: Node,
+    at: Pair,
     base: u32,
-    first: u16,
-    until: u16,
 ) -> Counts
-    requires { ⌜ Opening z (now from) (now to) (now cost) (now row) (now step) (now lo) (now hi) (now «by_stage») (now «by_node») (s .0) (n .0) base p (now keys) (now via) (now heap) (now pos) (now stack) counts ⌝ }
-    requires { ⌜ (first ≤ until) × ((e : ℕ) → first ≤ e → e < until → (e < z .steps) × (graphIn z (now from) (now to) (now cost) .from e ≡ s .0)) ⌝ }
-    ensures { λ r. ⌜ Opened z (now (from .entry)) (now (to .entry)) (now (cost .entry)) (now (row .entry)) (now (step .entry)) (now (lo .entry)) (now (hi .entry)) (now («by_stage» .entry)) (now («by_node» .entry)) (s .0) (n .0) base p first until (now (keys .entry)) (now (via .entry)) (now (heap .entry)) (now (pos .entry)) (now (stack .entry)) counts (now (keys .exit)) (now (via .exit)) (now (heap .exit)) (now (pos .exit)) (now (stack .exit)) r ⌝ }
+    requires { ⌜
+        (let before = work (now keys) (now via) (now heap) (now pos) (now stack) in
+        let on = walk (read (now steps) (now inner)) (now first) (now row) in
+        let estimated = estimates (now «by_stage») (now «by_node») in
+        Opening on estimated (at .stage .0) (at .node .0) base p before counts)
+        ⌝ }
+    ensures { λ r. ⌜
+        (let before = work (now (keys .entry)) (now (via .entry)) (now (heap .entry)) (now (pos .entry)) (now (stack .entry)) in
+        let after = work (now (keys .exit)) (now (via .exit)) (now (heap .exit)) (now (pos .exit)) (now (stack .exit)) in
+        let on = walk (read (now (steps .entry)) (now (inner .entry))) (now (first .entry)) (now (row .entry)) in
+        let estimated = estimates (now («by_stage» .entry)) (now («by_node» .entry)) in
+        let s = at .stage .0 in
+        (x : Opening on estimated s (at .node .0) base p before counts)
+        → Opened (x .by) s (at .node .0) base p (getD (on .first) s 0) (getD (on .first) (s + 1) 0) before counts after r)
+        ⌝ }
 {
+    let s = at.stage.0 as usize;
+    let n = at.node;
+    let until = first[s + 1];
     let mut left = counts;
-    let mut m = n.0;
-    let mut e = first;
+    let mut m = n;
+    let mut e = first[s];
     while e < until {
-        m = descend_to(step, lo, Step(e), Node(m)).0;
-        if m == 0 {
+        let key = Step(e);
+        m = descend_to(&inner[STEP], &inner[LO], key, m);
+        if m.0 == 0 {
             return left;
         }
+        let t = branch(&inner[STEP], &inner[HI], key, m);
         left = offer(
             keys,
             via,
@@ -104,21 +129,14 @@ pub fn settle<'a>(
             stack,
             p,
             left,
-            from,
-            to,
-            cost,
+            steps,
             row,
-            step,
-            lo,
-            hi,
             by_stage,
             by_node,
-            z,
-            Stage(s.0),
-            Node(n.0),
+            n,
             base,
-            Step(e),
-            Node(m),
+            key,
+            t,
         );
         e += 1;
     }

@@ -1,106 +1,113 @@
--- What the loop of the search knows at its head, and how it begins.
+-- Before the first turn: the pair of start and root is opened.
 -- Assumes nothing.
 use Prim.Native.Nat.{ℕ, _+_, _*_, _≤_, _<_}
 use mathlib.Core.Path.{_≡_, refl, sym, _∙_, ap, subst}
+use mathlib.Core.Bool.{Bool}
 use mathlib.Core.List.{List}
 use native.Mathlib.Omega.{arith}
-use lib.ListN.{length, set, drop}
-use lib.Seq.{drop-set-lt}
 use native.Mathlib.Nat.{mul-le-mul-right}
-use Rattle.queue.specs.declared.Counts.{Counts}
-use Rattle.queue.specs.Queue.{Contains, Queue, Empty, Inserted}
-use Rattle.queue.proofs.Facts.{queue-empty, contains-none}
+use lib.ListN.{length, getD, set, drop}
+use lib.Seq.{drop-set-lt}
+use Rattle.definitions.specs.Ways.{Graph}
+use Rattle.definitions.specs.Pairs.{Automaton}
+use Rattle.definitions.specs.declared.Shape.{Shape}
 use Rattle.theory.specs.Limits.{Sound}
 use Rattle.theory.specs.Basics.{either, same-or-not}
 use Rattle.theory.specs.Pairs.{pair-inside}
-use Rattle.definitions.specs.declared.Shape.{Shape}
+use Rattle.theory.specs.Product.{startPair}
+use Rattle.queue.specs.declared.Counts.{Counts}
+use Rattle.queue.specs.Queue.{state, Contains, Queue, Empty, Inserted}
+use Rattle.queue.proofs.Facts.{queue-empty, contains-none}
 use Rattle.checks.specs.Tables.{chartIn, diagramIn, Tables}
-use Rattle.checks.specs.Ready.{graphIn, automatonIn, width-is, sound-in, few-stages, few-nodes}
-use Rattle.guided_model.specs.Charts.{Running, NoneSettled, guide, running-start, running-empty}
-use Rattle.guided_expand.specs.Tables.{estimateIn, pairsIn}
-use Rattle.guided_loop.specs.Search.{Begun, Past}
+use Rattle.checks.specs.Ready.{Walk, graphIn, automatonIn, width-is, sound-in, few-stages, few-nodes, row-start}
+use Rattle.guided_model.specs.Charts.{Running, running-start}
+use Rattle.guided_expand.specs.Estimates.{Estimates}
+use Rattle.guided_expand.specs.Work.{Work, work, queueIn, marksIn, Past, past-same, past-more}
+use Rattle.guided_expand.specs.Guides.{Guides, pairsIn}
+use Rattle.guided_loop.specs.Search.{Start, Begun, Searched}
+use Rattle.guided_loop.specs.declared.turns.Ended.{Ended}
 
-pub record Turning (z : Shape) (from to cost step lo hi : List ℕ) (p : ℕ) (keys₀ via₀ heap₀ pos₀ stack₀ log₀ keys via heap pos stack log : List ℕ) (c : Counts) (count : ℕ) : Type 0 where
-  pub queue : Queue keys heap pos stack p c
-  pub running : Running (chartIn z from to cost) (diagramIn z step lo hi) (estimateIn z from to cost step lo hi) 0 keys via log₀ log (Contains heap pos stack c) count (c .floor)
-  pub past : Past p keys₀ via₀ heap₀ pos₀ stack₀ keys via heap pos stack
+module _ {z : Shape} {on : Walk} {t : Estimates} (by : Guides z on t) where
+  abbrev pub g : Graph
+  g = graphIn z (on .read)
 
--- of lengths and counts
-pub same-room : {p l l′ : ℕ} → p ≤ l → l′ ≡ l → p ≤ l′
-same-room h e = omega arith
+  abbrev pub a : Automaton
+  a = automatonIn z (on .read)
 
-pub none-left : {n : ℕ} → n ≤ 0 → n ≡ 0
-none-left h = omega arith
+  abbrev pub tables : Tables z (on .read)
+  tables = by .ready .tables
 
--- nothing was touched, and then nothing more
-pub past-more : {p : ℕ} {keys via heap pos stack keys′ via′ heap′ pos′ stack′ keys″ via″ heap″ pos″ stack″ : List ℕ}
-    → Past p keys via heap pos stack keys′ via′ heap′ pos′ stack′ → Past p keys′ via′ heap′ pos′ stack′ keys″ via″ heap″ pos″ stack″
-    → Past p keys via heap pos stack keys″ via″ heap″ pos″ stack″
-past-more x y = record {
-  keys-past = y .keys-past ∙ x .keys-past;
-  via-past = y .via-past ∙ x .via-past;
-  heap-past = y .heap-past ∙ x .heap-past;
-  pos-past = y .pos-past ∙ x .pos-past;
-  stack-past = y .stack-past ∙ x .stack-past;
-}
+  pub sound : Sound (length (chartIn z (on .read) .steps)) (diagramIn z (on .read))
+  sound = sound-in z (on .read) tables
 
-module _ {z : Shape} {from to cost step lo hi : List ℕ} (t : Tables z from to cost step lo hi) where
-  pub sound : Sound (length (chartIn z from to cost .steps)) (diagramIn z step lo hi)
-  sound = sound-in z from to cost step lo hi t
+  pub width : a .size ≡ z .nodes + 2
+  width = width-is z (on .read) tables
 
-  module _ {p : ℕ} (e : p ≡ pairsIn z) where
-    pub pairs-are : z .stages * automatonIn z from to cost step lo hi .size ≡ p
-    pairs-are = ap (λ (k : ℕ). z .stages * k) (width-is z from to cost step lo hi t) ∙ sym e
+  pub narrow : z .nodes + 2 ≤ 512
+  narrow = omega (arith, few-nodes z (on .read) tables)
 
-    pub few-pairs : p ≤ 131072
-    few-pairs =
-        let x = mul-le-mul-right (z .nodes + 2) (few-stages z from to cost step lo hi t) in
-        omega (arith, few-nodes z from to cost step lo hi t)
+  pub pairs-are : z .stages * a .size ≡ pairsIn z
+  pairs-are = ap (λ (k : ℕ). z .stages * k) width
 
-  module _ {p begin rest : ℕ} {keys via heap pos stack log : List ℕ} (b : Begun z from to cost step lo hi p begin rest keys via heap pos stack log) where
-    pub begin-inside : begin < p
-    begin-inside =
-        omega (arith, b .begins, pairs-are (b .pairs), pair-inside (graphIn z from to cost) (automatonIn z from to cost step lo hi) (z .start) (z .root) (t .valid .start-inside) (sound .root-inside))
+  pub few-pairs : pairsIn z ≤ 131072
+  few-pairs = let x = mul-le-mul-right (z .nodes + 2) (few-stages z (on .read) tables) in omega (arith, narrow)
 
-    module _ {c : Counts} (e : Empty c) where
-      pub begin-queue : Queue keys heap pos stack p c
-      begin-queue = queue-empty e (omega (arith, few-pairs (b .pairs))) (b .keys-fit) (b .heap-fits) (b .pos-fits) (b .stack-fits)
+  pub start-small : z .start .0 < 256
+  start-small = omega (arith, tables .valid .start-inside, few-stages z (on .read) tables)
 
-      pub begin-asks : Queue keys heap pos stack p c × ((begin < p) × (c .floor ≤ rest) × (Contains heap pos stack c begin → ⊥))
-      begin-asks = (begin-queue, (begin-inside, omega (arith, e .floor-zero), λ o. contains-none begin-queue (e .none-held) o))
+  -- the number that the code finds for the pair of start and root
+  pub begin-is : {begin : ℕ} → begin ≡ getD (on .row) (z .start .0) 0 + z .root .0 → begin ≡ startPair g a
+  begin-is e =
+      omega (arith, e, row-start z on (by .ready) (z .start .0) (tables .valid .start-inside), ap (λ (k : ℕ). z .start .0 * k) width)
 
-      module _ {keys′ heap′ pos′ stack′ : List ℕ} {c′ : Counts} (x : Inserted p c begin rest keys heap pos stack keys′ heap′ pos′ stack′ c′) where
-        abbrev Open : ℕ → Type 0
-        Open k = Contains heap′ pos′ stack′ c′ k
+module _ {z : Shape} {on : Walk} {t : Estimates} {yes-at : List Bool} {rest : ℕ} {x : Work} {log : List ℕ} (b : Start z on t yes-at rest x log)
+    {begin : ℕ} (e : begin ≡ getD (on .row) (z .start .0) 0 + z .root .0) {c : Counts} (no : Empty c) where
+  abbrev by : Guides z on t
+  by = b .prepared .by
 
-        only-begin : (k : ℕ) → Open k → k ≡ begin
-        only-begin k o = either (same-or-not k begin) (λ q. q) (λ q. absurd (contains-none begin-queue (e .none-held) (x .only k o q)))
+  begins : begin ≡ startPair (g by) (a by)
+  begins = begin-is by e
 
-        pub begin-turning : Turning z from to cost step lo hi p keys′ via heap′ pos′ stack′ log keys′ via heap′ pos′ stack′ log c′ 0
-        begin-turning = record {
-          queue = x .queue;
-          running = subst (λ (f : ℕ). Running (chartIn z from to cost) (diagramIn z step lo hi) (estimateIn z from to cost step lo hi) 0 keys′ via log log (Contains heap′ pos′ stack′ c′) 0 f)
-              (sym (x .same-floor ∙ e .floor-zero))
-              (running-start (chartIn z from to cost) (diagramIn z step lo hi) (estimateIn z from to cost step lo hi) (t .valid) sound (guide (chartIn z from to cost) (diagramIn z step lo hi) (t .valid) (t .small) sound) keys keys′ via log (Contains heap′ pos′ stack′ c′) rest (b .has) (b .clear)
-              (omega (arith, b .begins, begin-inside, b .keys-fit))
-              (x .stored ∙ ap (λ (k : ℕ). set keys k rest) (b .begins))
-              (subst Open (b .begins) (x .here)) (λ k o. only-begin k o ∙ b .begins) (omega (arith, pairs-are (b .pairs), b .log-fits)));
-          past = record { keys-past = refl; via-past = refl; heap-past = refl; pos-past = refl; stack-past = refl };
-        }
+  begin-inside : begin < pairsIn z
+  begin-inside =
+      omega (arith, begins, pairs-are by, pair-inside (g by) (a by) (z .start .0) (z .root .0) (tables by .valid .start-inside) (sound by .root-inside))
 
-        pub begin-past : Past p keys via heap pos stack keys′ via heap′ pos′ stack′
-        begin-past = record {
-          keys-past = ap (drop p) (x .stored) ∙ drop-set-lt p keys begin rest begin-inside;
-          via-past = refl;
-          heap-past = x .heap-past;
-          pos-past = x .pos-past;
-          stack-past = x .stack-past;
-        }
+  begin-queue : Queue (pairsIn z) (queueIn x c)
+  begin-queue = queue-empty no (omega (arith, few-pairs by)) (b .space .keys-fit) (b .space .heap-fits) (b .space .pos-fits) (b .space .stack-fits)
 
-  -- nothing is open any more
-  pub turning-empty : {p : ℕ} {keys₀ via₀ heap₀ pos₀ stack₀ log₀ keys via heap pos stack log : List ℕ} {c : Counts} {count : ℕ}
-      → Turning z from to cost step lo hi p keys₀ via₀ heap₀ pos₀ stack₀ log₀ keys via heap pos stack log c count → c .held ≡ 0
-      → NoneSettled (chartIn z from to cost) (diagramIn z step lo hi) (estimateIn z from to cost step lo hi) 0 count log₀ log
-  turning-empty {p} {keys₀} {via₀} {heap₀} {pos₀} {stack₀} {log₀} {keys} {via} {heap} {pos} {stack} {log} {c} {count} w e =
-      running-empty (chartIn z from to cost) (diagramIn z step lo hi) (estimateIn z from to cost step lo hi) (t .valid) sound (guide (chartIn z from to cost) (diagramIn z step lo hi) (t .valid) (t .small) sound) keys via log₀ log (Contains heap pos stack c) count (c .floor) (w .running)
-      (λ k o. contains-none (w .queue) e o)
+  pub begin-asks : Queue (pairsIn z) (queueIn x c) × ((begin < pairsIn z) × (c .floor ≤ rest) × (Contains (queueIn x c) begin → ⊥))
+  begin-asks = (begin-queue, (begin-inside, omega (arith, no .floor-zero), λ o. contains-none begin-queue (no .none-held) o))
+
+  module _ {keys′ heap′ pos′ stack′ : List ℕ} {c′ : Counts} (i : Inserted (pairsIn z) begin rest (queueIn x c) (state keys′ heap′ pos′ stack′ c′)) where
+    abbrev x′ : Work
+    x′ = work keys′ (x .via) heap′ pos′ stack′
+
+    only-begin : (k : ℕ) → Contains (queueIn x′ c′) k → k ≡ begin
+    only-begin k o = either (same-or-not k begin) (λ q. q) (λ q. absurd (contains-none begin-queue (no .none-held) (i .only k o q)))
+
+    pub begin-running : Running (chartIn z (on .read)) (diagramIn z (on .read)) (by .h) (marksIn x′ c′) log log 0 (c′ .floor)
+    begin-running =
+        subst (λ (f : ℕ). Running (chartIn z (on .read)) (diagramIn z (on .read)) (by .h) (marksIn x′ c′) log log 0 f) (sym (i .same-floor ∙ no .floor-zero))
+        (running-start (chartIn z (on .read)) (diagramIn z (on .read)) (sound by) (by .guide) (x .keys) log (marksIn x′ c′) rest (b .has) (b .clear)
+        (omega (arith, begins, begin-inside, b .space .keys-fit))
+        (i .stored ∙ ap (λ (k : ℕ). set (x .keys) k rest) begins)
+        (subst (Contains (queueIn x′ c′)) begins (i .here)) (λ k o. only-begin k o ∙ begins) (omega (arith, pairs-are by, b .space .log-fits)))
+
+    -- the loop may begin
+    abbrev pub begin-begun : Begun z on t yes-at x′ c′ log
+    begin-begun = record {
+      prepared = b .prepared;
+      turning = record { queue = i .queue; fits = b .space .via-fits; running = begin-running; past = past-same };
+    }
+
+    begin-past : Past (pairsIn z) x x′
+    begin-past = record {
+      keys-past = ap (drop (pairsIn z)) (i .stored) ∙ drop-set-lt (pairsIn z) (x .keys) begin rest begin-inside;
+      via-past = refl;
+      heap-past = i .past .heap-past;
+      pos-past = i .past .pos-past;
+      stack-past = i .past .stack-past;
+    }
+
+    pub begin-searched : {x″ : Work} {log″ : List ℕ} {r : Ended} → Searched (b .prepared .by) x′ log x″ log″ r → Searched (b .prepared .by) x log x″ log″ r
+    begin-searched s = record { goal = s .goal; no-goal = s .no-goal; past = past-more begin-past (s .past) }

@@ -1,6 +1,6 @@
 -- The place of an opened pair and the goal test, on each way through the code.
 -- Assumes nothing.
-use Prim.Native.Nat.{ℕ, _+_, _/_, _≤_, _<_}
+use Prim.Native.Nat.{ℕ, _+_, _≤_, _<_}
 use mathlib.Core.Path.{_≡_, sym, _∙_, ap, subst}
 use mathlib.Core.Bool.{Bool, false, _&&_}
 use mathlib.Core.List.{List}
@@ -8,6 +8,7 @@ use lib.Dec.{eqb}
 use lib.ListN.{getD}
 use borrow.Author.Tests.{eq-eqb, ne-eqb}
 use Rattle.theory.specs.Basics.{pick-true, pick-false}
+use Rattle.trace.specs.Trails.{stepIn}
 use Rattle.guided_loop.specs.Places.{stageAt, Placed}
 
 module _ (via to : List ℕ) (begin start x : ℕ) where
@@ -15,7 +16,7 @@ module _ (via to : List ℕ) (begin start x : ℕ) where
   unfolding stageAt
   at-begin q = pick-true _ _ _ (eq-eqb x begin q)
 
-  pub at-step : (x ≡ begin → ⊥) → stageAt via to begin start x ≡ getD to (getD via x 0 / 512) 0
+  pub at-step : (x ≡ begin → ⊥) → stageAt via to begin start x ≡ getD to (stepIn (getD via x 0)) 0
   unfolding stageAt
   at-step q = pick-false _ _ _ (ne-eqb x begin q)
 
@@ -26,10 +27,10 @@ module _ {via to row : List ℕ} {begin start x : ℕ} (p : Placed via to row be
   pub placed-begin : x ≡ begin → InRow start
   placed-begin q = subst InRow (at-begin via to begin start x q) (p .stage, p .from-row, p .in-row)
 
-  pub placed-step : (e : ℕ) → (x ≡ begin → ⊥) → e ≡ getD via x 0 / 512 → InRow (getD to e 0)
+  pub placed-step : (e : ℕ) → (x ≡ begin → ⊥) → e ≡ stepIn (getD via x 0) → InRow (getD to e 0)
   placed-step e q w = subst InRow (at-step via to begin start x q ∙ ap (λ (k : ℕ). getD to k 0) (sym w)) (p .stage, p .from-row, p .in-row)
 
-  pub placed-stage : (e : ℕ) → (x ≡ begin → ⊥) → e ≡ getD via x 0 / 512 → getD to e 0 ≡ stageAt via to begin start x
+  pub placed-stage : (e : ℕ) → (x ≡ begin → ⊥) → e ≡ stepIn (getD via x 0) → getD to e 0 ≡ stageAt via to begin start x
   placed-stage e q w = ap (λ (k : ℕ). getD to k 0) w ∙ sym (at-step via to begin start x q)
 
 -- the goal test

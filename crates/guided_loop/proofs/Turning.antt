@@ -1,6 +1,6 @@
--- One turn of the search: the pair x is taken, written to the log, and settled.
+-- One turn of the search: the pair y is taken, written to the log, and settled.
 -- Assumes nothing.
-use Prim.Native.Nat.{ℕ, _+_, _-_, _*_, _/_, _≤_, _<_}
+use Prim.Native.Nat.{ℕ, _+_, _-_, _*_, _≤_, _<_}
 use mathlib.Core.Path.{_≡_, refl, sym, _∙_, ap, ap₂, subst, subst₂}
 use mathlib.Core.Bool.{Bool, true, false, _&&_}
 use mathlib.Core.List.{List}
@@ -8,203 +8,198 @@ use native.Mathlib.Omega.{arith}
 use lib.Dec.{eqb}
 use lib.ListN.{length, getD, set}
 use borrow.Author.Tests.{eqb-true, eqb-false}
-use Rattle.queue.specs.declared.Counts.{Counts}
-use Rattle.queue.specs.Queue.{Contains, Taken}
 use Rattle.definitions.specs.Charts.{Chart}
 use Rattle.definitions.specs.Diagrams.{Diagram}
-use Rattle.definitions.specs.Ways.{Graph}
-use Rattle.definitions.specs.Pairs.{Automaton, Estimate}
+use Rattle.definitions.specs.Pairs.{Estimate}
 use Rattle.definitions.specs.Promises.{goalAt}
-use Rattle.theory.specs.Basics.{either, same-or-not, both, true-not-false}
-use Rattle.theory.specs.Pairs.{Lawful}
-use Rattle.theory.specs.Product.{startPair}
 use Rattle.definitions.specs.declared.Shape.{Shape}
+use Rattle.theory.specs.Basics.{either, same-or-not, both, true-not-false}
+use Rattle.theory.specs.Product.{startPair}
+use Rattle.trace.specs.Trails.{stepIn}
+use Rattle.queue.specs.declared.Counts.{Counts}
+use Rattle.queue.specs.Queue.{state, Contains, Taken}
+use Rattle.queue.proofs.Facts.{contains-none}
 use Rattle.checks.specs.Tables.{chartIn, diagramIn}
-use Rattle.checks.specs.Ready.{graphIn, automatonIn, count-is, width-is, lawful-in, few-stages, few-nodes, from-at, to-at, first-leave, first-all, first-order, row-start}
-use Rattle.guided_model.specs.State.{Guide, costSoFar}
+use Rattle.checks.specs.Ready.{Walk, count-is, few-stages, from-at, to-at, first-all, row-start}
+use Rattle.guided_model.specs.State.{Smallest, Without, costSoFar}
 use Rattle.guided_model.specs.Moves.{Frontier}
 use Rattle.guided_model.specs.Chosen.{chosen-frontier}
 use Rattle.guided_model.specs.Settling.{Located, Settling, located-start, located-via, chosen-settling, no-goal-stage, no-goal-node}
-use Rattle.guided_model.specs.Charts.{Running, GoalSettled, guide, running-room, running-turn, running-goal}
-use Rattle.guided_expand.specs.Estimates.{PairEstimate}
-use Rattle.guided_expand.specs.Tables.{estimateIn, pairsIn}
-use Rattle.guided_expand.specs.Opening.{Opening, Opened}
+use Rattle.guided_model.specs.Charts.{Running, running-room, running-turn, running-goal, running-empty}
+use Rattle.guided_expand.specs.Estimates.{Estimates, paired}
+use Rattle.guided_expand.specs.Work.{Work, work, queueIn, marksIn, Past, past-more}
+use Rattle.guided_expand.specs.Guides.{Guides, pairsIn}
+use Rattle.guided_expand.specs.declared.steps.Pair.{Pair}
+use Rattle.guided_expand.specs.Opening.{Opens, Opened, Opening}
 use Rattle.guided_loop.specs.Places.{stageAt, Placed}
-use Rattle.guided_loop.specs.Search.{Prepared, Past}
+use Rattle.guided_loop.specs.Search.{Prepared, Turning, Searched}
+use Rattle.guided_loop.specs.declared.turns.Ended.{Ended}
 use Rattle.guided_loop.proofs.Placing.{at-begin, at-step}
-use Rattle.guided_loop.proofs.Beginning.{Turning, past-more, sound, pairs-are, few-pairs}
+use Rattle.guided_loop.proofs.Beginning.{g, a, tables, sound, width, narrow, pairs-are, few-pairs}
 
-module _ {z : Shape} {from to cost first row step lo hi byStage byNode : List ℕ} {yes-at : List Bool} (t : Prepared z from to cost first row step lo hi byStage byNode yes-at) where
-  abbrev g : Graph
-  g = graphIn z from to cost
-
-  abbrev a : Automaton
-  a = automatonIn z from to cost step lo hi
+module _ {z : Shape} {on : Walk} {t : Estimates} {yes-at : List Bool} (prepared : Prepared z on t yes-at)
+    {x₀ : Work} {log₀ : List ℕ} {x : Work} {log : List ℕ} {c : Counts} {count : ℕ} (w : Turning (prepared .by) x₀ log₀ x log c count) where
+  abbrev by : Guides z on t
+  by = prepared .by
 
   abbrev h : Estimate
-  h = estimateIn z from to cost step lo hi
+  h = by .h
 
   abbrev C : Chart
-  C = chartIn z from to cost
+  C = chartIn z (on .read)
 
   abbrev D : Diagram
-  D = diagramIn z step lo hi
+  D = diagramIn z (on .read)
 
-  laws : Lawful g a
-  laws = lawful-in z from to cost step lo hi (t .ready .tables)
+  -- nothing is open any more
+  pub turn-none : {r : Ended} → c .held ≤ 0 → r .found ≡ false → r .count ≡ count → Searched by x₀ log₀ x log r
+  turn-none {r} e f k = record {
+    goal = λ q. absurd (true-not-false (sym q ∙ f));
+    no-goal = λ q. rw k (running-empty C D (sound by) (by .guide) (w .running) (λ i o. contains-none (w .queue) (omega arith) o));
+    past = w .past;
+  }
 
-  guided-by : Guide g a h
-  guided-by = guide C D (t .ready .tables .valid) (t .ready .tables .small) (sound (t .ready .tables))
+  module _ {begin y : ℕ} {heap′ pos′ : List ℕ} {c′ : Counts} (eb : begin ≡ startPair (g by) (a by))
+      (k : Taken (pairsIn z) y (queueIn x c) (state (x .keys) heap′ pos′ (x .stack) c′)) where
+    abbrev x′ : Work
+    x′ = work (x .keys) (x .via) heap′ pos′ (x .stack)
 
-  width : a .size ≡ z .nodes + 2
-  width = width-is z from to cost step lo hi (t .ready .tables)
+    smallest : Smallest (marksIn x c) y
+    smallest = record { is-open = k .was; least = k .least }
 
-  narrow : a .size ≤ 512
-  narrow = omega (arith, width, few-nodes z from to cost step lo hi (t .ready .tables))
+    others : Without (marksIn x c) y (Contains (queueIn x′ c′))
+    others = record { kept = k .kept; only = k .only; gone = k .gone }
 
-  module _ {p begin : ℕ} {keys₀ via₀ heap₀ pos₀ stack₀ log₀ keys via heap pos stack log : List ℕ} {c : Counts} {count x : ℕ} {heap′ pos′ : List ℕ} {c′ : Counts}
-      (w : Turning z from to cost step lo hi p keys₀ via₀ heap₀ pos₀ stack₀ log₀ keys via heap pos stack log c count) (k : Taken p c x keys heap pos stack heap′ pos′ c′)
-      (ep : p ≡ pairsIn z) (eb : begin ≡ startPair g a) where
     -- there is room for it in the log, and its number is small
-    pub turn-room : count < p
-    turn-room =
-        omega (
-          arith,
-          running-room C D h (t .ready .tables .valid) (sound (t .ready .tables)) (guide C D (t .ready .tables .valid) (t .ready .tables .small) (sound (t .ready .tables))) keys via log₀ log (Contains heap pos stack c) count (c .floor) (w .running) x (k .was) (k .least),
-          pairs-are (t .ready .tables) ep,
-        )
-
-    pub turn-next : count + 1 ≤ p
-    turn-next = omega (arith, turn-room)
+    pub turn-room : count < pairsIn z
+    turn-room = omega (arith, running-room C D (sound by) (by .guide) (w .running) smallest, pairs-are by)
 
     pub turn-fits : count < length log
-    turn-fits = omega (arith, turn-room, w .running .fits, pairs-are (t .ready .tables) ep)
+    turn-fits = omega (arith, turn-room, w .running .fits, pairs-are by)
 
-    pub turn-small : x < 131072
-    turn-small = omega (arith, k .pair, few-pairs (t .ready .tables) ep)
+    pub turn-small : (y < 131072) × (count < 131072)
+    turn-small = (omega (arith, k .pair, few-pairs by), omega (arith, turn-room, few-pairs by))
 
     -- where it stands
     abbrev stage : ℕ
-    stage = stageAt via to begin (z .start) x
+    stage = stageAt (x .via) (on .read .steps .to) begin (z .start .0) y
 
-    located-at : (stage * a .size ≤ x) × Located g a x stage (x - stage * a .size)
-    located-at = either (same-or-not x begin) (λ q. by-start (q ∙ eb) (sym (at-begin via to begin (z .start) x q))) (λ q. by-step q)
-      where
-        At : ℕ → Type 0
-        At s = (s * a .size ≤ x) × Located g a x s (x - s * a .size)
+    abbrev At : ℕ → Type 0
+    At s = (s * a by .size ≤ y) × Located (g by) (a by) y s (y - s * a by .size)
 
-        by-start : x ≡ startPair g a → z .start ≡ stage → At stage
-        by-start q e =
-            subst At e
-            (located-start g a h (t .ready .tables .valid) laws guided-by keys via _ (Contains heap pos stack c) (c .floor) (w .running .searching) x (k .was) (k .least) q)
+    by-step : (y ≡ begin → ⊥) → (stepIn (getD (x .via) y 0) < 1024) × At stage
+    by-step q =
+        let e = stepIn (getD (x .via) y 0) in
+        let v = located-via (by .guide) (w .running .searching) smallest (omega (arith, width by, narrow by)) (λ r. q (r ∙ sym eb)) in
+        let to-is : getD (on .read .steps .to) e 0 ≡ g by .to e = to-at z (on .read) (tables by) e (omega (arith, v .0, count-is z (on .read) (tables by))) in
+        (omega (arith, v .0, tables by .valid .few), subst At (sym to-is ∙ sym (at-step (x .via) (on .read .steps .to) begin (z .start .0) y q)) (v .1, v .2))
 
-        by-step : (x ≡ begin → ⊥) → At stage
-        by-step q =
-            let y = located-via g a h (t .ready .tables .valid) laws guided-by keys via _ (Contains heap pos stack c) (c .floor) (w .running .searching) x (k .was) (k .least) narrow (λ r. q (r ∙ sym eb)) in
-            let e : getD to (getD via x 0 / 512) 0 ≡ g .to (getD via x 0 / 512)
-            = to-at z from to cost step lo hi (t .ready .tables) (getD via x 0 / 512) (omega (arith, y .0, count-is z from to cost step lo hi (t .ready .tables))) in
-            subst At (sym e ∙ sym (at-step via to begin (z .start) x q)) (y .1, y .2)
+    located-at : At stage
+    located-at =
+        either (same-or-not y begin)
+        (λ q. subst At (sym (at-begin (x .via) (on .read .steps .to) begin (z .start .0) y q)) (located-start (by .guide) (w .running .searching) smallest (q ∙ eb)))
+        (λ q. by-step q .1)
 
-    step-known : (x ≡ begin → ⊥) → getD via x 0 / 512 < 1024
-    step-known q =
-        let y = located-via g a h (t .ready .tables .valid) laws guided-by keys via _ (Contains heap pos stack c) (c .floor) (w .running .searching) x (k .was) (k .least) narrow (λ r. q (r ∙ sym eb)) in
-        omega (arith, y .0, t .ready .tables .valid .few)
+    row-at : getD (on .row) stage 0 ≡ stage * a by .size
+    row-at = row-start z on (by .ready) stage (located-at .1 .stage) ∙ ap (λ (i : ℕ). stage * i) (sym (width by))
 
-    row-at : getD row stage 0 ≡ stage * a .size
-    row-at = row-start z from to cost first row step lo hi (t .ready) stage (located-at .1 .stage) ∙ ap (λ (i : ℕ). stage * i) (sym width)
-
-    pub turn-placed : p ≤ length via → Placed via to row begin (z .start) x
-    turn-placed f = record {
-      fits = omega (arith, k .pair);
-      by-step = step-known;
-      stage = omega (arith, located-at .1 .stage, few-stages z from to cost step lo hi (t .ready .tables));
+    pub turn-placed : Placed (x .via) (on .read .steps .to) (on .row) begin (z .start .0) y
+    turn-placed = record {
+      fits = omega (arith, k .pair, w .fits);
+      by-step = λ q. by-step q .0;
+      stage = omega (arith, located-at .1 .stage, few-stages z (on .read) (tables by));
       from-row = omega (arith, row-at, located-at .0);
-      in-row = omega (arith, row-at, located-at .0, located-at .1 .node, narrow);
+      in-row = omega (arith, row-at, located-at .0, located-at .1 .node, width by, narrow by);
     }
 
-    module _ (s n : ℕ) (es : s ≡ stage) (en : getD row s 0 + n ≡ x) where
-      pub turn-located : Located g a x s n
+    -- the code finds its stage s and its node n
+    module _ (pair : Pair) (is : (pair .stage .0 ≡ stage) × (getD (on .row) (pair .stage .0) 0 + pair .node .0 ≡ y)) where
+      abbrev s : ℕ
+      s = pair .stage .0
+
+      abbrev n : ℕ
+      n = pair .node .0
+
+      turn-located : Located (g by) (a by) y s n
       turn-located =
-          let r : getD row s 0 ≡ stage * a .size = ap (λ (i : ℕ). getD row i 0) es ∙ row-at in
-          let e : x - stage * a .size ≡ n = omega arith in
-          subst₂ (λ (i j : ℕ). Located g a x i j) (sym es) e (located-at .1)
+          let r : getD (on .row) s 0 ≡ stage * a by .size = ap (λ (i : ℕ). getD (on .row) i 0) (is .0) ∙ row-at in
+          let e : y - stage * a by .size ≡ n = omega (arith, is .1) in
+          subst₂ (λ (i j : ℕ). Located (g by) (a by) y i j) (sym (is .0)) e (located-at .1)
 
-      pub turn-stage : s < 256
-      turn-stage = omega (arith, turn-located .stage, few-stages z from to cost step lo hi (t .ready .tables))
+      pub turn-inside : (s < 256) × (n < 512)
+      turn-inside = (
+        omega (arith, turn-located .stage, few-stages z (on .read) (tables by)),
+        omega (arith, turn-located .node, width by, narrow by),
+      )
 
-      pub turn-node : n < 512
-      turn-node = omega (arith, turn-located .node, narrow)
-
-      module _ {r : ℕ} (er : PairEstimate byStage byNode s n r) where
-        settles : (r ≤ getD keys x 0) × (getD keys x 0 - r ≡ costSoFar g a h keys x) × Settling g a h s n (getD keys x 0 - r) (getD keys x 0)
+      module _ {r : ℕ} (er : r ≡ paired t s n) where
+        settles : (r ≤ getD (x .keys) y 0) × (getD (x .keys) y 0 - r ≡ costSoFar (g by) (a by) h (x .keys) y)
+            × Settling (g by) (a by) h s n (getD (x .keys) y 0 - r) (getD (x .keys) y 0)
         settles =
-            chosen-settling g a h (t .ready .tables .valid) laws guided-by keys via _ (Contains heap pos stack c) (c .floor) (w .running .searching) x (k .was) (k .least)
-            s n r turn-located (er C D (t .estimates) (turn-located .node))
+            chosen-settling (by .guide) (w .running .searching) smallest s n r turn-located
+            (er ∙ by .holds s n (turn-inside .0) (omega (arith, turn-located .node, width by)))
 
         pub turn-estimate : r ≤ c′ .floor
         turn-estimate = omega (arith, settles .0, k .new-floor)
 
-        module _ {yes-goal : Bool} (eg : yes-goal ≡ (eqb s (z .end) && getD yes-at n false)) where
-          -- a goal pair
-          pub turn-goal : yes-goal ≡ true → GoalSettled C D h 0 via from n (c′ .floor - r) (count + 1) log₀ (set log count x)
-          turn-goal q =
-              let y = both (eqb s (z .end)) (getD yes-at n false) (sym eg ∙ q) in
-              running-goal C D h (t .ready .tables .valid) (sound (t .ready .tables)) (guide C D (t .ready .tables .valid) (t .ready .tables .small) (sound (t .ready .tables))) keys via log₀ log (Contains heap pos stack c) count (c .floor) (w .running) x (k .was) (k .least)
-              s n (c′ .floor - r) from
-              (λ e i. from-at z from to cost step lo hi (t .ready .tables) e (omega (arith, count-is z from to cost step lo hi (t .ready .tables))))
-              turn-located (eqb-true s (z .end) (y .0)) (sym (t .accepts n (turn-located .node)) ∙ y .1)
-              (ap (λ (i : ℕ). i - r) (k .new-floor) ∙ settles .1)
+        base-is : c′ .floor - r ≡ costSoFar (g by) (a by) h (x .keys) y
+        base-is = ap (λ (i : ℕ). i - r) (k .new-floor) ∙ settles .1
 
-          no-goal : yes-goal ≡ false → goalAt g a h x ≡ false
-          no-goal q = go (eqb s (z .end)) refl (getD yes-at n false) refl
+        -- the steps from it can be offered
+        pub turn-opens : Opens (prepared .by) s n (c′ .floor - r) (pairsIn z) x′ c′
+        turn-opens = record {
+          pairs = refl;
+          fits = w .fits;
+          queue = k .queue;
+          frontier = subst (λ (i : ℕ). Frontier (g by) (a by) h (marksIn x′ c′) i) (sym (k .new-floor))
+              (chosen-frontier (by .guide) (w .running .searching) smallest others);
+          settling = subst (λ (i : ℕ). Settling (g by) (a by) h s n (i - r) i) (sym (k .new-floor)) (settles .2);
+        }
+
+        abbrev pub turn-asks : Opening on t s n (c′ .floor - r) (pairsIn z) x′ c′
+        turn-asks = record { z = z; by = prepared .by; opens = turn-opens }
+
+        module _ {goal-at : Bool} (eg : goal-at ≡ (eqb s (z .end .0) && getD yes-at n false)) where
+          -- a goal pair
+          pub turn-goal : goal-at ≡ true → {e : Ended} → e .node .0 ≡ n → e .cost ≡ c′ .floor - r → e .count ≡ count + 1 → e .found ≡ true
+              → Searched by x₀ log₀ x′ (set log count y) e
+          turn-goal q {e} nn ec ek ef =
+              let v = both (eqb s (z .end .0)) (getD yes-at n false) (sym eg ∙ q) in
+              record {
+                goal = λ i. rw (nn, ec, ek)
+                    (running-goal C D (sound by) (by .guide) (w .running) smallest s n (c′ .floor - r) (on .read .steps .from)
+                    (λ f j. from-at z (on .read) (tables by) f (omega (arith, count-is z (on .read) (tables by))))
+                    turn-located (eqb-true s (z .end .0) (v .0)) (sym (prepared .accepts n (turn-located .node)) ∙ v .1) base-is);
+                no-goal = λ i. absurd (true-not-false (sym ef ∙ i));
+                past = past-more (w .past) taken-past;
+              }
             where
-              go : (i : Bool) → eqb s (z .end) ≡ i → (j : Bool) → getD yes-at n false ≡ j → goalAt g a h x ≡ false
-              go false d j f = no-goal-stage g a h x s n turn-located (λ m. eqb-false s (z .end) d m)
-              go true d false f = no-goal-node g a h x s n turn-located (sym (t .accepts n (turn-located .node)) ∙ f)
+              taken-past : Past (pairsIn z) x x′
+              taken-past = record { keys-past = refl; via-past = refl; heap-past = k .past .heap-past; pos-past = k .past .pos-past; stack-past = refl }
+
+          no-goal : goal-at ≡ false → goalAt (g by) (a by) h y ≡ false
+          no-goal q = go (eqb s (z .end .0)) refl (getD yes-at n false) refl
+            where
+              go : (i : Bool) → eqb s (z .end .0) ≡ i → (j : Bool) → getD yes-at n false ≡ j → goalAt (g by) (a by) h y ≡ false
+              go false d j f = no-goal-stage (g by) (a by) h y s n turn-located (λ m. eqb-false s (z .end .0) d m)
+              go true d false f = no-goal-node (g by) (a by) h y s n turn-located (sym (prepared .accepts n (turn-located .node)) ∙ f)
               go true d true f = let b : true ≡ false = sym (ap₂ (λ (i j : Bool). i && j) d f) ∙ sym eg ∙ q in absurd (true-not-false b)
 
-          -- no goal pair: the steps from it are offered
-          pub turn-asks : p ≤ length via → Opening z from to cost row step lo hi byStage byNode s n (c′ .floor - r) p keys via heap′ pos′ stack c′
-              × ((getD first s 0 ≤ getD first (s + 1) 0)
-              × ((e : ℕ) → getD first s 0 ≤ e → e < getD first (s + 1) 0 → (e < z .steps) × (g .from e ≡ s)))
-          turn-asks f = (
-            record {
-              guides = record { tables = t .ready .tables; rows = t .ready .rows; estimates = t .estimates };
-              pairs = ep;
-              fits = f;
-              queue = k .queue;
-              frontier = subst (λ (i : ℕ). Frontier g a h keys (Contains heap′ pos′ stack c′) i) (sym (k .new-floor))
-                  (chosen-frontier g a h (t .ready .tables .valid) laws guided-by keys via _ (Contains heap pos stack c) (c .floor) (w .running .searching) x (k .was) (k .least)
-                  (Contains heap′ pos′ stack c′) (k .kept) (k .only));
-              settling = subst (λ (i : ℕ). Settling g a h s n (i - r) i) (sym (k .new-floor)) (settles .2);
-            },
-            (
-              first-order z from to cost first row step lo hi (t .ready) s (turn-located .stage) .0,
-              λ e i j. first-leave z from to cost first row step lo hi (t .ready) s e (turn-located .stage) i j,
-            ),
-          )
-
-          pub turn-more : yes-goal ≡ false → {keys″ via″ heap″ pos″ stack″ : List ℕ} {c″ : Counts}
-              → Opened z from to cost row step lo hi byStage byNode s n (c′ .floor - r) p (getD first s 0) (getD first (s + 1) 0) keys via heap′ pos′ stack c′ keys″ via″ heap″ pos″ stack″ c″
-              → Turning z from to cost step lo hi p keys₀ via₀ heap₀ pos₀ stack₀ log₀ keys″ via″ heap″ pos″ stack″ (set log count x) c″ (count + 1)
-          turn-more q {keys″} {via″} {heap″} {pos″} {stack″} {c″} y = record {
-            queue = y .kept .queue;
-            running = subst (λ (f : ℕ). Running C D h 0 keys″ via″ log₀ (set log count x) (Contains heap″ pos″ stack″ c″) (count + 1) f)
-                (sym (y .kept .same-floor ∙ k .new-floor))
-                (running-turn C D h (t .ready .tables .valid) (sound (t .ready .tables)) (guide C D (t .ready .tables .valid) (t .ready .tables .small) (sound (t .ready .tables))) keys via log₀ log (Contains heap pos stack c) count (c .floor) (w .running) x (k .was) (k .least)
-                (Contains heap′ pos′ stack c′) (k .kept) (k .only) (k .gone) s n (c′ .floor - r) (getD first s 0) (getD first (s + 1) 0) turn-located
-                (ap (λ (i : ℕ). i - r) (k .new-floor) ∙ settles .1)
-                (λ e i f. first-all z from to cost first row step lo hi (t .ready) s e (turn-located .stage) i f)
-                keys″ via″ (Contains heap″ pos″ stack″ c″) (y .expanded) (no-goal q));
+          -- no goal pair: the steps from it were offered
+          pub turn-more : goal-at ≡ false → {x″ : Work} {c″ : Counts} → length (x″ .via) ≡ length (x .via)
+              → Opened (prepared .by) s n (c′ .floor - r) (pairsIn z) (getD (on .first) s 0) (getD (on .first) (s + 1) 0) x′ c′ x″ c″
+              → Turning (prepared .by) x₀ log₀ x″ (set log count y) c″ (count + 1)
+          turn-more q {x″} {c″} l o = record {
+            queue = o .kept .queue;
+            fits = omega (arith, w .fits);
+            running = subst (λ (f : ℕ). Running C D h (marksIn x″ c″) log₀ (set log count y) (count + 1) f) (sym (o .kept .same-floor ∙ k .new-floor))
+                (running-turn C D (sound by) (by .guide) (w .running) smallest others s n (c′ .floor - r) (getD (on .first) s 0) (getD (on .first) (s + 1) 0)
+                turn-located base-is (λ e i f. first-all z on (by .ready) s e (turn-located .stage) i f) (o .expanded) (no-goal q));
             past = past-more (w .past) (record {
-              keys-past = y .kept .keys-past;
-              via-past = y .kept .via-past;
-              heap-past = y .kept .heap-past ∙ k .heap-past;
-              pos-past = y .kept .pos-past ∙ k .pos-past;
-              stack-past = y .kept .stack-past;
+              keys-past = o .kept .past .keys-past;
+              via-past = o .kept .past .via-past;
+              heap-past = o .kept .past .heap-past ∙ k .past .heap-past;
+              pos-past = o .kept .past .pos-past ∙ k .past .pos-past;
+              stack-past = o .kept .past .stack-past;
             });
           }
-
-    -- after the taking alone
-    pub turn-past : Past p keys₀ via₀ heap₀ pos₀ stack₀ keys via heap′ pos′ stack
-    turn-past = past-more (w .past) (record { keys-past = refl; via-past = refl; heap-past = k .heap-past; pos-past = k .pos-past; stack-past = refl })

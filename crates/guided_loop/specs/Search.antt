@@ -1,51 +1,61 @@
--- What the search rests on, and what it leaves.
+-- What the search rests on, what holds at each turn, and what it leaves.
 -- Assumes nothing.
 use Prim.Native.Nat.{ℕ, _≤_, _<_}
 use mathlib.Core.Path.{_≡_}
 use mathlib.Core.Bool.{Bool, true, false}
 use mathlib.Core.List.{List}
 use mathlib.Core.Option.{some}
-use lib.ListN.{length, getD, drop}
+use lib.ListN.{length, getD}
 use Rattle.definitions.specs.Diagrams.{size}
 use Rattle.definitions.specs.declared.Shape.{Shape}
+use Rattle.queue.specs.declared.Counts.{Counts}
+use Rattle.queue.specs.Queue.{Queue}
 use Rattle.checks.specs.Tables.{chartIn, diagramIn}
-use Rattle.checks.specs.Ready.{Ready, graphIn, automatonIn}
-use Rattle.theory.specs.Product.{startPair}
-use Rattle.guided_model.specs.State.{unopened, Row}
-use Rattle.guided_model.specs.Charts.{GoalSettled, NoneSettled}
+use Rattle.checks.specs.Ready.{Walk, graphIn, automatonIn}
+use Rattle.guided_model.specs.State.{unopened, Openable}
+use Rattle.guided_model.specs.Charts.{Running, GoalSettled, NoneSettled}
 use Rattle.guided_expand.specs.Estimates.{Estimates}
-use Rattle.guided_expand.specs.Tables.{estimateIn, pairsIn}
+use Rattle.guided_expand.specs.Work.{Work, queueIn, marksIn, Past}
+use Rattle.guided_expand.specs.Guides.{Guides, pairsIn}
 use Rattle.guided_loop.specs.declared.turns.Ended.{Ended}
 
 -- all tables of the search
-pub record Prepared (z : Shape) (from to cost first row step lo hi byStage byNode : List ℕ) (yes-at : List Bool) : Type 0 where
-  pub ready : Ready z from to cost first row step lo hi
-  pub estimates : Estimates (chartIn z from to cost) (diagramIn z step lo hi) byStage byNode
-  pub accepts : (n : ℕ) → n < size (diagramIn z step lo hi) → getD yes-at n false ≡ automatonIn z from to cost step lo hi .accepts n
+pub record Prepared (z : Shape) (on : Walk) (t : Estimates) (yes-at : List Bool) : Type 0 where
+  pub by : Guides z on t
+  pub accepts : (n : ℕ) → n < size (diagramIn z (on .read)) → getD yes-at n false ≡ automatonIn z (on .read) .accepts n
 
--- the slices have room for p pairs, the rows from start to end are clear, and `begin` is the pair of start and root, whose estimate is `rest`
-pub record Begun (z : Shape) (from to cost step lo hi : List ℕ) (p begin rest : ℕ) (keys via heap pos stack log : List ℕ) : Type 0 where
-  pub pairs : p ≡ pairsIn z
-  pub keys-fit : p ≤ length keys
-  pub via-fits : p ≤ length via
-  pub heap-fits : p ≤ length heap
-  pub pos-fits : p ≤ length pos
-  pub stack-fits : p ≤ length stack
-  pub log-fits : p ≤ length log
-  pub begins : begin ≡ startPair (graphIn z from to cost) (automatonIn z from to cost step lo hi)
-  pub has : estimateIn z from to cost step lo hi (z .start) (z .root) ≡ some rest
-  pub clear : (k : ℕ) → Row (graphIn z from to cost) (automatonIn z from to cost step lo hi) k → getD keys k 0 ≡ unopened
+-- each slice has an entry for each pair
+pub record Space (z : Shape) (x : Work) (log : List ℕ) : Type 0 where
+  pub keys-fit : pairsIn z ≤ length (x .keys)
+  pub via-fits : pairsIn z ≤ length (x .via)
+  pub heap-fits : pairsIn z ≤ length (x .heap)
+  pub pos-fits : pairsIn z ≤ length (x .pos)
+  pub stack-fits : pairsIn z ≤ length (x .stack)
+  pub log-fits : pairsIn z ≤ length log
 
--- nothing from p on is touched
-pub record Past (p : ℕ) (keys via heap pos stack keys′ via′ heap′ pos′ stack′ : List ℕ) : Type 0 where
-  pub keys-past : drop p keys′ ≡ drop p keys
-  pub via-past : drop p via′ ≡ drop p via
-  pub heap-past : drop p heap′ ≡ drop p heap
-  pub pos-past : drop p pos′ ≡ drop p pos
-  pub stack-past : drop p stack′ ≡ drop p stack
+-- the pair of start and root has the estimate `rest`, and no pair that may be opened has a key
+pub record Start (z : Shape) (on : Walk) (t : Estimates) (yes-at : List Bool) (rest : ℕ) (x : Work) (log : List ℕ) : Type 0 where
+  pub prepared : Prepared z on t yes-at
+  pub space : Space z x log
+  pub has : prepared .by .h (z .start .0) (z .root .0) ≡ some rest
+  pub clear : (k : ℕ) → Openable (graphIn z (on .read)) (automatonIn z (on .read)) (prepared .by .h) k → getD (x .keys) k 0 ≡ unopened
 
-pub record Searched (z : Shape) (from to cost step lo hi : List ℕ) (p : ℕ)
-    (keys via heap pos stack log keys′ via′ heap′ pos′ stack′ log′ : List ℕ) (r : Ended) : Type 0 where
-  pub goal : r .found ≡ true → GoalSettled (chartIn z from to cost) (diagramIn z step lo hi) (estimateIn z from to cost step lo hi) 0 via′ from (r .node .0) (r .cost) (r .count) log log′
-  pub no-goal : r .found ≡ false → NoneSettled (chartIn z from to cost) (diagramIn z step lo hi) (estimateIn z from to cost step lo hi) 0 (r .count) log log′
-  pub past : Past p keys via heap pos stack keys′ via′ heap′ pos′ stack′
+module _ {z : Shape} {on : Walk} {t : Estimates} (by : Guides z on t) where
+  -- between two turns: from the slices x₀ and log₀ it came to x and log, in which `count` pairs are settled and those of the queue are open
+  pub record Turning (x₀ : Work) (log₀ : List ℕ) (x : Work) (log : List ℕ) (c : Counts) (count : ℕ) : Type 0 where
+    pub queue : Queue (pairsIn z) (queueIn x c)
+    pub fits : pairsIn z ≤ length (x .via)
+    pub running : Running (chartIn z (on .read)) (diagramIn z (on .read)) (by .h) (marksIn x c) log₀ log count (c .floor)
+    pub past : Past (pairsIn z) x₀ x
+
+  -- what the search leaves
+  pub record Searched (x : Work) (log : List ℕ) (x′ : Work) (log′ : List ℕ) (r : Ended) : Type 0 where
+    pub goal : r .found ≡ true → GoalSettled (chartIn z (on .read)) (diagramIn z (on .read)) (by .h) (by .guide .base)
+        (x′ .via) (on .read .steps .from) (r .node .0) (r .cost) (r .count) log log′
+    pub no-goal : r .found ≡ false → NoneSettled (chartIn z (on .read)) (diagramIn z (on .read)) (by .h) (by .guide .base) (r .count) log log′
+    pub past : Past (pairsIn z) x x′
+
+-- nothing is settled yet, and the pairs of the queue are open
+pub record Begun (z : Shape) (on : Walk) (t : Estimates) (yes-at : List Bool) (x : Work) (c : Counts) (log : List ℕ) : Type 0 where
+  pub prepared : Prepared z on t yes-at
+  pub turning : Turning (prepared .by) x log x log c 0

@@ -8,51 +8,52 @@ ghost use Rattle.guided_loop.specs.Places.{stageAt, Placed};
 use convert::wide;
 use definitions::Node;
 use definitions::Stage;
+use guided_expand::Pair;
+use trace::step_in;
 
-// The stage and the node of a pair.
-pub struct Place {
-    pub stage: Stage,
-    pub node: Node,
-}
-
-// The place of pair x in the row of stage s.
-fn place_in(row: &[u32; 256], s: Stage, x: usize) -> Place
+// The stage and the node of pair x, which stands in the row of stage s.
+fn pair_in(row: &[u32; 256], s: Stage, x: usize) -> Pair
     requires { ⌜ (s .0 < 256) × (getD (now row) (s .0) 0 ≤ x) × (x < getD (now row) (s .0) 0 + 512) ⌝ }
     ensures { λ r. ⌜ (r .stage .0 ≡ s .0) × (getD (now (row .entry)) (r .stage .0) 0 + r .node .0 ≡ x) ⌝ }
 {
     let first = wide(row[s.0 as usize]);
-    Place {
+    Pair {
         stage: s,
         node: Node((x - first) as u16),
     }
 }
 
-// The place of the opened pair x. Its stage is the one that the step in `via` enters, so no division by the size of a row is needed.
-pub fn place_of<'a>(
+// The stage and the node of the opened pair x. Its stage is the one that the step in `via` enters, so no division by the
+// size of a row is needed.
+pub fn pair_of<'a>(
     via: &'a [u32],
-    to: &'a [u16; 1024],
+    to: &'a [u32; 1024],
     row: &'a [u32; 256],
     begin: usize,
     start: Stage,
     x: usize,
-) -> Place
+) -> Pair
     requires { ⌜ Placed (now via) (now to) (now row) begin (start .0) x ⌝ }
-    ensures { λ r. ⌜ (r .stage .0 ≡ stageAt (now (via .entry)) (now (to .entry)) begin (start .0) x) × (getD (now (row .entry)) (r .stage .0) 0 + r .node .0 ≡ x) ⌝ }
+    ensures { λ r. ⌜
+        (r .stage .0 ≡ stageAt (now (via .entry)) (now (to .entry)) begin (start .0) x)
+        × (getD (now (row .entry)) (r .stage .0) 0 + r .node .0 ≡ x)
+        ⌝ }
 {
     if x == begin {
-        return place_in(row, start, x);
+        return pair_in(row, start, x);
     }
-    let e = wide(via[x] / 512);
-    place_in(row, Stage(to[e]), x)
+    let e = step_in(via[x]).0 as usize;
+    let entered = to[e] as u16;
+    pair_in(row, Stage(entered), x)
 }
 
 // Whether an opened pair is a goal pair: it is one of the end stage, and its node finishes at 1.
-pub fn is_goal(yes: &[bool; 512], end: Stage, stage: Stage, node: Node) -> bool
-    requires { ⌜ node .0 < 512 ⌝ }
-    ensures { λ r. ⌜ r ≡ eqb (stage .0) (end .0) && getD (now (yes .entry)) (node .0) false ⌝ }
+pub fn is_goal(yes: &[bool; 512], end: Stage, at: Pair) -> bool
+    requires { ⌜ at .node .0 < 512 ⌝ }
+    ensures { λ r. ⌜ r ≡ eqb (at .stage .0) (end .0) && getD (now (yes .entry)) (at .node .0) false ⌝ }
 {
-    if stage.0 == end.0 {
-        return yes[node.0 as usize];
+    if at.stage.0 == end.0 {
+        return yes[at.node.0 as usize];
     }
     false
 }

@@ -1,12 +1,18 @@
 // The search itself, over tables that are ready.
-ghost use Rattle.guided_loop.specs.Search.{Prepared, Begun, Searched};
+ghost use Rattle.checks.specs.Tables.{read};
+ghost use Rattle.checks.specs.Ready.{walk};
+ghost use Rattle.guided_expand.specs.Estimates.{estimates};
+ghost use Rattle.guided_expand.specs.Work.{work};
+ghost use Rattle.guided_loop.specs.Search.{Start, Begun, Searched};
 use crate::places::is_goal;
-use crate::places::place_of;
+use crate::places::pair_of;
+use chart::TO;
 use definitions::Node;
 use definitions::Shape;
-use definitions::Stage;
 use guided_expand::pair_estimate;
 use guided_expand::settle;
+use queue::Counts;
+use trace::pair_at;
 
 // Whether a goal pair was settled, its node and its cost; and how many pairs were settled.
 pub struct Ended {
@@ -16,52 +22,58 @@ pub struct Ended {
     pub count: usize,
 }
 
-// Settles pairs from `begin`, whose estimate is `rest`, and writes each to the log, until a goal pair is settled or none is open.
-pub fn search<'a>(
+// Settles open pairs in turn and writes each to the log, until a goal pair is settled or none is open.
+fn settle_open<'a>(
     keys: &mut [u32],
     via: &mut [u32],
     heap: &mut [u32],
     pos: &mut [u32],
     stack: &mut [u32],
     log: &mut [u32],
-    p: usize,
-    from: &'a [u16; 1024],
-    to: &'a [u16; 1024],
-    cost: &'a [u32; 1024],
+    steps: &'a [[u32; 1024]; 3],
     first: &'a [u16; 257],
     row: &'a [u32; 256],
-    step: &'a [u16; 512],
-    lo: &'a [u16; 512],
-    hi: &'a [u16; 512],
+    inner: &'a [[u16; 512]; 3],
     by_stage: &'a [u32; 256],
     by_node: &'a [u32; 512],
     yes: &'a [bool; 512],
     z: Shape,
-    begin: usize,
-    rest: u32,
+    opened: Counts,
 ) -> Ended
-    requires { ⌜ Prepared z (now from) (now to) (now cost) (now first) (now row) (now step) (now lo) (now hi) (now «by_stage») (now «by_node») (now yes) ⌝ }
-    requires { ⌜ Begun z (now from) (now to) (now cost) (now step) (now lo) (now hi) p begin rest (now keys) (now via) (now heap) (now pos) (now stack) (now log) ⌝ }
-    ensures { λ r. ⌜ Searched z (now (from .entry)) (now (to .entry)) (now (cost .entry)) (now (step .entry)) (now (lo .entry)) (now (hi .entry)) p (now (keys .entry)) (now (via .entry)) (now (heap .entry)) (now (pos .entry)) (now (stack .entry)) (now (log .entry)) (now (keys .exit)) (now (via .exit)) (now (heap .exit)) (now (pos .exit)) (now (stack .exit)) (now (log .exit)) r ⌝ }
+    requires { ⌜
+        (let before = work (now keys) (now via) (now heap) (now pos) (now stack) in
+        let on = walk (read (now steps) (now inner)) (now first) (now row) in
+        let estimated = estimates (now «by_stage») (now «by_node») in
+        Begun z on estimated (now yes) before opened (now log))
+        ⌝ }
+    ensures { λ r. ⌜
+        (let before = work (now (keys .entry)) (now (via .entry)) (now (heap .entry)) (now (pos .entry)) (now (stack .entry)) in
+        let after = work (now (keys .exit)) (now (via .exit)) (now (heap .exit)) (now (pos .exit)) (now (stack .exit)) in
+        let on = walk (read (now (steps .entry)) (now (inner .entry))) (now (first .entry)) (now (row .entry)) in
+        let estimated = estimates (now («by_stage» .entry)) (now («by_node» .entry)) in
+        (x : Begun z on estimated (now (yes .entry)) before opened (now (log .entry)))
+        → Searched (x .prepared .by) before (now (log .entry)) after (now (log .exit)) r)
+        ⌝ }
 {
-    let mut counts = queue::insert(keys, heap, pos, stack, p, queue::empty(), begin, rest);
+    let p = z.stages as usize * (z.nodes + 2);
+    let begin = pair_at(row, z.start, z.root);
+    let mut counts = opened;
     let mut count: usize = 0;
     let mut found = false;
     let mut node = Node(0);
-    let mut total: u32 = 0;
+    let mut cost: u32 = 0;
     'search: while 0 < counts.held {
         let next = queue::take(keys, heap, pos, stack, p, counts);
         let x = next.pair;
         log[count] = x as u32;
         count += 1;
-        let at = place_of(via, to, row, begin, Stage(z.start), x);
-        let stage = at.stage.0 as usize;
+        let at = pair_of(via, &steps[TO], row, begin, z.start, x);
         let sum = next.counts.floor;
         let base = sum - pair_estimate(by_stage, by_node, at.stage, at.node);
-        if is_goal(yes, Stage(z.end), at.stage, at.node) {
+        if is_goal(yes, z.end, at) {
             found = true;
             node = at.node;
-            total = base;
+            cost = base;
             break 'search;
         }
         counts = settle(
@@ -72,27 +84,76 @@ pub fn search<'a>(
             stack,
             p,
             next.counts,
-            from,
-            to,
-            cost,
+            steps,
+            first,
             row,
-            step,
-            lo,
-            hi,
+            inner,
             by_stage,
             by_node,
-            z,
-            at.stage,
-            at.node,
+            at,
             base,
-            first[stage],
-            first[stage + 1],
         );
     }
     Ended {
         found,
         node,
-        cost: total,
+        cost,
         count,
     }
+}
+
+// Opens the pair of start and root, whose estimate is `rest`, and settles open pairs until a goal pair is settled or none
+// is open.
+pub fn search<'a>(
+    keys: &mut [u32],
+    via: &mut [u32],
+    heap: &mut [u32],
+    pos: &mut [u32],
+    stack: &mut [u32],
+    log: &mut [u32],
+    steps: &'a [[u32; 1024]; 3],
+    first: &'a [u16; 257],
+    row: &'a [u32; 256],
+    inner: &'a [[u16; 512]; 3],
+    by_stage: &'a [u32; 256],
+    by_node: &'a [u32; 512],
+    yes: &'a [bool; 512],
+    z: Shape,
+    rest: u32,
+) -> Ended
+    requires { ⌜
+        (let before = work (now keys) (now via) (now heap) (now pos) (now stack) in
+        let on = walk (read (now steps) (now inner)) (now first) (now row) in
+        let estimated = estimates (now «by_stage») (now «by_node») in
+        Start z on estimated (now yes) rest before (now log))
+        ⌝ }
+    ensures { λ r. ⌜
+        (let before = work (now (keys .entry)) (now (via .entry)) (now (heap .entry)) (now (pos .entry)) (now (stack .entry)) in
+        let after = work (now (keys .exit)) (now (via .exit)) (now (heap .exit)) (now (pos .exit)) (now (stack .exit)) in
+        let on = walk (read (now (steps .entry)) (now (inner .entry))) (now (first .entry)) (now (row .entry)) in
+        let estimated = estimates (now («by_stage» .entry)) (now («by_node» .entry)) in
+        (x : Start z on estimated (now (yes .entry)) rest before (now (log .entry)))
+        → Searched (x .prepared .by) before (now (log .entry)) after (now (log .exit)) r)
+        ⌝ }
+{
+    let p = z.stages as usize * (z.nodes + 2);
+    let begin = pair_at(row, z.start, z.root);
+    let opened = queue::insert(keys, heap, pos, stack, p, queue::empty(), begin, rest);
+    settle_open(
+        keys,
+        via,
+        heap,
+        pos,
+        stack,
+        log,
+        steps,
+        first,
+        row,
+        inner,
+        by_stage,
+        by_node,
+        yes,
+        z,
+        opened,
+    )
 }

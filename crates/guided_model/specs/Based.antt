@@ -9,7 +9,7 @@ use lib.Dec.{eqb}
 use lib.ListN.{length, getD, take, drop}
 use Rattle.definitions.specs.Ways.{Graph}
 use Rattle.definitions.specs.Pairs.{Automaton, Estimate, reachedPairs}
-use Rattle.definitions.specs.Promises.{leastCostAt, sumAt, goalAt, Complete, Settled, Found, Ended, Logged}
+use Rattle.definitions.specs.Promises.{leastCostAt, sumAt, goalAt, Complete, Settled, Ended, Logged}
 
 module _ (g : Graph) (a : Automaton) (h : Estimate) where
   -- with a legal plan of the least cost m, whose sum is m + base

@@ -9,3 +9,4 @@ pub mod Ends
 pub mod Traces
 pub mod Settling
 pub mod Charts
+pub mod Guides

@@ -1,7 +1,7 @@
 -- The state of the guided search: the key of each pair (its cost so far plus its estimate), the step and node by which it got it, the log of the settled
 -- pairs, the open pairs, and the key last taken (the floor); and what holds of it between two turns.
 -- Assumes nothing.
-use Prim.Native.Nat.{ℕ, _+_, _-_, _*_, _≤_, _<_}
+use Prim.Native.Nat.{ℕ, _+_, _-_, _≤_, _<_}
 use mathlib.Core.Path.{_≡_, sym, _∙_, ap}
 use mathlib.Core.Bool.{false}
 use mathlib.Core.List.{List}
@@ -12,9 +12,11 @@ use lib.ListN.{length, getD}
 use Rattle.definitions.specs.Ways.{Graph}
 use Rattle.definitions.specs.Pairs.{Automaton, Estimate, pair, stageOf, nodeOf}
 use Rattle.definitions.specs.Promises.{goalAt, Settled}
+use Rattle.theory.specs.Limits.{Valid}
 use Rattle.theory.specs.Basics.{some-inj}
 use Rattle.theory.specs.Estimates.{ConsistentEstimate}
 use Rattle.theory.specs.BestFirst.{Invariant}
+use Rattle.theory.specs.Pairs.{Lawful}
 use Rattle.theory.specs.Product.{Edge, startPair, estimateAt}
 use Rattle.trace.specs.Trails.{packed}
 
@@ -22,13 +24,28 @@ use Rattle.trace.specs.Trails.{packed}
 abbrev pub unopened : ℕ
 unopened = 4294967295
 
--- what is asked of an estimate: it is consistent, none at node 0 and past the end stage, and small
+-- what a search rests on: the graph and the automaton are within their limits; the estimate is consistent (`base` where a way may end), none at node 0, and small
 pub record Guide (g : Graph) (a : Automaton) (h : Estimate) : Type 0 where
+  pub valid : Valid g
+  pub lawful : Lawful g a
   pub base : ℕ
   pub consistent : ConsistentEstimate base g a h
   pub dead : (s : ℕ) → h s 0 ≡ none
-  pub until-end : (s n m : ℕ) → h s n ≡ some m → s ≤ g .end
   pub bounded : (s n m : ℕ) → n < a .size → h s n ≡ some m → m ≤ 1800000000
+
+-- the key of each pair, the step and node by which it got it, and which pairs are open
+pub record Marks : Type 1 where
+  pub keys : List ℕ
+  pub via : List ℕ
+  pub Open : ℕ → Type 0
+
+abbrev pub marks : List ℕ → List ℕ → (ℕ → Type 0) → Marks
+marks keys via Open = record { keys = keys; via = via; Open = Open }
+
+-- x is an open pair of smallest key
+pub record Smallest (now : Marks) (x : ℕ) : Type 0 where
+  pub is-open : now .Open x
+  pub least : (k : ℕ) → now .Open k → getD (now .keys) x 0 ≤ getD (now .keys) k 0
 
 -- p is in the log
 abbrev pub In : List ℕ → ℕ → Type 0
@@ -39,9 +56,18 @@ unfoldable pub orZero : Option ℕ → ℕ
 orZero none = 0
 orZero (some r) = r
 
--- a pair of the rows from the start stage to the end stage: no other pair is ever opened
-abbrev pub Row : Graph → Automaton → ℕ → Type 0
-Row g a p = (g .start * a .size ≤ p) × (p < g .end * a .size + a .size)
+-- the open pairs without x; the keys and what stands in `via` stay
+pub record Without (now : Marks) (x : ℕ) (rest : ℕ → Type 0) : Type 0 where
+  pub kept : (k : ℕ) → now .Open k → (k ≡ x → ⊥) → rest k
+  pub only : (k : ℕ) → rest k → now .Open k
+  pub gone : rest x → ⊥
+
+abbrev pub without : Marks → (ℕ → Type 0) → Marks
+without now rest = marks (now .keys) (now .via) rest
+
+-- a pair that may be opened: it has an estimate, and is of the start stage or a later one
+abbrev pub Openable : Graph → Automaton → Estimate → ℕ → Type 0
+Openable g a h p = (g .start ≤ stageOf a p) × ((r : ℕ) × (estimateAt a h p ≡ some r))
 
 module _ (g : Graph) (a : Automaton) (h : Estimate) where
   -- the cost so far of an opened pair
@@ -73,24 +99,24 @@ module _ (g : Graph) (a : Automaton) (h : Estimate) where
   keyed-same keys keys′ p q k = keyed keys′ p (costSoFar keys p) (k .rest) (k .has) (q ∙ k .sums)
 
   -- p came by a step from a settled pair, `via` has the step and the node that it left, and the costs so far differ by the step's cost
-  pub record Came (keys via log : List ℕ) (p : ℕ) : Type 0 where
+  pub record Came (now : Marks) (log : List ℕ) (p : ℕ) : Type 0 where
     pub source : ℕ
     pub step : ℕ
     pub settled : In log source
     pub exists : step < g .count
     pub leaves : g .from step ≡ stageOf a source
     pub enters : p ≡ pair a (g .to step) (a .next step (nodeOf a source))
-    pub packs : getD via p 0 ≡ packed step (nodeOf a source)
-    pub costs : costSoFar keys p ≡ costSoFar keys source + g .cost step
+    pub packs : getD (now .via) p 0 ≡ packed step (nodeOf a source)
+    pub costs : costSoFar (now .keys) p ≡ costSoFar (now .keys) source + g .cost step
 
   -- What holds between two turns
-  pub record Searching (keys via log : List ℕ) (Open : ℕ → Type 0) (floor : ℕ) : Type 0 where
-    pub best : Invariant ℕ (Edge g a) (startPair g a) (estimateAt a h) (In log) Open (costSoFar keys)
-    pub has-key : (p : ℕ) → In log p ⊎ Open p → Keyed keys p
-    pub opened : (p : ℕ) → Row g a p → getD keys p 0 < unopened → In log p ⊎ Open p
-    pub apart : (p : ℕ) → In log p → Open p → ⊥
-    pub came : (p : ℕ) → In log p ⊎ Open p → (p ≡ startPair g a) ⊎ Came keys via log p
-    pub below : (p : ℕ) → In log p → getD keys p 0 ≤ floor
-    pub above : (p : ℕ) → Open p → floor ≤ getD keys p 0
+  pub record Searching (now : Marks) (log : List ℕ) (floor : ℕ) : Type 0 where
+    pub best : Invariant ℕ (Edge g a) (startPair g a) (estimateAt a h) (In log) (now .Open) (costSoFar (now .keys))
+    pub has-key : (p : ℕ) → In log p ⊎ now .Open p → Keyed (now .keys) p
+    pub opened : (p : ℕ) → Openable g a h p → getD (now .keys) p 0 < unopened → In log p ⊎ now .Open p
+    pub apart : (p : ℕ) → In log p → now .Open p → ⊥
+    pub came : (p : ℕ) → In log p ⊎ now .Open p → (p ≡ startPair g a) ⊎ Came now log p
+    pub below : (p : ℕ) → In log p → getD (now .keys) p 0 ≤ floor
+    pub above : (p : ℕ) → now .Open p → floor ≤ getD (now .keys) p 0
     pub settled : Settled g a h log
     pub no-goal : (p : ℕ) → In log p → goalAt g a h p ≡ false

@@ -9,7 +9,7 @@ use native.Mathlib.Omega.{arith}
 use lib.ListN.{length, getD, set, length-set}
 use lib.Seq.{getD-set-same, getD-set-other, drop-set-lt}
 use Rattle.theory.specs.Counting.{room}
-use Rattle.heap.specs.Heap.{parent, In, Indexed, key, Heap, Past, Pushed, Decreased, Popped}
+use Rattle.heap.specs.Heap.{slices, parent, In, Indexed, key, Heap, Past, Pushed, Decreased, Popped}
 use Rattle.heap.specs.Sift.{Swapped, Sifted, Rising, Sinking}
 use Rattle.heap.proofs.Places.{stands, in-pair, one-place, past-more}
 use Rattle.heap.proofs.Order.{At, at-first, top-least}
@@ -33,7 +33,7 @@ unfolding key
 key-elsewhere keys heap j q i ne = ap (λ (k : ℕ). getD keys k 0) (getD-set-other heap j i q 0 ne)
 
 -- a heap does not depend on the key of a pair that is not in it
-pub heap-other : {keys heap pos : List ℕ} {p n : ℕ} → Heap keys heap pos p n → (q v : ℕ) → (In heap pos n q → ⊥) → Heap (set keys q v) heap pos p n
+pub heap-other : {keys heap pos : List ℕ} {p n : ℕ} → Heap (slices keys heap pos) p n → (q v : ℕ) → (In heap pos n q → ⊥) → Heap (slices (set keys q v) heap pos) p n
 heap-other {keys} {heap} {pos} {p} {n} h q v out = record {
   indexed = h .indexed;
   keys-fit = simp length-set (h .keys-fit);
@@ -44,7 +44,7 @@ heap-other {keys} {heap} {pos} {p} {n} h q v out = record {
     same i l = key-other keys heap q v i (λ e. out (stands (h .indexed) i q l e))
 
 -- the empty heap, whatever stands in the slices
-pub heap-empty : {keys heap pos : List ℕ} {p : ℕ} → p ≤ 4294967296 → p ≤ length keys → p ≤ length heap → p ≤ length pos → Heap keys heap pos p 0
+pub heap-empty : {keys heap pos : List ℕ} {p : ℕ} → p ≤ 4294967296 → p ≤ length keys → p ≤ length heap → p ≤ length pos → Heap (slices keys heap pos) p 0
 heap-empty s a b c = record {
   indexed = record {
     small = s;
@@ -59,7 +59,7 @@ heap-empty s a b c = record {
 }
 
 -- ---- `push`
-module _ {keys heap pos : List ℕ} {p n q : ℕ} (h : Heap keys heap pos p n) (l : q < p) (out : In heap pos n q → ⊥) where
+module _ {keys heap pos : List ℕ} {p n q : ℕ} (h : Heap (slices keys heap pos) p n) (l : q < p) (out : In heap pos n q → ⊥) where
   free : (i : ℕ) → i < n → getD heap i 0 ≢ q
   free i g e = out (stands (h .indexed) i q g e)
 
@@ -125,7 +125,7 @@ module _ {keys heap pos : List ℕ} {p n q : ℕ} (h : Heap keys heap pos p n) (
       over = λ z i y g e. absurd (omega arith);
     }
 
-    pub push-done : {heap′ pos′ : List ℕ} → Sifted (set keys q v) p (n + 1) (set heap n q) (set pos q n) heap′ pos′ → Pushed p n q v keys heap pos (set keys q v) heap′ pos′
+    pub push-done : {heap′ pos′ : List ℕ} → Sifted (set keys q v) p (n + 1) (set heap n q) (set pos q n) heap′ pos′ → Pushed p n q v (slices keys heap pos) (slices (set keys q v) heap′ pos′)
     push-done s = record {
       stored = refl;
       ordered = record { indexed = s .moved .indexed; keys-fit = simp length-set (h .keys-fit); order = s .order };
@@ -136,7 +136,7 @@ module _ {keys heap pos : List ℕ} {p n q : ℕ} (h : Heap keys heap pos p n) (
     }
 
 -- ---- `decrease_key`
-module _ {keys heap pos : List ℕ} {p n q : ℕ} (h : Heap keys heap pos p n) (w : In heap pos n q) where
+module _ {keys heap pos : List ℕ} {p n q : ℕ} (h : Heap (slices keys heap pos) p n) (w : In heap pos n q) where
   decrease-same : {v : ℕ} → key (set keys q v) heap (getD pos q 0) ≡ v
   decrease-same {v} = key-same keys heap q v (getD pos q 0) (omega (arith, in-pair (h .indexed) q w, h .keys-fit)) (w .held)
 
@@ -144,7 +144,7 @@ module _ {keys heap pos : List ℕ} {p n q : ℕ} (h : Heap keys heap pos p n) (
   pub decrease-moving : {v at : ℕ} → at ≡ getD pos q 0 → v ≡ key (set keys q v) heap at
   decrease-moving {v} e = rw e (sym decrease-same)
 
-  pub decrease-done : {v : ℕ} {heap′ pos′ : List ℕ} → Sifted (set keys q v) p n heap pos heap′ pos′ → Decreased p n q v keys heap pos (set keys q v) heap′ pos′
+  pub decrease-done : {v : ℕ} {heap′ pos′ : List ℕ} → Sifted (set keys q v) p n heap pos heap′ pos′ → Decreased p n q v (slices keys heap pos) (slices (set keys q v) heap′ pos′)
   decrease-done s = record {
     stored = refl;
     ordered = record { indexed = s .moved .indexed; keys-fit = simp length-set (h .keys-fit); order = s .order };
@@ -153,7 +153,7 @@ module _ {keys heap pos : List ℕ} {p n q : ℕ} (h : Heap keys heap pos p n) (
     past = s .moved .past;
   }
 
-module _ {keys heap pos : List ℕ} {p n q v : ℕ} (h : Heap keys heap pos p n) (w : In heap pos n q) (less : v ≤ getD keys q 0) where
+module _ {keys heap pos : List ℕ} {p n q v : ℕ} (h : Heap (slices keys heap pos) p n) (w : In heap pos n q) (less : v ≤ getD keys q 0) where
   decrease-other : (i : ℕ) → i < n → i ≢ getD pos q 0 → key (set keys q v) heap i ≡ key keys heap i
   decrease-other i g ne = key-other keys heap q v i (λ e. ne (one-place (h .indexed) i (getD pos q 0) g (w .place) (e ∙ sym (w .held))))
 
@@ -177,7 +177,7 @@ module _ {keys heap pos : List ℕ} {p n q v : ℕ} (h : Heap keys heap pos p n)
   decrease-rising e = rw e rising
 
 -- ---- `pop_min`
-module _ {keys heap pos : List ℕ} {p n : ℕ} (h : Heap keys heap pos p n) (z : 0 < n) {heap₁ pos₁ : List ℕ} (s : Swapped p n 0 (n - 1) heap pos heap₁ pos₁) where
+module _ {keys heap pos : List ℕ} {p n : ℕ} (h : Heap (slices keys heap pos) p n) (z : 0 < n) {heap₁ pos₁ : List ℕ} (s : Swapped p n 0 (n - 1) heap pos heap₁ pos₁) where
   swap-keys : (m : ℕ) → At (key keys heap) (key keys heap₁) 0 (n - 1) m
   swap-keys = key-swap keys heap heap₁ 0 (n - 1) (omega (arith, h .indexed .count, h .indexed .heap-fits)) (omega (arith, h .indexed .count, h .indexed .heap-fits)) (s .places)
 
@@ -229,7 +229,7 @@ module _ {keys heap pos : List ℕ} {p n : ℕ} (h : Heap keys heap pos p n) (z 
         go (yes e) = absurd (ne (sym (w .held) ∙ ap (λ (i : ℕ). getD heap₁ i 0) e ∙ last))
         go (no d) = record { place = omega (arith, w .place); held = w .held }
 
-    pub pop-done : {heap′ pos′ : List ℕ} → Sifted keys p (n - 1) heap₁ pos₁ heap′ pos′ → Popped p n r keys heap pos heap′ pos′
+    pub pop-done : {heap′ pos′ : List ℕ} → Sifted keys p (n - 1) heap₁ pos₁ heap′ pos′ → Popped p n r (slices keys heap pos) (slices keys heap′ pos′)
     pop-done {heap′} {pos′} t = record {
       was = stands (h .indexed) 0 r z (sym er);
       pair = omega (arith, h .indexed .pair 0 z);

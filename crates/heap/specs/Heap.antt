@@ -7,6 +7,15 @@ use mathlib.Core.Logic.{_≢_}
 use mathlib.Core.List.{List}
 use lib.ListN.{length, getD, set, drop}
 
+-- the slices that hold a heap
+pub record Slices : Type 0 where
+  pub keys : List ℕ
+  pub heap : List ℕ
+  pub pos : List ℕ
+
+abbrev pub slices : List ℕ → List ℕ → List ℕ → Slices
+slices keys heap pos = record { keys = keys; heap = heap; pos = pos }
+
 -- pair q is in the heap
 pub record In (heap pos : List ℕ) (n q : ℕ) : Type 0 where
   pub place : getD pos q 0 < n
@@ -33,10 +42,10 @@ parent i = (i - 1) / 2
 abbrev pub Order : (ℕ → ℕ) → ℕ → Type 0
 Order k n = (i : ℕ) → 0 < i → i < n → k (parent i) ≤ k i
 
-pub record Heap (keys heap pos : List ℕ) (p n : ℕ) : Type 0 where
-  pub indexed : Indexed heap pos p n
-  pub keys-fit : p ≤ length keys
-  pub order : Order (key keys heap) n
+pub record Heap (x : Slices) (p n : ℕ) : Type 0 where
+  pub indexed : Indexed (x .heap) (x .pos) p n
+  pub keys-fit : p ≤ length (x .keys)
+  pub order : Order (key (x .keys) (x .heap)) n
 
 -- nothing from p on has changed
 pub record Past (p : ℕ) (heap pos heap′ pos′ : List ℕ) : Type 0 where
@@ -44,29 +53,29 @@ pub record Past (p : ℕ) (heap pos heap′ pos′ : List ℕ) : Type 0 where
   pub pos-past : drop p pos′ ≡ drop p pos
 
 -- what `push` leaves: the same pairs and q, which has the key v
-pub record Pushed (p n q v : ℕ) (keys heap pos keys′ heap′ pos′ : List ℕ) : Type 0 where
-  pub stored : keys′ ≡ set keys q v
-  pub ordered : Heap keys′ heap′ pos′ p (n + 1)
-  pub here : In heap′ pos′ (n + 1) q
-  pub kept : (k : ℕ) → In heap pos n k → In heap′ pos′ (n + 1) k
-  pub only : (k : ℕ) → In heap′ pos′ (n + 1) k → k ≢ q → In heap pos n k
-  pub past : Past p heap pos heap′ pos′
+pub record Pushed (p n q v : ℕ) (x x′ : Slices) : Type 0 where
+  pub stored : x′ .keys ≡ set (x .keys) q v
+  pub ordered : Heap x′ p (n + 1)
+  pub here : In (x′ .heap) (x′ .pos) (n + 1) q
+  pub kept : (k : ℕ) → In (x .heap) (x .pos) n k → In (x′ .heap) (x′ .pos) (n + 1) k
+  pub only : (k : ℕ) → In (x′ .heap) (x′ .pos) (n + 1) k → k ≢ q → In (x .heap) (x .pos) n k
+  pub past : Past p (x .heap) (x .pos) (x′ .heap) (x′ .pos)
 
 -- what `decrease_key` leaves: the same pairs, of which q has the key v
-pub record Decreased (p n q v : ℕ) (keys heap pos keys′ heap′ pos′ : List ℕ) : Type 0 where
-  pub stored : keys′ ≡ set keys q v
-  pub ordered : Heap keys′ heap′ pos′ p n
-  pub kept : (k : ℕ) → In heap pos n k → In heap′ pos′ n k
-  pub only : (k : ℕ) → In heap′ pos′ n k → In heap pos n k
-  pub past : Past p heap pos heap′ pos′
+pub record Decreased (p n q v : ℕ) (x x′ : Slices) : Type 0 where
+  pub stored : x′ .keys ≡ set (x .keys) q v
+  pub ordered : Heap x′ p n
+  pub kept : (k : ℕ) → In (x .heap) (x .pos) n k → In (x′ .heap) (x′ .pos) n k
+  pub only : (k : ℕ) → In (x′ .heap) (x′ .pos) n k → In (x .heap) (x .pos) n k
+  pub past : Past p (x .heap) (x .pos) (x′ .heap) (x′ .pos)
 
--- what `pop_min` leaves: the same pairs without r, which had the least key
-pub record Popped (p n r : ℕ) (keys heap pos heap′ pos′ : List ℕ) : Type 0 where
-  pub was : In heap pos n r
+-- what `pop_min` leaves: the same pairs without r, which had the least key; the keys stay
+pub record Popped (p n r : ℕ) (x x′ : Slices) : Type 0 where
+  pub was : In (x .heap) (x .pos) n r
   pub pair : r < p
-  pub least : (k : ℕ) → In heap pos n k → getD keys r 0 ≤ getD keys k 0
-  pub ordered : Heap keys heap′ pos′ p (n - 1)
-  pub gone : In heap′ pos′ (n - 1) r → ⊥
-  pub kept : (k : ℕ) → In heap pos n k → k ≢ r → In heap′ pos′ (n - 1) k
-  pub only : (k : ℕ) → In heap′ pos′ (n - 1) k → In heap pos n k
-  pub past : Past p heap pos heap′ pos′
+  pub least : (k : ℕ) → In (x .heap) (x .pos) n k → getD (x .keys) r 0 ≤ getD (x .keys) k 0
+  pub ordered : Heap x′ p (n - 1)
+  pub gone : In (x′ .heap) (x′ .pos) (n - 1) r → ⊥
+  pub kept : (k : ℕ) → In (x .heap) (x .pos) n k → k ≢ r → In (x′ .heap) (x′ .pos) (n - 1) k
+  pub only : (k : ℕ) → In (x′ .heap) (x′ .pos) (n - 1) k → In (x .heap) (x .pos) n k
+  pub past : Past p (x .heap) (x .pos) (x′ .heap) (x′ .pos)

@@ -4,7 +4,7 @@
 ghost use mathlib.Core.Path.{_≡_};
 ghost use Prim.Native.Nat.{ℕ, _+_, _≤_, _<_};
 ghost use lib.ListN.{length, getD};
-ghost use Rattle.heap.specs.Heap.{In, Indexed, key, parent, Heap, Pushed, Decreased, Popped};
+ghost use Rattle.heap.specs.Heap.{slices, In, Indexed, key, parent, Heap, Pushed, Decreased, Popped};
 ghost use Rattle.heap.specs.Sift.{Swapped, Sifted, Rising, Sinking, LeastChild};
 use convert::wide;
 
@@ -106,9 +106,13 @@ pub fn push(
     q: usize,
     v: u32,
 )
-    requires { ⌜ Heap (now keys) (now heap) (now pos) p n ⌝ }
+    requires { ⌜ Heap (slices (now keys) (now heap) (now pos)) p n ⌝ }
     requires { ⌜ (q < p) × (In (now heap) (now pos) n q → ⊥) ⌝ }
-    ensures { λ _. ⌜ Pushed p n q v (now (keys .entry)) (now (heap .entry)) (now (pos .entry)) (now (keys .exit)) (now (heap .exit)) (now (pos .exit)) ⌝ }
+    ensures { λ _. ⌜
+        (let before = slices (now (keys .entry)) (now (heap .entry)) (now (pos .entry)) in
+        let after = slices (now (keys .exit)) (now (heap .exit)) (now (pos .exit)) in
+        Pushed p n q v before after)
+        ⌝ }
 {
     keys[q] = v;
     heap[n] = q as u32;
@@ -126,9 +130,13 @@ pub fn decrease_key(
     q: usize,
     v: u32,
 )
-    requires { ⌜ Heap (now keys) (now heap) (now pos) p n ⌝ }
+    requires { ⌜ Heap (slices (now keys) (now heap) (now pos)) p n ⌝ }
     requires { ⌜ In (now heap) (now pos) n q × (v ≤ getD (now keys) q 0) ⌝ }
-    ensures { λ _. ⌜ Decreased p n q v (now (keys .entry)) (now (heap .entry)) (now (pos .entry)) (now (keys .exit)) (now (heap .exit)) (now (pos .exit)) ⌝ }
+    ensures { λ _. ⌜
+        (let before = slices (now (keys .entry)) (now (heap .entry)) (now (pos .entry)) in
+        let after = slices (now (keys .exit)) (now (heap .exit)) (now (pos .exit)) in
+        Decreased p n q v before after)
+        ⌝ }
 {
     keys[q] = v;
     let at = wide(pos[q]);
@@ -137,9 +145,13 @@ pub fn decrease_key(
 
 // Takes a pair with the least key out of the heap.
 pub fn pop_min(keys: &[u32], heap: &mut [u32], pos: &mut [u32], p: usize, n: usize) -> usize
-    requires { ⌜ Heap (now keys) (now heap) (now pos) p n ⌝ }
+    requires { ⌜ Heap (slices (now keys) (now heap) (now pos)) p n ⌝ }
     requires { ⌜ 0 < n ⌝ }
-    ensures { λ r. ⌜ Popped p n r (now (keys .entry)) (now (heap .entry)) (now (pos .entry)) (now (heap .exit)) (now (pos .exit)) ⌝ }
+    ensures { λ r. ⌜
+        (let before = slices (now (keys .entry)) (now (heap .entry)) (now (pos .entry)) in
+        let after = slices (now (keys .entry)) (now (heap .exit)) (now (pos .exit)) in
+        Popped p n r before after)
+        ⌝ }
 {
     let first = 0;
     let last = n - 1;

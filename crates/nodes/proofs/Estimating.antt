@@ -7,10 +7,8 @@ use lib.ListN.{length, getD, set, replicate, length-set, length-replicate}
 use lib.Seq.{getD-set-same, getD-set-other}
 use native.Mathlib.Omega.{arith}
 use native.Mathlib.Decide.{decLt}
-use mir.Val.{Fits}
-use mir.Syntax.{w64}
 use borrow.Author.Count.{below-more}
-use Rattle.definitions.specs.Basics.{smaller, plus}
+use Rattle.definitions.specs.Basics.{smaller, sumOf}
 use Rattle.definitions.specs.Charts.{Chart}
 use Rattle.definitions.specs.Diagrams.{Diagram, size, inner}
 use Rattle.theory.specs.Limits.{Ordered, Sound}
@@ -46,8 +44,8 @@ module _ (k low high r i j n : ℕ) (join : Joins low high k r) (cheap : k ≤ 1
       go (yes h) = either (lt-or-le low (high + k)) (λ q. omega (arith, join .both h, si (omega arith))) (λ q. omega (arith, join .both h, sj (omega arith)))
       go (no h) = omega (arith, join .alone (omega arith), si (omega (arith, join .alone (omega arith))))
 
-  joined-shows : (l h : Option ℕ) → Shows i low l → Shows j high h → Shows n r (smaller l (plus k h))
-  unfolding smaller plus
+  joined-shows : (l h : Option ℕ) → Shows i low l → Shows j high h → Shows n r (smaller l (sumOf (some k) h))
+  unfolding smaller sumOf
   joined-shows none none sl sh = omega (arith, join .alone (omega arith))
   joined-shows (some x) none sl sh = omega (arith, join .alone (omega arith))
   joined-shows none (some y) sl sh = omega (arith, join .both (omega arith))
@@ -85,64 +83,58 @@ module _ (step lo hi cost : List ℕ) (count : ℕ) where
       leaf-shows c d o (suc zero) l g = rw (diagramEstimate-leaf c d o 1 l) (refl, omega arith)
       leaf-shows c d o (suc (suc k)) l g = absurd (omega arith)
 
-  module _ (r : List ℕ) (n : ℕ) (now : Estimating step lo hi cost count r n) where
+  module _ (r : List ℕ) (n : ℕ) (found : Estimating step lo hi cost count r n) where
     pub estimating-done : count + 2 ≤ n → Estimated step lo hi cost count r
     estimating-done q = record {
-      is = λ c d p h s f k l. shows-is k (getD r k 0) (diagramEstimate c d k) (now .shows c d p h s f k (omega arith) l);
-      small = λ k l. now .small k (omega arith);
+      is = λ c d p h s f k l. shows-is k (getD r k 0) (diagramEstimate c d k) (found .shows c d p h s f k (omega arith) l);
+      small = λ k l. found .small k (omega arith);
     }
 
     module _ (priced : Priced step cost count) (l : n < count + 2) where
       pub estimating-step : getD step n 0 < 1024
-      estimating-step = priced .inside n (now .inner) l
-
-      pub estimating-step-fits : Fits w64 (getD step n 0)
-      estimating-step-fits = omega (arith, estimating-step)
-
-      pub estimating-step-quad : Fits w64 (getD step n 0 * 4)
-      estimating-step-quad = omega (arith, estimating-step)
+      estimating-step = priced .inside n (found .inner) l
 
       module _ (los : Falls lo (count + 1)) (his : Falls hi (count + 1)) (v : ℕ)
           (join : Joins (getD r (getD lo n 0) 0) (getD r (getD hi n 0) 0) (getD cost (getD step n 0) 0) v) where
         -- the stored value at n, and the others as they were
         here : getD (set r n v) n 0 ≡ v
-        here = getD-set-same r n v 0 (omega (arith, now .long, los .inside))
+        here = getD-set-same r n v 0 (omega (arith, found .long, los .inside))
 
         there : (k : ℕ) → k < n → getD (set r n v) k 0 ≡ getD r k 0
         there k i = getD-set-other r n k v 0 (λ q. omega arith)
 
         lo-less : getD lo n 0 < n
-        lo-less = child-below lo count n los (now .inner) l
+        lo-less = child-below lo count n los (found .inner) l
 
         hi-less : getD hi n 0 < n
-        hi-less = child-below hi count n his (now .inner) l
+        hi-less = child-below hi count n his (found .inner) l
 
         new-shows : (c : Chart) (d : Diagram) → Costs c cost → Held d step lo hi → Sound (length (c .steps)) d → length (d .nodes) ≤ count
             → n < size d → Shows n v (diagramEstimate c d n)
         new-shows c d p h s f i =
             rw (
-              diagramEstimate-inner c d (h .ordered) n (now .inner),
-              held-lo d step lo hi h n (now .inner) i,
-              held-hi d step lo hi h n (now .inner) i,
-              held-step d step lo hi h n (now .inner) i,
-              ← (p (getD step n 0) (omega (arith, s .exist n (now .inner) i, held-step d step lo hi h n (now .inner) i))),
+              diagramEstimate-inner c d (h .ordered) n (found .inner),
+              held-lo d step lo hi h n (found .inner) i,
+              held-hi d step lo hi h n (found .inner) i,
+              held-step d step lo hi h n (found .inner) i,
+              p (getD step n 0) (omega (arith, s .exist n (found .inner) i, held-step d step lo hi h n (found .inner) i)),
             )
-            (joined-shows (getD cost (getD step n 0) 0) _ _ v (getD lo n 0) (getD hi n 0) n join (priced .cheap n (now .inner) l) lo-less hi-less
+            (joined-shows (getD cost (getD step n 0) 0) _ _ v (getD lo n 0) (getD hi n 0) n join (priced .cheap n (found .inner) l) lo-less hi-less
             (omega (arith, los .inside)) _ _
-            (now .shows c d p h s f (getD lo n 0) lo-less (omega (arith, lo-less))) (now .shows c d p h s f (getD hi n 0) hi-less (omega (arith, hi-less))))
+            (found .shows c d p h s f (getD lo n 0) lo-less (omega (arith, lo-less))) (found .shows c d p h s f (getD hi n 0) hi-less (omega (arith, hi-less))))
 
         pub estimating-next : Estimating step lo hi cost count (set r n v) (n + 1)
         estimating-next = record {
-          long = length-set r n v ∙ now .long;
+          long = length-set r n v ∙ found .long;
           few = omega arith;
-          inner = omega (arith, now .inner);
+          inner = omega (arith, found .inner);
           small =
-              below-more (λ (k : ℕ). Small k (getD (set r n v) k 0)) n (λ k i. rw (there k i) (now .small k i))
-              (rw here (joined-small (getD cost (getD step n 0) 0) _ _ v (getD lo n 0) (getD hi n 0) n join (priced .cheap n (now .inner) l) lo-less hi-less
-              (omega (arith, los .inside)) (now .small (getD lo n 0) lo-less) (now .small (getD hi n 0) hi-less)));
+              below-more (λ (k : ℕ). Small k (getD (set r n v) k 0)) n (λ k i. rw (there k i) (found .small k i))
+              (rw here (joined-small (getD cost (getD step n 0) 0) _ _ v (getD lo n 0) (getD hi n 0) n join (priced .cheap n (found .inner) l) lo-less hi-less
+              (omega (arith, los .inside)) (found .small (getD lo n 0) lo-less) (found .small (getD hi n 0) hi-less)));
           shows = λ c d p h s f.
               below-more (λ (k : ℕ). k < size d → Shows k (getD (set r n v) k 0) (diagramEstimate c d k)) n
-              (λ k i j. rw (there k i) (now .shows c d p h s f k i j)) (λ j. rw here (new-shows c d p h s f j));
+              (λ k i j. rw (there k i) (found .shows c d p h s f k i j)) (λ j. rw here (new-shows c d p h s f j));
         }
 
-pub ruleset estimating-laws = (estimating-start, estimating-done, estimating-step, estimating-step-fits, estimating-step-quad, estimating-next)
+pub ruleset estimating-laws = (estimating-start, estimating-done, estimating-step, estimating-next)

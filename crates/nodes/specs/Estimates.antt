@@ -3,6 +3,7 @@
 use Prim.Native.Nat.{ℕ, _+_, _*_, _≤_, _<_, min}
 use mathlib.Core.Path.{_≡_}
 use mathlib.Core.List.{List}
+use mathlib.Core.Option.{some}
 use lib.ListN.{length, getD}
 use Rattle.definitions.specs.Charts.{Chart}
 use Rattle.definitions.specs.Diagrams.{Diagram, size}
@@ -21,9 +22,9 @@ pub record Joins (low high cost r : ℕ) : Type 0 where
   pub alone : 4294967295 ≤ high + cost → r ≡ low
   pub both : high + cost < 4294967295 → r ≡ min low (high + cost)
 
--- a table has what the steps of a chart cost
+-- a table has what it costs to set each variable of a chart
 abbrev pub Costs : Chart → List ℕ → Type 0
-Costs c cost = (k : ℕ) → k < length (c .steps) → getD cost k 0 ≡ variableCost c k
+Costs c cost = (k : ℕ) → k < length (c .steps) → variableCost c k ≡ some (getD cost k 0)
 
 -- A table has the estimate of each node, 4,294,967,295 where there is none, of each diagram of at most `count` inner nodes that stands in the tables,
 -- over each chart whose costs stand in the cost table

@@ -1,11 +1,18 @@
 // The diagram estimates of the nodes.
-ghost use Prim.Native.Nat.{_+_};
+ghost use Prim.Native.Nat.{_+_, _<_};
+ghost use lib.ListN.{getD};
+ghost use Rattle.diagram.specs.Files.{nodesIn};
 ghost use Rattle.nodes.specs.Walks.{Falls};
 ghost use Rattle.nodes.specs.Estimates.{Priced, Joins, Estimated};
 use definitions::NONE;
+use definitions::Node;
+use definitions::Shape;
+use definitions::Step;
+use diagram::HI;
+use diagram::LO;
+use diagram::STEP;
 
-// A node's estimate, from that at its lo, that at its hi and the cost of its step. A sum that is no number below NONE
-// counts as none.
+// The smaller of two estimates, one of them with a cost added. A sum that is no number below NONE counts as none.
 fn join(low: u32, high: u32, cost: u32) -> u32
     ensures { λ r. ⌜ Joins low high cost r ⌝ }
 {
@@ -19,24 +26,44 @@ fn join(low: u32, high: u32, cost: u32) -> u32
     low
 }
 
-// The estimate of each node of a diagram of `count` inner nodes, from node 0 up.
-pub fn diagram_estimates(
-    step: &[u16; 512],
-    lo: &[u16; 512],
-    hi: &[u16; 512],
-    count: usize,
-    cost: &[u32; 1024],
-) -> [u32; 512]
-    requires { ⌜ Falls (now lo) (count + 1) × Falls (now hi) (count + 1) × Priced (now step) (now cost) count ⌝ }
-    ensures { λ r. ⌜ Estimated (now (step .entry)) (now (lo .entry)) (now (hi .entry)) (now (cost .entry)) count r ⌝ }
+// An inner node's estimate: the smaller of that at lo and that at hi with the cost of its step.
+fn inner_estimate<'a>(
+    estimates: &'a [u32; 512],
+    cost: &'a [u32; 1024],
+    e: Step,
+    lo: Node,
+    hi: Node,
+) -> u32
+    requires { ⌜ (e .0 < 1024) × (lo .0 < 512) × (hi .0 < 512) ⌝ }
+    ensures { λ r. ⌜
+        (let by = now (estimates .entry) in
+        Joins (getD by (lo .0) 0) (getD by (hi .0) 0) (getD (now (cost .entry)) (e .0) 0) r)
+        ⌝ }
 {
+    let low = estimates[lo.0 as usize];
+    let high = estimates[hi.0 as usize];
+    join(low, high, cost[e.0 as usize])
+}
+
+// The estimate of each node of a diagram that stands in the tables, from node 0 up.
+pub fn diagram_estimates(z: Shape, inner: &[[u16; 512]; 3], cost: &[u32; 1024]) -> [u32; 512]
+    requires { ⌜
+        (let t = nodesIn (now inner) in
+        Falls (t .lo) (z .nodes + 1) × Falls (t .hi) (z .nodes + 1) × Priced (t .step) (now cost) (z .nodes))
+        ⌝ }
+    ensures { λ r. ⌜
+        (let t = nodesIn (now (inner .entry)) in
+        Estimated (t .step) (t .lo) (t .hi) (now (cost .entry)) (z .nodes) r)
+        ⌝ }
+{
+    let count = z.nodes;
     let mut estimates = [NONE; 512];
     estimates[1] = 0;
     for n in 2..count + 2 {
-        let k = cost[step[n] as usize];
-        let low = estimates[lo[n] as usize];
-        let high = estimates[hi[n] as usize];
-        estimates[n] = join(low, high, k);
+        let e = inner[STEP][n];
+        let lo = inner[LO][n];
+        let hi = inner[HI][n];
+        estimates[n] = inner_estimate(&estimates, cost, Step(e), Node(lo), Node(hi));
     }
     estimates
 }

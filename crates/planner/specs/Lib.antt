@@ -1,3 +1,1 @@
-pub mod Space
-pub mod Enough
 pub mod Both

@@ -1,14 +1,7 @@
-// Both searches on the same files, in one call; and the space that they need.
-ghost use mathlib.Core.List.{[], _∷_};
-ghost use lib.ListN.{length};
-ghost use Rattle.definitions.specs.Answers.{load as outcome};
-ghost use Rattle.planner.specs.Both.{SweepKept, GuidedKept, AgreeOn};
+// Both searches on the same files, in one call.
+ghost use Rattle.definitions.specs.Promises.{sweepSlices, guidedSlices};
+ghost use Rattle.planner.specs.Both.{BothCall};
 use definitions::Answer;
-
-mod space;
-
-pub use space::Space;
-pub use space::space_needed;
 
 // The answers of both searches.
 pub struct Answers {
@@ -34,9 +27,15 @@ pub fn both(
     log: &mut [u32],
     plan: &mut [u16],
 ) -> Answers
-    ensures { λ r. ⌜ SweepKept (now (chart .entry)) (now (rules .entry)) (now («cost_plan» .entry)) (now («cost_plan» .exit)) (now (cost .entry)) (now (cost .exit)) (now («cost_via» .entry)) (now («cost_via» .exit)) (now (nodes .entry)) (now (nodes .exit)) (r .sweep) ⌝ }
-    ensures { λ r. ⌜ GuidedKept (now (chart .entry)) (now (rules .entry)) (now (plan .entry)) (now (plan .exit)) (now (keys .entry)) (now (keys .exit)) (now (via .entry)) (now (via .exit)) (now (heap .entry)) (now (heap .exit)) (now (pos .entry)) (now (pos .exit)) (now (stack .entry)) (now (stack .exit)) (now (log .entry)) (now (log .exit)) (r .guided) ⌝ }
-    ensures { λ r. ⌜ AgreeOn (outcome (now (chart .entry)) (now (rules .entry)) (length (now (cost .entry)) ∷ length (now («cost_via» .entry)) ∷ length (now (nodes .entry)) ∷ []) (length (now («cost_plan» .entry)))) (outcome (now (chart .entry)) (now (rules .entry)) (length (now (keys .entry)) ∷ length (now (via .entry)) ∷ length (now (heap .entry)) ∷ length (now (pos .entry)) ∷ length (now (stack .entry)) ∷ length (now (log .entry)) ∷ []) (length (now (plan .entry)))) (r .sweep) (r .guided) ⌝ }
+    ensures { λ r. ⌜
+        (let lent = sweepSlices (now (cost .entry)) (now («cost_via» .entry)) (now (nodes .entry)) (now («cost_plan» .entry)) in
+        let lent′ = sweepSlices (now (cost .exit)) (now («cost_via» .exit)) (now (nodes .exit)) (now («cost_plan» .exit)) in
+        let given = guidedSlices (now (keys .entry)) (now (via .entry)) (now (heap .entry)) (now (pos .entry))
+        (now (stack .entry)) (now (log .entry)) (now (plan .entry)) in
+        let given′ = guidedSlices (now (keys .exit)) (now (via .exit)) (now (heap .exit)) (now (pos .exit))
+        (now (stack .exit)) (now (log .exit)) (now (plan .exit)) in
+        BothCall (now (chart .entry)) (now (rules .entry)) lent lent′ given given′ r)
+        ⌝ }
 {
     let swept = sweep::sweep(chart, rules, cost, cost_via, nodes, cost_plan);
     let found = guided::guided(chart, rules, keys, via, heap, pos, stack, log, plan);

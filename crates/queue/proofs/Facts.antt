@@ -5,16 +5,16 @@ use mathlib.Core.List.{List}
 use Prim.Native.Nat.{ℕ, _≤_, _<_}
 use native.Mathlib.Omega.{arith}
 use lib.ListN.{length, getD}
-use Rattle.heap.specs.Heap.{Heap}
+use Rattle.heap.specs.Heap.{slices, Heap}
 use Rattle.heap.proofs.Places.{in-pair}
 use Rattle.heap.proofs.Calls.{heap-empty}
 use Rattle.queue.specs.declared.Counts.{Counts}
-use Rattle.queue.specs.Queue.{heaped, Contains, Queue, Empty}
+use Rattle.queue.specs.Queue.{State, state, heaped, Contains, Queue, Empty}
 
 -- the empty queue, whatever stands in the slices
 pub queue-empty : {keys heap pos stack : List ℕ} {p : ℕ} {c : Counts} → Empty c
     → p ≤ 4294967296 → p ≤ length keys → p ≤ length heap → p ≤ length pos → p ≤ length stack
-    → Queue keys heap pos stack p c
+    → Queue p (state keys heap pos stack c)
 queue-empty {keys} {heap} {pos} {stack} {p} {c} x s a b d e = record {
   ordered = let n : 0 ≡ heaped c = omega (arith, x .none-held) in rw n at h;
   top-held = omega (arith, x .none-stacked);
@@ -26,25 +26,25 @@ queue-empty {keys} {heap} {pos} {stack} {p} {c} x s a b d e = record {
   above = λ q w. absurd (omega (arith, x .none-held, w .place));
 }
   where
-    h : Heap keys heap pos p 0
+    h : Heap (slices keys heap pos) p 0
     h = heap-empty s a b d
 
-module _ {keys heap pos stack : List ℕ} {p : ℕ} {c : Counts} (x : Queue keys heap pos stack p c) where
+module _ {p : ℕ} {x : State} (y : Queue p x) where
   -- each pair has a key
-  pub keys-fit : p ≤ length keys
-  keys-fit = x .ordered .keys-fit
+  pub keys-fit : p ≤ length (x .keys)
+  keys-fit = y .ordered .keys-fit
 
   -- a queue that holds no pair contains none
-  pub contains-none : {q : ℕ} → c .held ≡ 0 → Contains heap pos stack c q → ⊥
+  pub contains-none : {q : ℕ} → x .counts .held ≡ 0 → Contains x q → ⊥
   contains-none e (Contains.in-heap w) = omega (arith, w .place)
-  contains-none e (Contains.on-stack i l d) = omega (arith, x .top-held)
+  contains-none e (Contains.on-stack i l d) = omega (arith, y .top-held)
 
   -- what is in the queue is a pair
-  pub contains-pair : {q : ℕ} → Contains heap pos stack c q → q < p
-  contains-pair {q} (Contains.in-heap w) = in-pair (x .ordered .indexed) q w
-  contains-pair (Contains.on-stack i l d) = omega (arith, x .pairs i l)
+  pub contains-pair : {q : ℕ} → Contains x q → q < p
+  contains-pair {q} (Contains.in-heap w) = in-pair (y .ordered .indexed) q w
+  contains-pair (Contains.on-stack i l d) = omega (arith, y .pairs i l)
 
   -- and its key is at least the one last taken
-  pub floor-le : {q : ℕ} → Contains heap pos stack c q → c .floor ≤ getD keys q 0
-  floor-le {q} (Contains.in-heap w) = x .above q w
-  floor-le (Contains.on-stack i l d) = omega (arith, x .level i l, ap (λ (k : ℕ). getD keys k 0) d)
+  pub floor-le : {q : ℕ} → Contains x q → x .counts .floor ≤ getD (x .keys) q 0
+  floor-le {q} (Contains.in-heap w) = y .above q w
+  floor-le (Contains.on-stack i l d) = omega (arith, y .level i l, ap (λ (k : ℕ). getD (x .keys) k 0) d)

@@ -9,10 +9,10 @@ use native.Mathlib.Omega.{arith}
 use lib.ListN.{length, getD, set, length-set}
 use lib.Seq.{getD-set-same, getD-set-other, drop-set-lt}
 use Rattle.theory.specs.Counting.{room}
-use Rattle.heap.specs.Heap.{In, Pushed}
+use Rattle.heap.specs.Heap.{slices, In, Pushed}
 use Rattle.heap.proofs.Calls.{heap-other}
 use Rattle.queue.specs.declared.Counts.{Counts}
-use Rattle.queue.specs.Queue.{heaped, Contains, Queue, Inserted}
+use Rattle.queue.specs.Queue.{state, heaped, Contains, Queue, Inserted}
 use Rattle.queue.proofs.Recent.{recent-more, recent-same}
 
 -- an entry of the stack after q is put at its top
@@ -20,7 +20,7 @@ data Entry (stack : List ℕ) (top q i : ℕ) : Type 0 where
   new : i ≡ top → getD (set stack top q) i 0 ≡ q → Entry stack top q i
   old : i < top → getD (set stack top q) i 0 ≡ getD stack i 0 → Entry stack top q i
 
-module _ {keys heap pos stack : List ℕ} {p : ℕ} {c : Counts} {q : ℕ} (x : Queue keys heap pos stack p c) (l : q < p) (out : Contains heap pos stack c q → ⊥) where
+module _ {keys heap pos stack : List ℕ} {p : ℕ} {c : Counts} {q : ℕ} (x : Queue p (state keys heap pos stack c)) (l : q < p) (out : Contains (state keys heap pos stack c) q → ⊥) where
   not-q : (i : ℕ) → i < c .top → getD stack i 0 ≢ q
   not-q i h d = out (Contains.on-stack i h d)
 
@@ -64,7 +64,7 @@ module _ {keys heap pos stack : List ℕ} {p : ℕ} {c : Counts} {q : ℕ} (x : 
     old-key : (k : ℕ) → k ≢ q → getD (set keys q v) k 0 ≡ getD keys k 0
     old-key k ne = getD-set-other keys q k v 0 ne
 
-    stack-queue : v ≡ c .floor → Queue (set keys q v) heap pos entries p pushed
+    stack-queue : v ≡ c .floor → Queue p (state (set keys q v) heap pos entries pushed)
     stack-queue e = record {
       ordered = rw same-heap (heap-other (x .ordered) q v (λ w. out (Contains.in-heap w)));
       top-held = omega (arith, x .top-held);
@@ -94,7 +94,7 @@ module _ {keys heap pos stack : List ℕ} {p : ℕ} {c : Counts} {q : ℕ} (x : 
         apart′ i w (Entry.new a b) = out (Contains.in-heap (rw b at w))
         apart′ i w (Entry.old a b) = x .apart i a (rw b at w)
 
-    pub insert-stack : v ≡ c .floor → Inserted p c q v keys heap pos stack (set keys q v) heap pos entries pushed
+    pub insert-stack : v ≡ c .floor → Inserted p q v (state keys heap pos stack c) (state (set keys q v) heap pos entries pushed)
     insert-stack e = record {
       stored = refl;
       queue = stack-queue e;
@@ -105,20 +105,18 @@ module _ {keys heap pos stack : List ℕ} {p : ℕ} {c : Counts} {q : ℕ} (x : 
       only = only;
       newest = λ d. recent-more stack c pushed q top-fits refl;
       not-recent = λ ne. absurd (ne e);
-      heap-past = refl;
-      pos-past = refl;
-      stack-past = drop-set-lt p stack (c .top) q stack-room;
+      past = record { heap-past = refl; pos-past = refl; stack-past = drop-set-lt p stack (c .top) q stack-room };
     }
       where
-        kept : (k : ℕ) → Contains heap pos stack c k → Contains heap pos entries pushed k
+        kept : (k : ℕ) → Contains (state keys heap pos stack c) k → Contains (state (set keys q v) heap pos entries pushed) k
         kept k (Contains.in-heap w) = Contains.in-heap (still-in w)
         kept k (Contains.on-stack i h d) = Contains.on-stack i (omega arith) (getD-set-other stack (c .top) i q 0 (omega arith) ∙ d)
 
-        from : (k i : ℕ) → getD entries i 0 ≡ k → k ≢ q → Entry stack (c .top) q i → Contains heap pos stack c k
+        from : (k i : ℕ) → getD entries i 0 ≡ k → k ≢ q → Entry stack (c .top) q i → Contains (state keys heap pos stack c) k
         from k i d ne (Entry.new a b) = absurd (ne (sym d ∙ b))
         from k i d ne (Entry.old a b) = Contains.on-stack i a (sym b ∙ d)
 
-        only : (k : ℕ) → Contains heap pos entries pushed k → k ≢ q → Contains heap pos stack c k
+        only : (k : ℕ) → Contains (state (set keys q v) heap pos entries pushed) k → k ≢ q → Contains (state keys heap pos stack c) k
         only k (Contains.in-heap w) ne = Contains.in-heap (was-in w)
         only k (Contains.on-stack i h d) ne = from k i d ne (entry i h)
 
@@ -126,7 +124,7 @@ module _ {keys heap pos stack : List ℕ} {p : ℕ} {c : Counts} {q : ℕ} (x : 
   abbrev added : Counts
   added = record { held = c .held + 1; top = c .top; floor = c .floor }
 
-  module _ {v : ℕ} {keys′ heap′ pos′ : List ℕ} (g : c .floor ≤ v) (ne : v ≢ c .floor) (u : Pushed p (heaped c) q v keys heap pos keys′ heap′ pos′) where
+  module _ {v : ℕ} {keys′ heap′ pos′ : List ℕ} (g : c .floor ≤ v) (ne : v ≢ c .floor) (u : Pushed p (heaped c) q v (slices keys heap pos) (slices keys′ heap′ pos′)) where
     one-more : heaped c + 1 ≡ heaped added
     one-more = omega (arith, x .top-held)
 
@@ -136,7 +134,7 @@ module _ {keys heap pos stack : List ℕ} {p : ℕ} {c : Counts} {q : ℕ} (x : 
     in-before : {k : ℕ} → In heap′ pos′ (heaped added) k → In heap′ pos′ (heaped c + 1) k
     in-before w = rw one-more w
 
-    heap-queue : Queue keys′ heap′ pos′ stack p added
+    heap-queue : Queue p (state keys′ heap′ pos′ stack added)
     heap-queue = record {
       ordered = rw one-more at (u .ordered);
       top-held = omega (arith, x .top-held);
@@ -152,7 +150,7 @@ module _ {keys heap pos stack : List ℕ} {p : ℕ} {c : Counts} {q : ℕ} (x : 
         above k w (yes d) = rw (u .stored, d) (omega (arith, new-key v))
         above k w (no nd) = rw (u .stored) (omega (arith, old-key v k nd, x .above k (u .only k w nd)))
 
-    pub insert-heap : Inserted p c q v keys heap pos stack keys′ heap′ pos′ stack added
+    pub insert-heap : Inserted p q v (state keys heap pos stack c) (state keys′ heap′ pos′ stack added)
     insert-heap = record {
       stored = u .stored;
       queue = heap-queue;
@@ -163,15 +161,13 @@ module _ {keys heap pos stack : List ℕ} {p : ℕ} {c : Counts} {q : ℕ} (x : 
       only = only;
       newest = λ e. absurd (ne e);
       not-recent = λ d. recent-same stack c added refl;
-      heap-past = u .past .heap-past;
-      pos-past = u .past .pos-past;
-      stack-past = refl;
+      past = record { heap-past = u .past .heap-past; pos-past = u .past .pos-past; stack-past = refl };
     }
       where
-        kept : (k : ℕ) → Contains heap pos stack c k → Contains heap′ pos′ stack added k
+        kept : (k : ℕ) → Contains (state keys heap pos stack c) k → Contains (state keys′ heap′ pos′ stack added) k
         kept k (Contains.in-heap w) = Contains.in-heap (now-in (u .kept k w))
         kept k (Contains.on-stack i h d) = Contains.on-stack i h d
 
-        only : (k : ℕ) → Contains heap′ pos′ stack added k → k ≢ q → Contains heap pos stack c k
+        only : (k : ℕ) → Contains (state keys′ heap′ pos′ stack added) k → k ≢ q → Contains (state keys heap pos stack c) k
         only k (Contains.in-heap w) nd = Contains.in-heap (u .only k (in-before w) nd)
         only k (Contains.on-stack i h d) nd = Contains.on-stack i h d

@@ -9,24 +9,24 @@ use native.Mathlib.Omega.{arith}
 use lib.ListN.{length, getD}
 use lib.Seq.{getD-set-same, getD-set-other}
 use Rattle.theory.specs.Counting.{pigeons}
-use Rattle.heap.specs.Heap.{In, Heap, Popped}
+use Rattle.heap.specs.Heap.{slices, In, Heap, Popped}
 use Rattle.heap.specs.Heap as heap-specs
 use Rattle.queue.specs.declared.Counts.{Counts}
-use Rattle.queue.specs.Queue.{heaped, Contains, Queue, recent, Decreased, Taken}
+use Rattle.queue.specs.Queue.{state, heaped, Contains, Queue, recent, Decreased, Taken}
 use Rattle.queue.proofs.Facts.{contains-pair, floor-le}
 use Rattle.queue.proofs.Recent.{recent-last, recent-none}
 
 -- ---- `decrease`: a pair whose key is above the floor is in the heap
-module _ {keys heap pos stack : List ℕ} {p : ℕ} {c : Counts} {q v : ℕ} (x : Queue keys heap pos stack p c) (w : Contains heap pos stack c q) (g : c .floor ≤ v) (less : v < getD keys q 0) where
+module _ {keys heap pos stack : List ℕ} {p : ℕ} {c : Counts} {q v : ℕ} (x : Queue p (state keys heap pos stack c)) (w : Contains (state keys heap pos stack c) q) (g : c .floor ≤ v) (less : v < getD keys q 0) where
   pub in-the-heap : In heap pos (heaped c) q
   in-the-heap = go w
     where
-      go : Contains heap pos stack c q → In heap pos (heaped c) q
+      go : Contains (state keys heap pos stack c) q → In heap pos (heaped c) q
       go (Contains.in-heap i) = i
       go (Contains.on-stack i h d) = absurd (omega (arith, x .level i h, ap (λ (k : ℕ). getD keys k 0) d))
 
-  module _ {keys′ heap′ pos′ : List ℕ} (u : heap-specs.Decreased p (heaped c) q v keys heap pos keys′ heap′ pos′) where
-    lower-queue : Queue keys′ heap′ pos′ stack p c
+  module _ {keys′ heap′ pos′ : List ℕ} (u : heap-specs.Decreased p (heaped c) q v (slices keys heap pos) (slices keys′ heap′ pos′)) where
+    lower-queue : Queue p (state keys′ heap′ pos′ stack c)
     lower-queue = record {
       ordered = u .ordered;
       top-held = x .top-held;
@@ -42,25 +42,24 @@ module _ {keys heap pos stack : List ℕ} {p : ℕ} {c : Counts} {q v : ℕ} (x 
         above k a (yes d) = rw (u .stored, d) (omega (arith, getD-set-same keys q v 0 (omega (arith, contains-pair x w, x .ordered .keys-fit))))
         above k a (no nd) = rw (u .stored) (omega (arith, getD-set-other keys q k v 0 nd, x .above k (u .only k a)))
 
-    pub decrease-done : Decreased p c q v keys heap pos stack keys′ heap′ pos′
+    pub decrease-done : Decreased p q v (state keys heap pos stack c) (state keys′ heap′ pos′ stack c)
     decrease-done = record {
       stored = u .stored;
       queue = lower-queue;
       kept = kept;
       only = only;
-      heap-past = u .past .heap-past;
-      pos-past = u .past .pos-past;
+      past = record { heap-past = u .past .heap-past; pos-past = u .past .pos-past; stack-past = refl };
     }
       where
-        kept : (k : ℕ) → Contains heap pos stack c k → Contains heap′ pos′ stack c k
+        kept : (k : ℕ) → Contains (state keys heap pos stack c) k → Contains (state keys′ heap′ pos′ stack c) k
         kept k (Contains.in-heap i) = Contains.in-heap (u .kept k i)
         kept k (Contains.on-stack i h d) = Contains.on-stack i h d
 
-        only : (k : ℕ) → Contains heap′ pos′ stack c k → Contains heap pos stack c k
+        only : (k : ℕ) → Contains (state keys′ heap′ pos′ stack c) k → Contains (state keys heap pos stack c) k
         only k (Contains.in-heap i) = Contains.in-heap (u .only k i)
         only k (Contains.on-stack i h d) = Contains.on-stack i h d
 
-module _ {keys heap pos stack : List ℕ} {p : ℕ} {c : Counts} (x : Queue keys heap pos stack p c) where
+module _ {keys heap pos stack : List ℕ} {p : ℕ} {c : Counts} (x : Queue p (state keys heap pos stack c)) where
   -- the stack is within its slice
   pub stack-within : c .top ≤ length stack
   stack-within = omega (arith, pigeons p (c .top) (λ (i : ℕ). getD stack i 0) (x .pairs) (x .distinct), x .stack-fits)
@@ -79,29 +78,29 @@ module _ {keys heap pos stack : List ℕ} {p : ℕ} {c : Counts} (x : Queue keys
     level : getD keys r 0 ≡ c .floor
     level = ap (λ (k : ℕ). getD keys k 0) e ∙ x .level (c .top - 1) (omega arith)
 
-    was : Contains heap pos stack c r
+    was : Contains (state keys heap pos stack c) r
     was = Contains.on-stack (c .top - 1) (omega arith) (sym e)
 
-    gone : Contains heap pos stack popped r → ⊥
+    gone : Contains (state keys heap pos stack popped) r → ⊥
     gone (Contains.in-heap w) = x .apart (c .top - 1) (omega arith) (rw e at (was-in w))
     gone (Contains.on-stack i h d) = omega (arith, x .distinct i (c .top - 1) (omega arith) (omega arith) (d ∙ e))
 
-    kept : (k : ℕ) → Contains heap pos stack c k → k ≢ r → Contains heap pos stack popped k
+    kept : (k : ℕ) → Contains (state keys heap pos stack c) k → k ≢ r → Contains (state keys heap pos stack popped) k
     kept k (Contains.in-heap w) ne = Contains.in-heap (rw same-heap w)
     kept k (Contains.on-stack i h d) ne = go (ℕ-discrete i (c .top - 1))
       where
-        go : Dec (i ≡ c .top - 1) → Contains heap pos stack popped k
+        go : Dec (i ≡ c .top - 1) → Contains (state keys heap pos stack popped) k
         go (yes a) = absurd (ne (sym d ∙ ap (λ (j : ℕ). getD stack j 0) a ∙ sym e))
         go (no a) = Contains.on-stack i (omega arith) d
 
-    only : (k : ℕ) → Contains heap pos stack popped k → Contains heap pos stack c k
+    only : (k : ℕ) → Contains (state keys heap pos stack popped) k → Contains (state keys heap pos stack c) k
     only k (Contains.in-heap w) = Contains.in-heap (was-in w)
     only k (Contains.on-stack i h d) = Contains.on-stack i (omega arith) d
 
     list : recent stack c ≡ r ∷ recent stack popped
     list = rw e (recent-last stack c popped (omega arith))
 
-    pub take-stack : Taken p c r keys heap pos stack heap pos popped
+    pub take-stack : Taken p r (state keys heap pos stack c) (state keys heap pos stack popped)
     take-stack = record {
       was = was;
       pair = contains-pair x was;
@@ -124,8 +123,7 @@ module _ {keys heap pos stack : List ℕ} {p : ℕ} {c : Counts} (x : Queue keys
       only = only;
       last-in = λ q rest d. let f : r ∷ recent stack popped ≡ q ∷ rest = sym list ∙ d in ((cc), (cc));
       none-recent = λ d. let f : r ∷ recent stack popped ≡ [] = sym list ∙ d in (cc);
-      heap-past = refl;
-      pos-past = refl;
+      past = record { heap-past = refl; pos-past = refl; stack-past = refl };
     }
 
   -- ---- `take` from the heap, where the stack is empty
@@ -133,10 +131,10 @@ module _ {keys heap pos stack : List ℕ} {p : ℕ} {c : Counts} (x : Queue keys
     all : heaped c ≡ c .held
     all = omega arith
 
-    pub all-heaped : Heap keys heap pos p (c .held)
+    pub all-heaped : Heap (slices keys heap pos) p (c .held)
     all-heaped = rw all at (x .ordered)
 
-  module _ {r : ℕ} {heap′ pos′ : List ℕ} (z : c .top ≤ 0) (u : Popped p (c .held) r keys heap pos heap′ pos′) where
+  module _ {r : ℕ} {heap′ pos′ : List ℕ} (z : c .top ≤ 0) (u : Popped p (c .held) r (slices keys heap pos) (slices keys heap′ pos′)) where
     abbrev left : Counts
     left = record { held = c .held - 1; top = 0; floor = getD keys r 0 }
 
@@ -146,26 +144,26 @@ module _ {keys heap pos stack : List ℕ} {p : ℕ} {c : Counts} (x : Queue keys
     was-in′ : {k : ℕ} → In heap′ pos′ (heaped left) k → In heap pos (c .held) k
     was-in′ {k} w = u .only k (rw others at w)
 
-    kept′ : (k : ℕ) → Contains heap pos stack c k → k ≢ r → Contains heap′ pos′ stack left k
+    kept′ : (k : ℕ) → Contains (state keys heap pos stack c) k → k ≢ r → Contains (state keys heap′ pos′ stack left) k
     kept′ k (Contains.in-heap w) ne = Contains.in-heap (rw others (u .kept k (rw (all z) at w) ne))
     kept′ k (Contains.on-stack i h d) ne = absurd (omega arith)
 
-    only′ : (k : ℕ) → Contains heap′ pos′ stack left k → Contains heap pos stack c k
+    only′ : (k : ℕ) → Contains (state keys heap′ pos′ stack left) k → Contains (state keys heap pos stack c) k
     only′ k (Contains.in-heap w) = Contains.in-heap (rw (all z) (was-in′ w))
     only′ k (Contains.on-stack i h d) = absurd (omega arith)
 
-    gone′ : Contains heap′ pos′ stack left r → ⊥
+    gone′ : Contains (state keys heap′ pos′ stack left) r → ⊥
     gone′ (Contains.in-heap w) = u .gone (rw others at w)
     gone′ (Contains.on-stack i h d) = omega arith
 
-    least : (k : ℕ) → Contains heap pos stack c k → getD keys r 0 ≤ getD keys k 0
+    least : (k : ℕ) → Contains (state keys heap pos stack c) k → getD keys r 0 ≤ getD keys k 0
     least k (Contains.in-heap w) = u .least k (rw (all z) at w)
     least k (Contains.on-stack i h d) = absurd (omega arith)
 
     none : recent stack c ≡ []
     none = recent-none stack c (omega arith)
 
-    pub take-heap : 0 < c .held → Taken p c r keys heap pos stack heap′ pos′ left
+    pub take-heap : 0 < c .held → Taken p r (state keys heap pos stack c) (state keys heap′ pos′ stack left)
     take-heap y = record {
       was = Contains.in-heap (rw (all z) (u .was));
       pair = u .pair;
@@ -188,6 +186,5 @@ module _ {keys heap pos stack : List ℕ} {p : ℕ} {c : Counts} (x : Queue keys
       only = only′;
       last-in = λ q rest d. let f : [] ≡ q ∷ rest = sym none ∙ d in ((cc), (cc));
       none-recent = λ d. recent-none stack left refl;
-      heap-past = u .past .heap-past;
-      pos-past = u .past .pos-past;
+      past = record { heap-past = u .past .heap-past; pos-past = u .past .pos-past; stack-past = refl };
     }

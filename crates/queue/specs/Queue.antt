@@ -6,29 +6,40 @@ use mathlib.Core.Path.{_≡_}
 use mathlib.Core.Logic.{_≢_}
 use mathlib.Core.List.{List, [], _∷_}
 use lib.ListN.{length, getD, set, drop}
-use Rattle.heap.specs.Heap.{In, Heap}
+use Rattle.heap.specs.Heap.{slices, In, Heap}
 use Rattle.theory.specs.Counting.{Distinct}
 use Rattle.queue.specs.declared.Counts.{Counts}
+
+-- the slices that hold a queue, and its counts
+pub record State : Type 0 where
+  pub keys : List ℕ
+  pub heap : List ℕ
+  pub pos : List ℕ
+  pub stack : List ℕ
+  pub counts : Counts
+
+abbrev pub state : List ℕ → List ℕ → List ℕ → List ℕ → Counts → State
+state keys heap pos stack c = record { keys = keys; heap = heap; pos = pos; stack = stack; counts = c }
 
 -- how many of the pairs are in the heap; the others are on the stack
 abbrev pub heaped : Counts → ℕ
 heaped c = c .held - c .top
 
 -- pair q is in the queue
-pub data Contains (heap pos stack : List ℕ) (c : Counts) (q : ℕ) : Type 0 where
-  in-heap : In heap pos (heaped c) q → Contains heap pos stack c q
-  on-stack : (i : ℕ) → i < c .top → getD stack i 0 ≡ q → Contains heap pos stack c q
+pub data Contains (x : State) (q : ℕ) : Type 0 where
+  in-heap : In (x .heap) (x .pos) (heaped (x .counts)) q → Contains x q
+  on-stack : (i : ℕ) → i < x .counts .top → getD (x .stack) i 0 ≡ q → Contains x q
 
 -- the pairs on the stack are distinct, have the key `floor` and are not in the heap, where no key is below `floor`
-pub record Queue (keys heap pos stack : List ℕ) (p : ℕ) (c : Counts) : Type 0 where
-  pub ordered : Heap keys heap pos p (heaped c)
-  pub top-held : c .top ≤ c .held
-  pub stack-fits : p ≤ length stack
-  pub pairs : (i : ℕ) → i < c .top → getD stack i 0 < p
-  pub distinct : Distinct (λ (i : ℕ). getD stack i 0) (c .top)
-  pub level : (i : ℕ) → i < c .top → getD keys (getD stack i 0) 0 ≡ c .floor
-  pub apart : (i : ℕ) → i < c .top → In heap pos (heaped c) (getD stack i 0) → ⊥
-  pub above : (q : ℕ) → In heap pos (heaped c) q → c .floor ≤ getD keys q 0
+pub record Queue (p : ℕ) (x : State) : Type 0 where
+  pub ordered : Heap (slices (x .keys) (x .heap) (x .pos)) p (heaped (x .counts))
+  pub top-held : x .counts .top ≤ x .counts .held
+  pub stack-fits : p ≤ length (x .stack)
+  pub pairs : (i : ℕ) → i < x .counts .top → getD (x .stack) i 0 < p
+  pub distinct : Distinct (λ (i : ℕ). getD (x .stack) i 0) (x .counts .top)
+  pub level : (i : ℕ) → i < x .counts .top → getD (x .keys) (getD (x .stack) i 0) 0 ≡ x .counts .floor
+  pub apart : (i : ℕ) → i < x .counts .top → In (x .heap) (x .pos) (heaped (x .counts)) (getD (x .stack) i 0) → ⊥
+  pub above : (q : ℕ) → In (x .heap) (x .pos) (heaped (x .counts)) q → x .counts .floor ≤ getD (x .keys) q 0
 
 -- the first n entries, last one first
 unfoldable pub backwards : List ℕ → ℕ → List ℕ
@@ -39,6 +50,12 @@ backwards stack (suc n) = getD stack n 0 ∷ backwards stack n
 unfoldable pub recent : List ℕ → Counts → List ℕ
 recent stack c = backwards stack (c .top)
 
+-- nothing from p on has changed
+pub record Past (p : ℕ) (x x′ : State) : Type 0 where
+  pub heap-past : drop p (x′ .heap) ≡ drop p (x .heap)
+  pub pos-past : drop p (x′ .pos) ≡ drop p (x .pos)
+  pub stack-past : drop p (x′ .stack) ≡ drop p (x .stack)
+
 -- what `empty` gives
 pub record Empty (c : Counts) : Type 0 where
   pub none-held : c .held ≡ 0
@@ -46,42 +63,38 @@ pub record Empty (c : Counts) : Type 0 where
   pub floor-zero : c .floor ≡ 0
 
 -- what `insert` leaves: the same pairs and q, which has the key v
-pub record Inserted (p : ℕ) (c : Counts) (q v : ℕ) (keys heap pos stack keys′ heap′ pos′ stack′ : List ℕ) (c′ : Counts) : Type 0 where
-  pub stored : keys′ ≡ set keys q v
-  pub queue : Queue keys′ heap′ pos′ stack′ p c′
-  pub one-more : c′ .held ≡ c .held + 1
-  pub same-floor : c′ .floor ≡ c .floor
-  pub here : Contains heap′ pos′ stack′ c′ q
-  pub kept : (k : ℕ) → Contains heap pos stack c k → Contains heap′ pos′ stack′ c′ k
-  pub only : (k : ℕ) → Contains heap′ pos′ stack′ c′ k → k ≢ q → Contains heap pos stack c k
-  pub newest : v ≡ c .floor → recent stack′ c′ ≡ q ∷ recent stack c
-  pub not-recent : v ≢ c .floor → recent stack′ c′ ≡ recent stack c
-  pub heap-past : drop p heap′ ≡ drop p heap
-  pub pos-past : drop p pos′ ≡ drop p pos
-  pub stack-past : drop p stack′ ≡ drop p stack
+pub record Inserted (p q v : ℕ) (x x′ : State) : Type 0 where
+  pub stored : x′ .keys ≡ set (x .keys) q v
+  pub queue : Queue p x′
+  pub one-more : x′ .counts .held ≡ x .counts .held + 1
+  pub same-floor : x′ .counts .floor ≡ x .counts .floor
+  pub here : Contains x′ q
+  pub kept : (k : ℕ) → Contains x k → Contains x′ k
+  pub only : (k : ℕ) → Contains x′ k → k ≢ q → Contains x k
+  pub newest : v ≡ x .counts .floor → recent (x′ .stack) (x′ .counts) ≡ q ∷ recent (x .stack) (x .counts)
+  pub not-recent : v ≢ x .counts .floor → recent (x′ .stack) (x′ .counts) ≡ recent (x .stack) (x .counts)
+  pub past : Past p x x′
 
 -- what `decrease` leaves: the same pairs, of which q has the key v; the counts and the stack stay
-pub record Decreased (p : ℕ) (c : Counts) (q v : ℕ) (keys heap pos stack keys′ heap′ pos′ : List ℕ) : Type 0 where
-  pub stored : keys′ ≡ set keys q v
-  pub queue : Queue keys′ heap′ pos′ stack p c
-  pub kept : (k : ℕ) → Contains heap pos stack c k → Contains heap′ pos′ stack c k
-  pub only : (k : ℕ) → Contains heap′ pos′ stack c k → Contains heap pos stack c k
-  pub heap-past : drop p heap′ ≡ drop p heap
-  pub pos-past : drop p pos′ ≡ drop p pos
+pub record Decreased (p q v : ℕ) (x x′ : State) : Type 0 where
+  pub stored : x′ .keys ≡ set (x .keys) q v
+  pub queue : Queue p x′
+  pub kept : (k : ℕ) → Contains x k → Contains x′ k
+  pub only : (k : ℕ) → Contains x′ k → Contains x k
+  pub past : Past p x x′
 
--- what `take` leaves: the same pairs without r, which had the least key; of recent ones r is the last in
-pub record Taken (p : ℕ) (c : Counts) (r : ℕ) (keys heap pos stack heap′ pos′ : List ℕ) (c′ : Counts) : Type 0 where
-  pub was : Contains heap pos stack c r
+-- what `take` leaves: the same pairs without r, which had the least key; of recent ones r is the last in; the keys and the stack stay
+pub record Taken (p r : ℕ) (x x′ : State) : Type 0 where
+  pub was : Contains x r
   pub pair : r < p
-  pub least : (k : ℕ) → Contains heap pos stack c k → getD keys r 0 ≤ getD keys k 0
-  pub queue : Queue keys heap′ pos′ stack p c′
-  pub one-fewer : c′ .held + 1 ≡ c .held
-  pub new-floor : c′ .floor ≡ getD keys r 0
-  pub rises : c .floor ≤ c′ .floor
-  pub gone : Contains heap′ pos′ stack c′ r → ⊥
-  pub kept : (k : ℕ) → Contains heap pos stack c k → k ≢ r → Contains heap′ pos′ stack c′ k
-  pub only : (k : ℕ) → Contains heap′ pos′ stack c′ k → Contains heap pos stack c k
-  pub last-in : (q : ℕ) (rest : List ℕ) → recent stack c ≡ q ∷ rest → (r ≡ q) × (recent stack c′ ≡ rest)
-  pub none-recent : recent stack c ≡ [] → recent stack c′ ≡ []
-  pub heap-past : drop p heap′ ≡ drop p heap
-  pub pos-past : drop p pos′ ≡ drop p pos
+  pub least : (k : ℕ) → Contains x k → getD (x .keys) r 0 ≤ getD (x .keys) k 0
+  pub queue : Queue p x′
+  pub one-fewer : x′ .counts .held + 1 ≡ x .counts .held
+  pub new-floor : x′ .counts .floor ≡ getD (x .keys) r 0
+  pub rises : x .counts .floor ≤ x′ .counts .floor
+  pub gone : Contains x′ r → ⊥
+  pub kept : (k : ℕ) → Contains x k → k ≢ r → Contains x′ k
+  pub only : (k : ℕ) → Contains x′ k → Contains x k
+  pub last-in : (q : ℕ) (rest : List ℕ) → recent (x .stack) (x .counts) ≡ q ∷ rest → (r ≡ q) × (recent (x′ .stack) (x′ .counts) ≡ rest)
+  pub none-recent : recent (x .stack) (x .counts) ≡ [] → recent (x′ .stack) (x′ .counts) ≡ []
+  pub past : Past p x x′

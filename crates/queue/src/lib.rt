@@ -3,7 +3,7 @@
 // lent with any content, and nothing from p on is touched.
 ghost use Prim.Native.Nat.{_≤_, _<_};
 ghost use lib.ListN.{getD};
-ghost use Rattle.queue.specs.Queue.{Contains, Queue, Empty, Inserted, Decreased, Taken};
+ghost use Rattle.queue.specs.Queue.{state, Contains, Queue, Empty, Inserted, Decreased, Taken};
 use convert::wide;
 
 // How many pairs the queue holds, how many of them are on the stack, and the key last taken, 0 before the first.
@@ -41,9 +41,16 @@ pub fn insert(
     q: usize,
     v: u32,
 ) -> Counts
-    requires { ⌜ Queue (now keys) (now heap) (now pos) (now stack) p counts ⌝ }
-    requires { ⌜ (q < p) × (counts .floor ≤ v) × (Contains (now heap) (now pos) (now stack) counts q → ⊥) ⌝ }
-    ensures { λ r. ⌜ Inserted p counts q v (now (keys .entry)) (now (heap .entry)) (now (pos .entry)) (now (stack .entry)) (now (keys .exit)) (now (heap .exit)) (now (pos .exit)) (now (stack .exit)) r ⌝ }
+    requires { ⌜ Queue p (state (now keys) (now heap) (now pos) (now stack) counts) ⌝ }
+    requires { ⌜
+        (let before = state (now keys) (now heap) (now pos) (now stack) counts in
+        (q < p) × (counts .floor ≤ v) × (Contains before q → ⊥))
+        ⌝ }
+    ensures { λ r. ⌜
+        (let before = state (now (keys .entry)) (now (heap .entry)) (now (pos .entry)) (now (stack .entry)) counts in
+        let after = state (now (keys .exit)) (now (heap .exit)) (now (pos .exit)) (now (stack .exit)) r in
+        Inserted p q v before after)
+        ⌝ }
 {
     let held = counts.held;
     let top = counts.top;
@@ -76,9 +83,16 @@ pub fn decrease(
     q: usize,
     v: u32,
 )
-    requires { ⌜ Queue (now keys) (now heap) (now pos) (now stack) p counts ⌝ }
-    requires { ⌜ Contains (now heap) (now pos) (now stack) counts q × (counts .floor ≤ v) × (v < getD (now keys) q 0) ⌝ }
-    ensures { λ _. ⌜ Decreased p counts q v (now (keys .entry)) (now (heap .entry)) (now (pos .entry)) (now (stack .entry)) (now (keys .exit)) (now (heap .exit)) (now (pos .exit)) ⌝ }
+    requires { ⌜ Queue p (state (now keys) (now heap) (now pos) (now stack) counts) ⌝ }
+    requires { ⌜
+        (let before = state (now keys) (now heap) (now pos) (now stack) counts in
+        Contains before q × (counts .floor ≤ v) × (v < getD (now keys) q 0))
+        ⌝ }
+    ensures { λ _. ⌜
+        (let before = state (now (keys .entry)) (now (heap .entry)) (now (pos .entry)) (now (stack .entry)) counts in
+        let after = state (now (keys .exit)) (now (heap .exit)) (now (pos .exit)) (now (stack .entry)) counts in
+        Decreased p q v before after)
+        ⌝ }
 {
     let held = counts.held;
     let top = counts.top;
@@ -94,9 +108,13 @@ pub fn take(
     p: usize,
     counts: Counts,
 ) -> Next
-    requires { ⌜ Queue (now keys) (now heap) (now pos) (now stack) p counts ⌝ }
+    requires { ⌜ Queue p (state (now keys) (now heap) (now pos) (now stack) counts) ⌝ }
     requires { ⌜ 0 < counts .held ⌝ }
-    ensures { λ r. ⌜ Taken p counts (r .pair) (now (keys .entry)) (now (heap .entry)) (now (pos .entry)) (now (stack .entry)) (now (heap .exit)) (now (pos .exit)) (r .counts) ⌝ }
+    ensures { λ r. ⌜
+        (let before = state (now (keys .entry)) (now (heap .entry)) (now (pos .entry)) (now (stack .entry)) counts in
+        let after = state (now (keys .entry)) (now (heap .exit)) (now (pos .exit)) (now (stack .entry)) (r .counts) in
+        Taken p (r .pair) before after)
+        ⌝ }
 {
     let held = counts.held;
     let top = counts.top;

@@ -9,12 +9,12 @@ pub fn row_starts(stages: usize, width: usize) -> [u32; 256]
     ensures { λ r. ⌜ r ≡ rowStarts stages width ⌝ }
 {
     let mut row = [0u32; 256];
-    let step = width as u32;
+    let gap = width as u32;
     let mut at: u32 = 0;
     let mut s: usize = 0;
     while s < stages {
         row[s] = at;
-        at += step;
+        at += gap;
         s += 1;
     }
     row

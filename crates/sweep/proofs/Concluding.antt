@@ -1,43 +1,46 @@
--- Laws of `conclude`: the finished tables give the promised answer and plan.
+-- Laws of `conclude`: the cheapest goal pair of the end stage's row is that of a cheapest legal plan, and its trail is such a plan.
 -- Assumes nothing.
-use Prim.Native.Nat.{ℕ, _+_, _-_, _*_, _≤_, _<_}
-use mathlib.Core.Path.{_≡_, sym, _∙_, ap, subst₂}
-use mathlib.Core.Bool.{Bool, false}
+use Prim.Native.Nat.{ℕ, _+_, _*_, _≤_, _<_}
+use mathlib.Core.Path.{_≡_, refl, sym, _∙_, ap, ap₂, subst}
+use mathlib.Core.Bool.{Bool, true, false}
 use mathlib.Core.List.{List, _++_}
+use mathlib.Core.Option.{Option, none, some}
 use native.Mathlib.Omega.{arith}
-use lib.ListN.{length, getD, drop}
+use lib.ListN.{length, getD, take, drop, length-append, length-drop}
+use lib.Seq.{take-append-seam, drop-append-seam}
 use Rattle.definitions.specs.Charts.{Chart}
 use Rattle.definitions.specs.Diagrams.{Diagram, size}
-use Rattle.definitions.specs.Ways.{Graph}
-use Rattle.definitions.specs.Pairs.{Automaton, reachedPairs, pairs}
+use Rattle.definitions.specs.Ways.{Graph, wayCost}
+use Rattle.definitions.specs.Pairs.{Automaton, leastCost}
+use Rattle.definitions.specs.Plans.{Legal, cheapest}
 use Rattle.definitions.specs.Answers.{refusal, accepted}
+use Rattle.definitions.specs.Promises.{shown}
 use Rattle.definitions.specs.declared.Answer.{Answer}
-use Rattle.theory.specs.Pairs.{Lawful}
-use Rattle.trace.specs.Trails.{Trail, Traceable}
+use Rattle.definitions.specs.declared.Shape.{Shape}
+use Rattle.theory.specs.Limits.{Valid, Ordered}
+use Rattle.theory.specs.Pairs.{Lawful, way-inside, cost-attained, cost-reached, is-goal, goal-parts, pair-inside}
+use Rattle.theory.specs.Plans.{GoalCost, cheapest-some, cheapest-none, goal-legal}
+use Rattle.diagram.specs.Held.{length-held}
 use Rattle.nodes.specs.Walks.{Falls, Finishing}
 use Rattle.nodes.specs.Falling.{lo-falls}
-use Rattle.diagram.specs.Held.{length-held}
-use Rattle.sweep_model.specs.Model.{unreached, Rows, rows, countAt, swept}
+use Rattle.rows.specs.Rows.{row-at}
+use Rattle.trace.specs.Trails.{Trail, Traceable}
+use Rattle.sweep_model.specs.Model.{unreached, Rows, costAt, nodeAt, countAt}
+use Rattle.sweep_model.specs.Rows.{Table, count-fits}
 use Rattle.sweep_model.specs.Totals.{total}
-use Rattle.sweep_model.specs.Sweeps.{FirstSteps}
-use Rattle.sweep_model.specs.Result.{final-table, final-count}
-use Rattle.checks.specs.Tables.{Read, Tables, chartIn, diagramIn}
-use Rattle.checks.specs.Ready.{Walk, walk, Ready, graphIn, automatonIn, count-is, width-is, sound-in, few-stages, few-nodes, from-at, row-start, lawful-in}
-use Rattle.definitions.specs.declared.Shape.{Shape}
+use Rattle.sweep_model.specs.Paths.{Traced, traced}
+use Rattle.checks.specs.Tables.{Read, chartIn, diagramIn}
+use Rattle.checks.specs.Ready.{graphIn, automatonIn, count-is, width-is, few-stages, few-nodes, from-at, lawful-in}
+use Rattle.sweep_rows.specs.Standing.{at}
 use Rattle.sweep.specs.Goals.{Listed, Chosen}
-use Rattle.sweep.specs.Conclusion.{goals-listed, best-inside, best-steps, best-trail, best-short, best-planned, none-planned}
 use Rattle.sweep.specs.Runs.{Final, Concludes}
 use Rattle.sweep.specs.declared.goals.Best.{Best}
-use Rattle.sweep_rows.specs.Standing.{at}
-use Rattle.sweep_rows.specs.Leaving.{first-steps}
 
-module _ {z : Shape} {t : Read} {row : List ℕ} {o : Rows} (f : Final z t row o) where
-  abbrev on : Walk
-  on = walk t (f .first) row
+shown-some : (o : Option ℕ) (m : ℕ) → m ≡ shown o → m < unreached → o ≡ some m
+shown-some none m e h = absurd (omega arith)
+shown-some (some x) m e h = ap (λ (k : ℕ). some k) (sym e)
 
-  abbrev from : List ℕ
-  from = t .steps .from
-
+module _ {z : Shape} {t : Read} {row : List ℕ} {r : Rows} (f : Final z t row r) where
   abbrev c : Chart
   c = chartIn z t
 
@@ -50,112 +53,137 @@ module _ {z : Shape} {t : Read} {row : List ℕ} {o : Rows} (f : Final z t row o
   abbrev a : Automaton
   a = automatonIn z t
 
-  abbrev y : Ready z on
-  y = f .ready
+  abbrev end : ℕ
+  end = z .end .0
 
-  abbrev tb : Tables z t
-  tb = y .tables
+  abbrev valid : Valid g
+  valid = f .tables .valid
 
-  abbrev F : FirstSteps g (at (f .first))
-  F = first-steps z on y
+  abbrev ordered : Ordered d
+  ordered = f .tables .sound .ordered
 
-  abbrev r : Rows
-  r = swept g a (at (f .first)) (f .before)
+  abbrev l : Lawful g a
+  l = lawful-in z t (f .tables)
 
-  costs-is : o .cost ≡ r .cost
-  costs-is = ap (λ (x : Rows). x .cost) (f .swept-rows)
+  abbrev table : Table g a (g .stages) r
+  table = f .finished .table
 
-  via-is : o .via ≡ r .via
-  via-is = ap (λ (x : Rows). x .via) (f .swept-rows)
-
-  nodes-is : o .nodes ≡ r .nodes
-  nodes-is = ap (λ (x : Rows). x .nodes) (f .swept-rows)
-
-  counts-is : o .counts ≡ r .counts
-  counts-is = ap (λ (x : Rows). x .counts) (f .swept-rows)
+  abbrev size-is : a .size ≡ z .nodes + 2
+  size-is = width-is z t (f .tables)
 
   pub end-falls : Falls (t .inner .lo) (z .nodes + 1)
-  end-falls = lo-falls d (t .inner .step) (t .inner .lo) (t .inner .hi) (tb .held) (z .nodes + 1) (omega (arith, length-held (z .nodes) (t .inner .step) (t .inner .lo) (t .inner .hi)))
+  end-falls = lo-falls d (t .inner .step) (t .inner .lo) (t .inner .hi) (f .tables .held) (z .nodes + 1) (omega (arith, length-held (z .nodes) (t .inner .step) (t .inner .lo) (t .inner .hi)))
 
-  module _ {base listed : ℕ} (eb : base ≡ getD row (z .end .0) 0) (el : listed ≡ getD (o .counts) (z .end .0) 0) where
-    base-is : base ≡ z .end .0 * a .size
-    base-is = eb ∙ row-start z on y (z .end .0) (tb .valid .end-inside) ∙ ap (λ (w : ℕ). z .end .0 * w) (sym (width-is z t tb))
+  -- the end stage's row starts at `base`, and so many of its nodes are listed
+  module _ {base listed : ℕ} (eb : base ≡ getD row end 0) (el : listed ≡ countAt r end) where
+    base-is : base ≡ end * a .size
+    base-is =
+        eb ∙ ap (λ (x : List ℕ). getD x end 0) (f .rows-are) ∙ row-at (z .stages) (z .nodes + 2) end (few-stages z t (f .tables)) (valid .end-inside)
+        ∙ ap (λ (w : ℕ). end * w) (sym size-is)
 
-    listed-is : listed ≡ countAt r (z .end .0)
-    listed-is = el ∙ ap (λ (l : List ℕ). getD l (z .end .0) 0) counts-is
+    node-is : (k : ℕ) → getD (r .nodes) (base + k) 0 ≡ nodeAt (a .size) r end k
+    node-is k = ap (λ (i : ℕ). getD (r .nodes) (i + k) 0) base-is
 
-    pub end-listed : Listed base listed (o .cost) (o .nodes)
-    end-listed = subst₂ (λ (x w : List ℕ). Listed base listed x w) (sym costs-is) (sym nodes-is) (goals-listed c d (tb .valid) (sound-in z t tb) (at (f .first)) F (f .before) (f .fresh) base listed base-is listed-is)
+    pub end-listed : Listed base listed (r .cost) (r .nodes)
+    end-listed = record {
+      place = λ k h.
+          let few = count-fits g a (g .stages) r table end (valid .end-inside) in
+          omega (arith, base-is, table .nodes-fits, pair-inside g a end k (valid .end-inside) (omega arith));
+      small = λ k h. omega (arith, node-is k, table .lists end k (valid .end-inside) (omega arith), size-is, few-nodes z t (f .tables));
+      pair = λ k h.
+          let inside = table .lists end k (valid .end-inside) (omega arith) .0 in
+          omega (arith, base-is, node-is k, table .cost-fits, pair-inside g a end (nodeAt (a .size) r end k) (valid .end-inside) inside);
+    }
 
-    module _ {goals : List Bool} (fin : Finishing (t .inner .lo) (z .nodes) goals) {best : Best} (ch : Chosen base listed (o .cost) (o .nodes) goals best) {count : ℕ} (en : count ≡ total (at (o .counts)) (z .stages)) where
-      accepted-is : (n : ℕ) → n < size d → getD goals n false ≡ a .accepts n
-      accepted-is n h = fin .is d (t .inner .step) (t .inner .hi) (tb .held) (omega (arith, length-held (z .nodes) (t .inner .step) (t .inner .lo) (t .inner .hi))) n h
+    -- the best of the row's goal pairs
+    module _ {goals : List Bool} (fin : Finishing (t .inner .lo) (z .nodes) goals) {best : Best} (ch : Chosen base listed (r .cost) (r .nodes) goals best) where
+      goal-is : (n : ℕ) → n < size d → getD goals n false ≡ a .accepts n
+      goal-is n h = fin .is d (t .inner .step) (t .inner .hi) (f .tables .held) (omega (arith, length-held (z .nodes) (t .inner .step) (t .inner .lo) (t .inner .hi))) n h
 
-      chosen : Chosen base listed (r .cost) (r .nodes) goals best
-      chosen = subst₂ (λ (x w : List ℕ). Chosen base listed x w goals best) costs-is nodes-is ch
+      -- no goal pair is cheaper than it
+      low : (k : ℕ) → GoalCost g a k → best .cost ≤ k
+      low k x =
+          let n = x .0 in
+          let accepts = goal-parts g a end n (x .1) .2 in
+          let inside = way-inside g a valid l end n k (cost-attained g a end n k (x .2)) .1 in
+          let cost : costAt (a .size) r end n ≡ k = f .finished .cost-is end n (valid .end-inside) inside ∙ ap shown (x .2) in
+          let j = table .listed end n (valid .end-inside) inside (omega (arith, way-inside g a valid l end n k (cost-attained g a end n k (x .2)))) in
+          let node : getD (r .nodes) (base + j .0) 0 ≡ n = node-is (j .0) ∙ j .2 in
+          let yes′ : getD goals (getD (r .nodes) (base + j .0) 0) false ≡ true = ap (λ (m : ℕ). getD goals m false) node ∙ goal-is n inside ∙ accepts in
+          let here : getD (r .cost) (base + getD (r .nodes) (base + j .0) 0) 0 ≡ k = ap₂ (λ (b m : ℕ). getD (r .cost) (b + m) 0) base-is node ∙ cost in
+          omega (arith, ch .least (j .0) (omega (arith, j .1)) yes′)
 
-      count-is′ : count ≡ length (reachedPairs g a)
-      count-is′ =
-          en ∙ ap (λ (l : List ℕ). total (at l) (z .stages)) counts-is
-          ∙ final-count g a (tb .valid) (lawful′) (f .before) (f .fresh) (at (f .first)) F
-        where
-          lawful′ : Lawful g a
-          lawful′ = lawful-in z t tb
+      none-found : best .cost ≡ unreached → cheapest c d ≡ none
+      none-found h =
+          cheapest-none c d valid ordered
+          (λ k x. omega (arith, low k x, way-inside g a valid l end (x .0) k (cost-attained g a end (x .0) k (x .2))))
 
-      pub concludes-none : {plan : List ℕ} {ans : Answer} → best .cost ≡ unreached → ans ≡ refusal 8 0 0 count → Concludes z t plan plan ans
-      concludes-none {plan} {ans} h e = record {
-        outcome = none-planned c d (tb .valid) (sound-in z t tb) (at (f .first)) F (f .before) (f .fresh) base listed base-is listed-is goals accepted-is best chosen
-            (length (reachedPairs g a)) plan ans h (e ∙ ap (λ (k : ℕ). refusal 8 0 0 k) count-is′);
-      }
+      pub concludes-none : {count : ℕ} {plan : List ℕ} {ans : Answer} → count ≡ total (at (r .counts)) (z .stages) → best .cost ≡ unreached → ans ≡ refusal 8 0 0 count
+          → Concludes z t plan plan ans
+      concludes-none en h e = record { outcome = rw (none-found h) (e ∙ ap (λ (k : ℕ). refusal 8 0 0 k) (en ∙ f .finished .count-is), refl) }
 
       module _ (h : best .cost < unreached) where
-        froms : (e : ℕ) → e < g .count → getD from e 0 ≡ g .from e
-        froms e i = from-at z t tb e (omega (arith, count-is z t tb))
+        abbrev node : ℕ
+        node = best .node .0
 
-        steps : List ℕ
-        steps = best-steps c d (tb .valid) (sound-in z t tb) (at (f .first)) F (f .before) (f .fresh) base listed base-is listed-is goals accepted-is best chosen h from froms
+        found : (k : ℕ) × (k < listed) × (getD (r .nodes) (base + k) 0 ≡ node) × (getD goals node false ≡ true) × (getD (r .cost) (base + node) 0 ≡ best .cost)
+        found = ch .one h
 
-        trail : Trail (o .via) from (z .nodes + 2) (z .start .0) (z .end .0) (best .node .0) steps
-        unfolding steps
-        trail =
-            subst₂ (λ (x : List ℕ) (w : ℕ). Trail x from w (z .start .0) (z .end .0) (best .node .0) steps) (sym via-is) (width-is z t tb)
-            (best-trail c d (tb .valid) (sound-in z t tb) (at (f .first)) F (f .before) (f .fresh) base listed base-is listed-is goals accepted-is best chosen h from froms)
+        inside : node < a .size
+        inside = omega (arith, table .lists end (found .0) (valid .end-inside) (omega (arith, found .1)), found .2, node-is (found .0))
 
-        fits : pairs g a ≤ length (o .via)
-        fits = omega (arith, final-table g a (tb .valid) (lawful-in z t tb) (f .before) (f .fresh) (at (f .first)) F .via-fits, ap length via-is)
+        accepts : a .accepts node ≡ true
+        accepts = sym (goal-is node inside) ∙ found .3
 
-        pub end-traceable : Traceable (o .via) from row (z .start .0) (z .end .0) (best .node .0)
+        best-cost : costAt (a .size) r end node ≡ best .cost
+        best-cost = ap (λ (b : ℕ). getD (r .cost) (b + node) 0) (sym base-is) ∙ found .4
+
+        least-is : leastCost g a end node ≡ some (best .cost)
+        least-is = shown-some _ (best .cost) (sym best-cost ∙ f .finished .cost-is end node (valid .end-inside) inside) h
+
+        some-found : cheapest c d ≡ some (best .cost)
+        some-found = cheapest-some c d valid ordered node (best .cost) (is-goal g a node (cost-reached g a end node (best .cost) least-is) accepts) least-is low
+
+        abbrev from : List ℕ
+        from = t .steps .from
+
+        best-traced : Traced g a (r .via) from end node (best .cost)
+        best-traced =
+            subst (Traced g a (r .via) from end node) best-cost
+            (traced g a valid (g .stages) r table from (λ e i. from-at z t (f .tables) e (omega (arith, count-is z t (f .tables)))) end node (valid .end-inside) inside (omega (arith, best-cost)))
+
+        pub end-traceable : Traceable (r .via) from row (z .start .0) end node
         end-traceable = record {
           stages = z .stages;
           width = z .nodes + 2;
-          rows = y .rows;
-          few = few-stages z t tb;
-          narrow = omega (arith, few-nodes z t tb);
-          fits = omega (arith, fits, ap (λ (w : ℕ). z .stages * w) (width-is z t tb));
-          stage = tb .valid .end-inside;
-          node = omega (
-            arith,
-            width-is z t tb,
-            best-inside c d (tb .valid) (sound-in z t tb) (at (f .first)) F (f .before) (f .fresh) base listed base-is listed-is goals accepted-is best chosen h,
-          );
-          steps = steps;
-          trail = trail;
+          rows = f .rows-are;
+          few = few-stages z t (f .tables);
+          narrow = omega (arith, few-nodes z t (f .tables));
+          fits = omega (arith, table .via-fits, ap (λ (w : ℕ). z .stages * w) size-is);
+          stage = valid .end-inside;
+          node = omega (arith, size-is, inside);
+          steps = best-traced .way .steps;
+          trail = subst (λ (w : ℕ). Trail (r .via) from w (z .start .0) end node (best-traced .way .steps)) size-is (best-traced .trail);
         }
 
-        module _ {l : ℕ} (long : l ≡ length (end-traceable .steps)) where
-          short : length steps ≤ z .stages - 1
-          unfolding steps end-traceable
-          short = best-short c d (tb .valid) (sound-in z t tb) (at (f .first)) F (f .before) (f .fresh) base listed base-is listed-is goals accepted-is best chosen h from froms
-
-          pub end-fits : (plan : List ℕ) → z .stages - 1 ≤ length plan → l ≤ length plan
-          unfolding end-traceable
-          end-fits plan p = omega (arith, long, short)
-
-          pub concludes-some : {plan plan′ : List ℕ} {ans : Answer} → z .stages - 1 ≤ length plan
-              → plan′ ≡ end-traceable .steps ++ drop l plan → length plan′ ≡ length plan
-              → ans ≡ accepted (best .cost) l count → Concludes z t plan plan′ ans
-          unfolding steps end-traceable
-          concludes-some {plan} {plan′} {ans} p w k e = record {
-            outcome = best-planned c d (tb .valid) (sound-in z t tb) (at (f .first)) F (f .before) (f .fresh) base listed base-is listed-is goals accepted-is best chosen h from froms
-                (length (reachedPairs g a)) l plan plan′ ans (long) p w k (e ∙ ap (λ (n : ℕ). accepted (best .cost) l n) count-is′);
-          }
+        -- the trail written to the plan slice is the promised plan
+        pub concludes-some : {count k : ℕ} {plan plan′ : List ℕ} {ans : Answer} → count ≡ total (at (r .counts)) (z .stages)
+            → (k ≡ length (end-traceable .steps)) × (plan′ ≡ end-traceable .steps ++ drop k plan) → length plan′ ≡ length plan
+            → ans ≡ accepted (best .cost) k count → Concludes z t plan plan′ ans
+        unfolding end-traceable
+        concludes-some {count} {k} {plan} {plan′} {ans} en written long ea =
+            let w = best-traced .way in
+            let q : ans .length ≡ length (w .steps) = ap (λ (x : Answer). x .length) ea ∙ written .0 in
+            let taken : take (ans .length) plan′ ≡ w .steps = ap₂ (λ (i : ℕ) (x : List ℕ). take i x) q (written .1) ∙ take-append-seam (w .steps) (drop k plan) in
+            record {
+              outcome = rw some-found (
+                ea ∙ ap₂ (λ (i n : ℕ). accepted (best .cost) i n) (written .0 ∙ sym q) (en ∙ f .finished .count-is),
+                record {
+                  fits = omega (arith, ap length (written .1), length-append (w .steps) (drop k plan), length-drop k plan);
+                  legal = subst (Legal c d) (sym taken) (goal-legal c d valid ordered node (best .cost) accepts w);
+                  costs = ap (wayCost g) taken ∙ w .costs;
+                  long = long;
+                  rest = ap₂ (λ (i : ℕ) (x : List ℕ). drop i x) q (written .1) ∙ drop-append-seam (w .steps) (drop k plan) ∙ ap (λ (i : ℕ). drop i plan) (written .0 ∙ sym q);
+                },
+              );
+            }

@@ -10,16 +10,19 @@ use lib.ListN.{getD, set}
 use borrow.Author.Tests.{eq-eqb, ne-eqb}
 use Rattle.theory.specs.Basics.{pick-true, pick-false, either, lt-or-le, same-or-not, true-not-false}
 use Rattle.sweep_model.specs.Totals.{total}
-use Rattle.sweep.specs.Begin.{Begun}
+use Rattle.sweep_model.specs.Model.{unreached, Rows, rows}
+use Rattle.sweep.specs.Begin.{begunAt}
 use Rattle.sweep.specs.Goals.{Better, Chosen}
 use Rattle.sweep.specs.declared.goals.Best.{Best}
 
-module _ (base start root : ℕ) (costs nodes counts : List ℕ) where
-  pub begun-none : root ≡ 0 → Begun base start root costs nodes counts costs nodes counts
-  begun-none h = record { cost = sym (pick-true _ _ _ (eq-eqb root 0 h)); node = sym (pick-true _ _ _ (eq-eqb root 0 h)); count = sym (pick-true _ _ _ (eq-eqb root 0 h)) }
+module _ (base start root : ℕ) (r : Rows) where
+  pub begun-none : root ≡ 0 → r ≡ begunAt base start root r
+  unfolding begunAt
+  begun-none h = sym (pick-true _ _ _ (eq-eqb root 0 h))
 
-  pub begun-one : (root ≡ 0 → ⊥) → Begun base start root costs nodes counts (set costs (base + root) 0) (set nodes base root) (set counts start 1)
-  begun-one h = record { cost = sym (pick-false _ _ _ (ne-eqb root 0 h)); node = sym (pick-false _ _ _ (ne-eqb root 0 h)); count = sym (pick-false _ _ _ (ne-eqb root 0 h)) }
+  pub begun-one : (root ≡ 0 → ⊥) → rows (set (r .cost) (base + root) 0) (r .via) (set (r .nodes) base root) (set (r .counts) start 1) ≡ begunAt base start root r
+  unfolding begunAt
+  begun-one h = sym (pick-false _ _ _ (ne-eqb root 0 h))
 
 module _ (best : Best) (n v : ℕ) where
   pub better-taken : (ok : Bool) (r : Best) → v < best .cost → ok ≡ true → r .cost ≡ v → r .node .0 ≡ n → Better best n v ok r
@@ -29,7 +32,7 @@ module _ (best : Best) (n v : ℕ) where
   better-no ok y = record { taken = λ _ d. absurd (true-not-false (sym d ∙ y)); dearer = λ _. refl; no-goal = λ _. refl }
 
 module _ (base : ℕ) (costs nodes : List ℕ) (goals : List Bool) where
-  pub chosen-none : (best : Best) → best .cost ≡ 4294967295 → Chosen base 0 costs nodes goals best
+  pub chosen-none : (best : Best) → best .cost ≡ unreached → Chosen base 0 costs nodes goals best
   chosen-none best e = record { bounded = omega arith; least = λ k h. absurd (omega arith); one = λ h. absurd (omega arith) }
 
   module _ (k : ℕ) (best r : Best) (c : Chosen base k costs nodes goals best) (n m v : ℕ) (en : n ≡ getD nodes (base + k) 0) (em : m ≡ n)
@@ -45,7 +48,7 @@ module _ (base : ℕ) (costs nodes : List ℕ) (goals : List Bool) where
     here : getD goals n false ≡ true → r .cost ≤ v
     here e = either (lt-or-le v (best .cost)) (λ h. omega (arith, b .taken h e .0)) (λ h. omega (arith, ap (λ (x : Best). x .cost) (b .dearer h)))
 
-    old : r ≡ best → r .cost < 4294967295
+    old : r ≡ best → r .cost < unreached
         → (j : ℕ) × (j < k + 1) × (getD nodes (base + j) 0 ≡ r .node .0) × (getD goals (r .node .0) false ≡ true) × (getD costs (base + r .node .0) 0 ≡ r .cost)
     old e h = let x = c .one (omega (arith, ap (λ (x : Best). x .cost) e)) in rw e (x .0, omega (arith, x .1), x .2, x .3, x .4)
 
@@ -66,7 +69,7 @@ module _ (base : ℕ) (costs nodes : List ℕ) (goals : List Bool) where
       one = λ h. either (lt-or-le v (best .cost)) (λ l. go h l (getD goals n false) refl) (λ l. old (b .dearer l) h);
     }
       where
-        go : r .cost < 4294967295 → v < best .cost → (y : Bool) → getD goals n false ≡ y
+        go : r .cost < unreached → v < best .cost → (y : Bool) → getD goals n false ≡ y
             → (j : ℕ) × (j < k + 1) × (getD nodes (base + j) 0 ≡ r .node .0) × (getD goals (r .node .0) false ≡ true) × (getD costs (base + r .node .0) 0 ≡ r .cost)
         go h l true e = new l e
         go h l false e = old (b .no-goal e) h

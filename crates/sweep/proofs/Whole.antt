@@ -1,7 +1,7 @@
 -- Laws of `run` and `sweep`: the parts together give the promise.
 -- Assumes nothing.
-use Prim.Native.Nat.{ℕ, _+_, _-_, _*_, _≤_, min}
-use mathlib.Core.Path.{_≡_, refl, sym, _∙_, ap, ap₂}
+use Prim.Native.Nat.{ℕ, _+_, _*_, _≤_, min}
+use mathlib.Core.Path.{_≡_, refl, sym, _∙_, ap, ap₂, subst}
 use mathlib.Core.List.{List, [], _∷_, _++_}
 use native.Mathlib.Omega.{arith}
 use lib.ListN.{length, drop, replicate, length-replicate, getD-replicate}
@@ -10,39 +10,41 @@ use Rattle.definitions.specs.Charts.{Chart}
 use Rattle.definitions.specs.Diagrams.{Diagram}
 use Rattle.definitions.specs.Ways.{Graph}
 use Rattle.definitions.specs.Pairs.{Automaton, pairs}
-use Rattle.definitions.specs.Answers.{Load, ready, refused, load, workNeed, planNeed, refusal}
-use Rattle.definitions.specs.Promises.{Swept, Scratch, leastCosts}
+use Rattle.definitions.specs.Answers.{Load, ready, refused, load, workNeed, refusal}
+use Rattle.definitions.specs.Promises.{leastCosts, SweepSlices, sweepSlices, sweepLoad, SweepCall}
 use Rattle.definitions.specs.declared.Answer.{Answer}
-use Rattle.chart.specs.FirstSteps.{SortedTable, FirstTable}
-use Rattle.chart.specs.HeldGraph.{held-sorted}
+use Rattle.definitions.specs.declared.Shape.{Shape}
+use Rattle.chart_stages.specs.FirstSteps.{SortedTable, FirstTable}
+use Rattle.chart_stages.specs.HeldGraph.{held-sorted}
 use Rattle.diagram.specs.Held.{length-held}
 use Rattle.rows.specs.Rows.{rowStarts}
 use Rattle.sweep_model.specs.Model.{unreached, Rows, rows, swept}
 use Rattle.sweep_model.specs.Rows.{Past}
-use Rattle.sweep_model.specs.Result.{Fresh, final-past, final-costs}
-use Rattle.checks.specs.Outcome.{load-shorter, ready-space}
+use Rattle.sweep_model.specs.Result.{Fresh, Finished, finished, final-past, final-costs}
+use Rattle.sweep_model.specs.Sweeps.{FirstSteps}
+use Rattle.checks.specs.Outcome.{load-shortest, ready-space}
 use Rattle.checks.specs.Tables.{Read, Tables, LoadsAs, chartIn, diagramIn}
 use Rattle.checks.specs.Ready.{walk, Ready, graphIn, automatonIn, lawful-in, few-stages, few-nodes}
-use Rattle.definitions.specs.declared.Shape.{Shape}
 use Rattle.checks.specs.declared.Loaded.{Loaded}
 use Rattle.sweep_rows.specs.Standing.{at}
 use Rattle.sweep_rows.specs.Leaving.{first-steps}
-use Rattle.sweep.specs.Runs.{pairsIn, Work, work, Space, Blank, cleared, Final, Concludes, Runs}
+use Rattle.sweep.specs.Runs.{pairsIn, Space, Blank, clearedCosts, cleared, Final, Concludes, Promised}
 use Rattle.sweep.proofs.Beginning.{pairs-is, cleared-fresh}
 
-pub blank : Blank (replicate 256 0)
-blank = record { long = length-replicate {A = ℕ} 256 0; none = λ s h. getD-replicate {A = ℕ} 256 s 0 0 h }
+-- the space that the pairs need
+need : (z : Shape) (t : Read) → workNeed (chartIn z t) (diagramIn z t) ≡ pairsIn z
+need z t = ap (λ (k : ℕ). z .stages * (k + 2)) (length-held (z .nodes) (t .inner .step) (t .inner .lo) (t .inner .hi))
 
 module _ {z : Shape} {t : Read} (in-tables : Tables z t) where
   pub run-sorted : SortedTable (z .steps) (t .steps .from) × (z .stages ≤ 256)
-  run-sorted = (held-sorted (z .stages) (z .start .0) (z .end .0) (z .steps) (t .steps) (in-tables .valid), few-stages z t in-tables)
+  run-sorted = (held-sorted z (t .steps) (in-tables .valid), few-stages z t in-tables)
 
   pub run-narrow : (z .stages ≤ 256) × (z .nodes + 2 ≤ 512)
   run-narrow = (few-stages z t in-tables, omega (arith, few-nodes z t in-tables))
 
-  module _ {first row : List ℕ} (ef : FirstTable (z .steps) (z .stages) (t .steps .from) first) (er : row ≡ rowStarts (z .stages) (z .nodes + 2)) where
+  module _ {first row : List ℕ} (firsts : FirstTable (z .steps) (z .stages) (t .steps .from) first) (starts : row ≡ rowStarts (z .stages) (z .nodes + 2)) where
     pub run-ready : Ready z (walk t first row)
-    run-ready = record { tables = in-tables; firsts = ef; rows = er }
+    run-ready = record { tables = in-tables; firsts = firsts; rows = starts }
 
     abbrev g : Graph
     g = graphIn z t
@@ -50,109 +52,114 @@ module _ {z : Shape} {t : Read} (in-tables : Tables z t) where
     abbrev a : Automaton
     a = automatonIn z t
 
-    module _ {w : Work} {counts : List ℕ} (sp : Space z w) (bl : Blank counts) {r′ : Rows}
-        (es : r′ ≡ swept g a (at first) (cleared z w counts)) where
-      fresh : Fresh g a (cleared z w counts)
-      fresh = cleared-fresh run-ready sp bl
+    module _ {before : SweepSlices} (space : Space z before) where
+      -- the tables before the sweep
+      abbrev pub lent : Rows
+      lent = rows (before .cost) (before .via) (before .nodes) (replicate 256 0)
 
-      pub run-final : Final z t row r′
-      run-final = record {
-        first = first;
-        ready = run-ready;
-        before = cleared z w counts;
-        fresh = fresh;
-        swept-rows = es;
+      pub run-blank : Blank z lent
+      run-blank = record {
+        cost-fits = space .cost-fits;
+        via-fits = space .via-fits;
+        nodes-fits = space .nodes-fits;
+        counts-long = length-replicate {A = ℕ} 256 0;
+        no-node = λ s h. getD-replicate {A = ℕ} 256 s 0 0 h;
       }
 
-      past : Past g a (cleared z w counts) (swept g a (at first) (cleared z w counts))
-      past = final-past g a (in-tables .valid) (lawful-in z t in-tables) (cleared z w counts) fresh (at first) (first-steps z (walk t first row) run-ready)
+      fresh : Fresh g a (cleared z lent)
+      fresh = cleared-fresh run-ready run-blank
 
-      same : pairs g a ≡ pairsIn z
-      same = pairs-is run-ready
+      leaving : FirstSteps g (at first)
+      leaving = first-steps z (walk t first row) run-ready
 
-      -- what was cleared does not matter past the pairs
-      cleared-past : drop (pairs g a) (replicate (pairsIn z) unreached ++ drop (pairsIn z) (w .costs)) ≡ drop (pairsIn z) (w .costs)
-      cleared-past =
-          ap (λ (k : ℕ). drop k (replicate (pairsIn z) unreached ++ drop (pairsIn z) (w .costs))) (same ∙ sym (length-replicate (pairsIn z) unreached))
-          ∙ drop-append-seam (replicate (pairsIn z) unreached) (drop (pairsIn z) (w .costs))
+      -- the tables after it
+      module _ {r′ : Rows} (is-swept : r′ ≡ swept g a (at first) (cleared z lent)) where
+        pub run-final : Final z t row r′
+        run-final = record {
+          tables = in-tables;
+          rows-are = starts;
+          finished = subst (Finished g a) (sym is-swept) (finished g a (in-tables .valid) (lawful-in z t in-tables) (cleared z lent) fresh (at first) leaving);
+        }
 
-      pub run-runs : {plan plan′ : List ℕ} {r : Answer} → Concludes z t plan plan′ r → Runs z t w (work (r′ .cost) (r′ .via) (r′ .nodes)) plan plan′ r
-      run-runs x = record {
-        concludes = x;
-        cost-slice =
-            ap (λ (y : Rows). y .cost) es
-            ∙ final-costs g a (in-tables .valid) (lawful-in z t in-tables) (cleared z w counts) fresh (at first) (first-steps z (walk t first row) run-ready)
-            ∙ ap (λ (l : List ℕ). leastCosts g a ++ l) cleared-past;
-        via-past = ap (λ (k : ℕ). drop k (r′ .via)) (sym same) ∙ ap (λ (y : Rows). drop (pairs g a) (y .via)) es ∙ past .via-past ∙ ap (λ (k : ℕ). drop k (w .via)) same;
-        nodes-past = ap (λ (k : ℕ). drop k (r′ .nodes)) (sym same) ∙ ap (λ (y : Rows). drop (pairs g a) (y .nodes)) es ∙ past .nodes-past ∙ ap (λ (k : ℕ). drop k (w .nodes)) same;
-        via-long = ap (λ (y : Rows). length (y .via)) es ∙ past .via-long;
-        nodes-long = ap (λ (y : Rows). length (y .nodes)) es ∙ past .nodes-long;
-      }
+        past : Past g a (cleared z lent) r′
+        past = subst (Past g a (cleared z lent)) (sym is-swept) (final-past g a (in-tables .valid) (lawful-in z t in-tables) (cleared z lent) fresh (at first) leaving)
 
--- what the whole call promises, by the outcome of the checks
-pub record Kept (o : Load) (w w′ : Work) (plan plan′ : List ℕ) (r : Answer) : Type 0 where
-  pub answers : Swept o plan plan′ (w .costs) (w′ .costs) r
-  pub via-scratch : Scratch o (w .via) (w′ .via)
-  pub nodes-scratch : Scratch o (w .nodes) (w′ .nodes)
+        same : pairs g a ≡ pairsIn z
+        same = pairs-is run-ready
+
+        -- what was cleared does not matter past the pairs
+        cleared-past : drop (pairs g a) (clearedCosts z (before .cost)) ≡ drop (pairsIn z) (before .cost)
+        cleared-past =
+            ap (λ (k : ℕ). drop k (clearedCosts z (before .cost))) (same ∙ sym (length-replicate (pairsIn z) unreached))
+            ∙ drop-append-seam (replicate (pairsIn z) unreached) (drop (pairsIn z) (before .cost))
+
+        -- a slice is left as it was past the space that the pairs need
+        untouched : (x x′ : List ℕ) → drop (pairs g a) x′ ≡ drop (pairs g a) x → drop (workNeed (chartIn z t) (diagramIn z t)) x′ ≡ drop (workNeed (chartIn z t) (diagramIn z t)) x
+        untouched x x′ e =
+            let q = need z t ∙ sym same in
+            ap (λ (k : ℕ). drop k x′) q ∙ e ∙ ap (λ (k : ℕ). drop k x) (sym q)
+
+        pub run-promised : {plan′ : List ℕ} {ans : Answer} → Concludes z t (before .plan) plan′ ans
+            → Promised (ready (chartIn z t) (diagramIn z t)) before (sweepSlices (r′ .cost) (r′ .via) (r′ .nodes) plan′) ans
+        run-promised x = record {
+          swept = (
+            x .outcome,
+            ap (λ (y : Rows). y .cost) is-swept
+                ∙ final-costs g a (in-tables .valid) (lawful-in z t in-tables) (cleared z lent) fresh (at first) leaving
+                ∙ ap (λ (l : List ℕ). leastCosts g a ++ l) (cleared-past ∙ ap (λ (k : ℕ). drop k (before .cost)) (sym (need z t))),
+          );
+          via = (past .via-long, untouched (before .via) (r′ .via) (past .via-past));
+          nodes = (past .nodes-long, untouched (before .nodes) (r′ .nodes) (past .nodes-past));
+        }
 
 -- a refusal leaves everything
-kept-refused : (o : Load) (t : Read) (w : Work) (plan : List ℕ) (x : Loaded) (r : Answer) → LoadsAs o t x → (x .number ≡ 0 → ⊥)
-    → r ≡ refusal (x .number) (x .file) (x .place) 0 → Kept o w w plan plan r
-kept-refused (refused number file place) t w plan x r l h e = record {
-  answers = (e ∙ rw (l .0, l .1, l .2), refl, refl);
-  via-scratch = refl;
-  nodes-scratch = refl;
-}
-kept-refused (ready c d) t w plan x r l h e = absurd (h (l .0))
+refused-promised : (o : Load) (t : Read) (before : SweepSlices) (x : Loaded) (r : Answer) → LoadsAs o t x → (x .number ≡ 0 → ⊥)
+    → r ≡ refusal (x .number) (x .file) (x .place) 0 → Promised o before before r
+refused-promised (refused number file place) t before x r l h e = record { swept = (e ∙ rw (l .0 .0, l .0 .1, l .0 .2), refl, refl); via = refl; nodes = refl }
+refused-promised (ready c d) t before x r l h e = absurd (h (l .0))
 
--- where all checks pass, the tables are ready and the space is enough
-record Passed (s u : List ℕ) (lent plan : ℕ) (t : Read) (x : Loaded) : Type 0 where
-  pub tables : Tables (x .shape) t
-  pub outcome : load s u (lent ∷ []) plan ≡ ready (chartIn (x .shape) t) (diagramIn (x .shape) t)
+-- where all checks pass, the chart and the diagram stand in the tables
+record Passed (o : Load) (t : Read) (z : Shape) : Type 0 where
+  pub tables : Tables z t
+  pub outcome : o ≡ ready (chartIn z t) (diagramIn z t)
 
-passed : (s u : List ℕ) (lent plan : ℕ) (t : Read) (x : Loaded) (o : Load) → load s u (lent ∷ []) plan ≡ o → LoadsAs o t x → x .number ≡ 0 → Passed s u lent plan t x
-passed s u lent plan t x (refused number file place) e l h = absurd (l .3 (sym (l .0) ∙ h))
-passed s u lent plan t x (ready c d) e l h = record { tables = l .3; outcome = e ∙ sym (ap₂ (λ (i : Chart) (j : Diagram). ready i j) (l .1) (l .2)) }
+passed : (o : Load) (t : Read) (x : Loaded) → LoadsAs o t x → x .number ≡ 0 → Passed o t (x .shape)
+passed (refused number file place) t x l h = absurd (l .1 (sym (l .0 .0) ∙ h))
+passed (ready c d) t x l h = record { tables = l .3; outcome = sym (ap₂ (λ (i : Chart) (j : Diagram). ready i j) (l .1) (l .2)) }
 
--- the files s and u, the work slices w and the plan slice
-module _ (s u : List ℕ) (w : Work) (plan : List ℕ) {lent : ℕ} (ew : lent ≡ min (min (length (w .costs)) (length (w .via))) (length (w .nodes))) (t : Read) (x : Loaded)
-    (l : LoadsAs (load s u (lent ∷ []) (length plan)) t x) where
-  abbrev works : List ℕ
-  works = length (w .costs) ∷ length (w .via) ∷ length (w .nodes) ∷ []
+-- the call on the files s and u: the checks are made with the shortest work slice
+module _ (s u : List ℕ) (before : SweepSlices) {work : ℕ} (ew : work ≡ min (min (length (before .cost)) (length (before .via))) (length (before .nodes)))
+    (t : Read) (x : Loaded) (l : LoadsAs (load s u (work ∷ []) (length (before .plan))) t x) where
+  abbrev z : Shape
+  z = x .shape
 
-  -- the shortest work slice decides
-  shortest : load s u works (length plan) ≡ load s u (lent ∷ []) (length plan)
-  shortest =
-      load-shorter s u (length (w .costs)) (length (w .via)) (length (w .nodes) ∷ []) (length plan)
-      ∙ load-shorter s u (min (length (w .costs)) (length (w .via))) (length (w .nodes)) [] (length plan)
-      ∙ ap (λ (k : ℕ). load s u (k ∷ []) (length plan)) (sym ew)
+  checked : sweepLoad s u before ≡ load s u (work ∷ []) (length (before .plan))
+  checked =
+      load-shortest s u (length (before .cost)) (length (before .via) ∷ length (before .nodes) ∷ []) (length (before .plan))
+      ∙ ap (λ (k : ℕ). load s u (k ∷ []) (length (before .plan))) (sym ew)
 
-  pub whole-refused : {r : Answer} → (x .number ≡ 0 → ⊥) → r ≡ refusal (x .number) (x .file) (x .place) 0 → Kept (load s u works (length plan)) w w plan plan r
-  whole-refused {r} h e = rw shortest (kept-refused (load s u (lent ∷ []) (length plan)) t w plan x r l h e)
+  called : {after : SweepSlices} {r : Answer} → Promised (sweepLoad s u before) before after r → SweepCall s u before after r
+  called p = record { swept = p .swept; via = p .via; nodes = p .nodes }
+
+  pub call-refused : {r : Answer} → (x .number ≡ 0 → ⊥) → r ≡ refusal (x .number) (x .file) (x .place) 0 → SweepCall s u before before r
+  call-refused {r} h e = called (subst (λ (o : Load). Promised o before before r) (sym checked) (refused-promised _ t before x r l h e))
 
   module _ (h : x .number ≡ 0) where
-    abbrev z : Shape
-    z = x .shape
+    ok : Passed (load s u (work ∷ []) (length (before .plan))) t z
+    ok = passed _ t x l h
 
-    ok : Passed s u lent (length plan) t x
-    ok = passed s u lent (length plan) t x (load s u (lent ∷ []) (length plan)) refl l h
+    pub call-tables : Tables z t
+    call-tables = ok .tables
 
-    pub whole-tables : Tables z t
-    whole-tables = ok .tables
+    pub call-space : Space z before
+    call-space =
+        let enough = ready-space s u work (length (before .plan)) (chartIn z t) (diagramIn z t) (ok .outcome) in
+        record {
+          cost-fits = omega (arith, need z t, enough);
+          via-fits = omega (arith, need z t, enough);
+          nodes-fits = omega (arith, need z t, enough);
+          plan-fits = enough .1;
+        }
 
-    need : workNeed (chartIn z t) (diagramIn z t) ≡ pairsIn z
-    need = ap (λ (k : ℕ). z .stages * (k + 2)) (length-held (z .nodes) (t .inner .step) (t .inner .lo) (t .inner .hi))
-
-    enough : (workNeed (chartIn z t) (diagramIn z t) ≤ lent) × (planNeed (chartIn z t) ≤ length plan)
-    enough = ready-space s u lent (length plan) (chartIn z t) (diagramIn z t) (ok .outcome)
-
-    pub whole-space : Space z w × (z .stages - 1 ≤ length plan)
-    whole-space = (record { cost-fits = omega (arith, need, enough); via-fits = omega (arith, need, enough); nodes-fits = omega (arith, need, enough) }, enough .1)
-
-    pub whole-runs : {w′ : Work} {plan′ : List ℕ} {r : Answer} → Runs z t w w′ plan plan′ r → Kept (load s u works (length plan)) w w′ plan plan′ r
-    whole-runs {w′} y =
-        rw (shortest ∙ ok .outcome) (record {
-          answers = (y .concludes .outcome, y .cost-slice ∙ ap (λ (k : ℕ). leastCosts (graphIn z t) (automatonIn z t) ++ drop k (w .costs)) (sym need));
-          via-scratch = (y .via-long, ap (λ (k : ℕ). drop k (w′ .via)) need ∙ y .via-past ∙ ap (λ (k : ℕ). drop k (w .via)) (sym need));
-          nodes-scratch = (y .nodes-long, ap (λ (k : ℕ). drop k (w′ .nodes)) need ∙ y .nodes-past ∙ ap (λ (k : ℕ). drop k (w .nodes)) (sym need));
-        })
+    pub call-ready : {after : SweepSlices} {r : Answer} → Promised (ready (chartIn z t) (diagramIn z t)) before after r → SweepCall s u before after r
+    call-ready {after} {r} p = called (subst (λ (o : Load). Promised o before after r) (sym (checked ∙ ok .outcome)) p)

@@ -1,13 +1,12 @@
--- What `begin` leaves: the costs, the lists of reached nodes and their lengths.
+-- The tables with the start's pair in them.
 -- Assumes nothing.
 use Prim.Native.Nat.{ℕ, _+_}
-use mathlib.Core.Path.{_≡_}
-use mathlib.Core.List.{List}
 use lib.Dec.{eqb}
 use lib.ListN.{set}
 use Rattle.definitions.specs.Basics.{pick}
+use Rattle.sweep_model.specs.Model.{Rows, rows}
 
-pub record Begun (base start root : ℕ) (costs nodes counts costs′ nodes′ counts′ : List ℕ) : Type 0 where
-  pub cost : costs′ ≡ pick (eqb root 0) costs (set costs (base + root) 0)
-  pub node : nodes′ ≡ pick (eqb root 0) nodes (set nodes base root)
-  pub count : counts′ ≡ pick (eqb root 0) counts (set counts start 1)
+-- the pair of the start, whose row starts at `base`, and the root costs 0 and is in the row's list, unless the root is 0
+unfoldable pub begunAt : ℕ → ℕ → ℕ → Rows → Rows
+begunAt base start root r =
+    pick (eqb root 0) r (rows (set (r .cost) (base + root) 0) (r .via) (set (r .nodes) base root) (set (r .counts) start 1))

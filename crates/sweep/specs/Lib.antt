@@ -1,4 +1,3 @@
 pub mod Begin
 pub mod Goals
-pub mod Conclusion
 pub mod Runs

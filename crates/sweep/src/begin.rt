@@ -1,16 +1,18 @@
 // The tables before the first row: no pair is reached but that of start and root.
 ghost use mathlib.Core.Path.{_≡_};
-ghost use mathlib.Core.List.{_++_};
-ghost use Prim.Native.Nat.{_+_, _≤_, _<_};
+ghost use mathlib.Core.List.{List, _++_};
+ghost use Prim.Native.Nat.{ℕ, _+_, _≤_, _<_};
 ghost use lib.ListN.{length, drop, replicate};
-ghost use Rattle.sweep.specs.Begin.{Begun};
+ghost use Rattle.sweep_model.specs.Model.{unreached, rows};
+ghost use Rattle.sweep.specs.Begin.{begunAt};
 use definitions::NONE;
 use definitions::Node;
+use definitions::Stage;
 
 // The first `pairs` costs become NONE.
 pub fn clear(costs: &mut [u32], pairs: usize)
     requires { ⌜ pairs ≤ length (now costs) ⌝ }
-    ensures { λ _. ⌜ now (costs .exit) ≡ replicate pairs 4294967295 ++ drop pairs (now (costs .entry)) ⌝ }
+    ensures { λ _. ⌜ now (costs .exit) ≡ replicate pairs unreached ++ drop pairs (now (costs .entry)) ⌝ }
 {
     let mut i: usize = 0;
     while i < pairs {
@@ -25,13 +27,13 @@ pub fn begin(
     nodes: &mut [u32],
     counts: &mut [u32; 256],
     base: usize,
-    start: usize,
+    start: Stage,
     root: Node,
 )
-    requires { ⌜ (start < 256) × (base + root .0 < length (now costs)) × (base < length (now nodes)) ⌝ }
+    requires { ⌜ (start .0 < 256) × (base + root .0 < length (now costs)) × (base < length (now nodes)) ⌝ }
     ensures { λ _. ⌜
-        Begun base start (root .0) (now (costs .entry)) (now (nodes .entry)) (now (counts .entry))
-        (now (costs .exit)) (now (nodes .exit)) (now (counts .exit))
+        ((via : List ℕ) → rows (now (costs .exit)) via (now (nodes .exit)) (now (counts .exit))
+        ≡ begunAt base (start .0) (root .0) (rows (now (costs .entry)) via (now (nodes .entry)) (now (counts .entry))))
         ⌝ }
 {
     if root.0 == 0 {
@@ -39,5 +41,5 @@ pub fn begin(
     }
     costs[base + root.0 as usize] = 0;
     nodes[base] = root.0 as u32;
-    counts[start] = 1;
+    counts[start.0 as usize] = 1;
 }

@@ -1,5 +1,6 @@
 // The sweep: the least cost of every pair, row by row, and a cheapest legal plan.
 mod begin;
+mod conclude;
 mod goals;
 mod run;
 

@@ -1,38 +1,28 @@
 // The sweep of two files: the checks, the rows in turn, and the plan.
 ghost use mathlib.Core.Path.{_≡_};
-ghost use mathlib.Core.List.{[], _∷_};
-ghost use Prim.Native.Nat.{_-_, _≤_};
-ghost use lib.ListN.{length};
-ghost use Rattle.definitions.specs.Answers.{load as outcome};
-ghost use Rattle.definitions.specs.Promises.{Swept, Scratch};
+ghost use Rattle.definitions.specs.Answers.{ready};
+ghost use Rattle.definitions.specs.Promises.{sweepSlices, SweepCall};
 ghost use Rattle.sweep_model.specs.Model.{rows, swept};
-ghost use Rattle.checks.specs.Tables.{read, Tables};
+ghost use Rattle.checks.specs.Tables.{read, Tables, chartIn, diagramIn};
 ghost use Rattle.checks.specs.Ready.{walk, Ready, graphIn, automatonIn};
 ghost use Rattle.sweep_rows.specs.Standing.{at};
-ghost use Rattle.sweep.specs.Runs.{work, Space, Blank, cleared, Final, Concludes, Runs};
+ghost use Rattle.sweep.specs.Runs.{Space, Blank, cleared, Promised};
 use crate::begin::begin;
 use crate::begin::clear;
-use crate::goals::cheapest_goal;
-use crate::goals::total_count;
+use crate::conclude::conclude;
 use chart::FROM;
-use chart::first_steps;
+use chart_stages::first_steps;
 use checks::load;
+use checks::refusal;
 use convert::lesser;
 use convert::wide;
 use definitions::Answer;
-use definitions::NONE;
-use definitions::Node;
 use definitions::Shape;
-use definitions::Stage;
-use diagram::LO;
-use nodes::finishing;
 use rows::row_starts;
 use sweep_rows::relax_rows;
-use trace::trail_length;
-use trace::write_trail;
 
 // The least cost of every pair, from any content of the slices.
-fn sweep_rows<'a>(
+fn least_costs<'a>(
     costs: &mut [u32],
     via: &mut [u32],
     nodes: &mut [u32],
@@ -44,88 +34,19 @@ fn sweep_rows<'a>(
     inner: &'a [[u16; 512]; 3],
 )
     requires { ⌜ Ready z (walk (read (now steps) (now inner)) (now first) (now row)) ⌝ }
-    requires { ⌜ Space z (work (now costs) (now via) (now nodes)) × Blank (now counts) ⌝ }
+    requires { ⌜ Blank z (rows (now costs) (now via) (now nodes) (now counts)) ⌝ }
     ensures { λ _. ⌜
         (let t = read (now (steps .entry)) (now (inner .entry)) in
-        let before = work (now (costs .entry)) (now (via .entry)) (now (nodes .entry)) in
+        let before = rows (now (costs .entry)) (now (via .entry)) (now (nodes .entry)) (now (counts .entry)) in
         let after = rows (now (costs .exit)) (now (via .exit)) (now (nodes .exit)) (now (counts .exit)) in
-        after ≡ swept (graphIn z t) (automatonIn z t) (at (now (first .entry))) (cleared z before (now (counts .entry))))
+        after ≡ swept (graphIn z t) (automatonIn z t) (at (now (first .entry))) (cleared z before))
         ⌝ }
 {
-    let stages = z.stages as usize;
     let width = z.nodes + 2;
-    let start = z.start as usize;
-    clear(costs, stages * width);
-    let base = wide(row[start]);
-    begin(costs, nodes, counts, base, start, Node(z.root));
+    clear(costs, z.stages as usize * width);
+    let base = wide(row[z.start.0 as usize]);
+    begin(costs, nodes, counts, base, z.start, z.root);
     relax_rows(costs, via, nodes, counts, z, steps, first, row, inner);
-}
-
-// The answer by the finished tables; a plan is written where there is one.
-fn conclude<'a>(
-    costs: &'a [u32],
-    via: &'a [u32],
-    nodes: &'a [u32],
-    counts: &'a [u32; 256],
-    z: Shape,
-    steps: &'a [[u32; 1024]; 3],
-    row: &'a [u32; 256],
-    inner: &'a [[u16; 512]; 3],
-    plan: &mut [u16],
-) -> Answer
-    requires { ⌜
-        (let after = rows (now costs) (now via) (now nodes) (now counts) in
-        Final z (read (now steps) (now inner)) (now row) after)
-        ⌝ }
-    requires { ⌜ z .stages - 1 ≤ length (now plan) ⌝ }
-    ensures { λ r. ⌜
-        Concludes z (read (now (steps .entry)) (now (inner .entry))) (now (plan .entry)) (now (plan .exit)) r
-        ⌝ }
-{
-    let stages = z.stages as usize;
-    let end = z.end as usize;
-    let count = total_count(counts, stages);
-    let yes = finishing(&inner[LO], z.nodes);
-    let base = wide(row[end]);
-    let listed = wide(counts[end]);
-    let best = cheapest_goal(costs, nodes, &yes, base, listed);
-    let least = best.cost;
-    if least == NONE {
-        return Answer {
-            number: 8,
-            file: 0,
-            place: 0,
-            cost: 0,
-            length: 0,
-            count,
-        };
-    }
-    let length = trail_length(
-        via,
-        &steps[FROM],
-        row,
-        Stage(z.start),
-        Stage(z.end),
-        best.node,
-    );
-    write_trail(
-        via,
-        &steps[FROM],
-        row,
-        Stage(z.start),
-        Stage(z.end),
-        best.node,
-        length,
-        plan,
-    );
-    Answer {
-        number: 0,
-        file: 0,
-        place: 0,
-        cost: least,
-        length,
-        count,
-    }
 }
 
 // The sweep of a chart and a diagram that stand in tables.
@@ -139,18 +60,18 @@ fn run<'a>(
     inner: &'a [[u16; 512]; 3],
 ) -> Answer
     requires { ⌜ Tables z (read (now steps) (now inner)) ⌝ }
-    requires { ⌜ Space z (work (now costs) (now via) (now nodes)) × (z .stages - 1 ≤ length (now plan)) ⌝ }
+    requires { ⌜ Space z (sweepSlices (now costs) (now via) (now nodes) (now plan)) ⌝ }
     ensures { λ r. ⌜
         (let t = read (now (steps .entry)) (now (inner .entry)) in
-        let before = work (now (costs .entry)) (now (via .entry)) (now (nodes .entry)) in
-        let after = work (now (costs .exit)) (now (via .exit)) (now (nodes .exit)) in
-        Runs z t before after (now (plan .entry)) (now (plan .exit)) r)
+        let before = sweepSlices (now (costs .entry)) (now (via .entry)) (now (nodes .entry)) (now (plan .entry)) in
+        let after = sweepSlices (now (costs .exit)) (now (via .exit)) (now (nodes .exit)) (now (plan .exit)) in
+        Promised (ready (chartIn z t) (diagramIn z t)) before after r)
         ⌝ }
 {
     let first = first_steps(&steps[FROM], z.steps, z.stages);
     let row = row_starts(z.stages as usize, z.nodes + 2);
     let mut counts = [0u32; 256];
-    sweep_rows(
+    least_costs(
         costs,
         via,
         nodes,
@@ -175,11 +96,9 @@ pub fn sweep(
     plan: &mut [u16],
 ) -> Answer
     ensures { λ r. ⌜
-        (let lengths = length (now (cost .entry)) ∷ length (now (via .entry)) ∷ length (now (nodes .entry)) ∷ [] in
-        let o = outcome (now (chart .entry)) (now (rules .entry)) lengths (length (now (plan .entry))) in
-        Swept o (now (plan .entry)) (now (plan .exit)) (now (cost .entry)) (now (cost .exit)) r
-        × Scratch o (now (via .entry)) (now (via .exit))
-        × Scratch o (now (nodes .entry)) (now (nodes .exit)))
+        (let before = sweepSlices (now (cost .entry)) (now (via .entry)) (now (nodes .entry)) (now (plan .entry)) in
+        let after = sweepSlices (now (cost .exit)) (now (via .exit)) (now (nodes .exit)) (now (plan .exit)) in
+        SweepCall (now (chart .entry)) (now (rules .entry)) before after r)
         ⌝ }
 {
     let mut steps = [[0u32; 1024]; 3];
@@ -187,15 +106,7 @@ pub fn sweep(
     let work = lesser(lesser(cost.len(), via.len()), nodes.len());
     let got = load(chart, rules, work, plan.len(), &mut steps, &mut inner);
     if got.number != 0 {
-        return Answer {
-            number: got.number,
-            file: got.file,
-            place: got.place,
-            cost: 0,
-            length: 0,
-            count: 0,
-        };
+        return refusal(got.number, got.file, got.place, 0);
     }
-    let z = got.shape;
-    run(cost, via, nodes, plan, z, &steps, &inner)
+    run(cost, via, nodes, plan, got.shape, &steps, &inner)
 }

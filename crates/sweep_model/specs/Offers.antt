@@ -34,6 +34,7 @@ pub record Offered (g : Graph) (a : Automaton) (s to t v : ℕ) (r r′ : Rows) 
 module _ (g : Graph) (a : Automaton) (v : Valid g) (l : Lawful g a) (s n e x : ℕ) (r : Rows) (tab : Table g a (suc s) r)
     (hs : s < g .stages) (hn : n < a .size) (costs : costAt (a .size) r s n ≡ x) (low : x < unreached) (he : e < g .count) (hf : g .from e ≡ s)
     (nz : a .next e n ≡ 0 → ⊥) where
+  -- the pair that is offered the cost y: stage S, node T, numbered q
   abbrev S : ℕ
   S = g .to e
 

@@ -12,7 +12,7 @@ use Rattle.theory.specs.Limits.{Valid}
 use Rattle.theory.specs.Basics.{either}
 use Rattle.theory.specs.Ways.{way-climbs}
 use Rattle.theory.specs.Pairs.{WayTo, way-start, way-next}
-use Rattle.trace.specs.Trails.{Trail, begin, more}
+use Rattle.trace.specs.Trails.{packed, Trail, begin, more}
 use Rattle.sweep_model.specs.Model.{unreached, Rows, costAt}
 use Rattle.sweep_model.specs.Rows.{Via, Entry, Table}
 
@@ -31,7 +31,7 @@ module _ (g : Graph) (a : Automaton) (v : Valid g) (below : ℕ) (r : Rows) (t :
   unfolding way-start
   start-traced = record { way = way-start g a; trail = begin }
 
-  step-traced : (s n e m k : ℕ) → e < g .count → m < a .size → g .to e ≡ s → getD (r .via) (s * a .size + n) 0 ≡ e * 512 + m → a .next e m ≡ n
+  step-traced : (s n e m k : ℕ) → e < g .count → m < a .size → g .to e ≡ s → getD (r .via) (s * a .size + n) 0 ≡ packed e m → a .next e m ≡ n
       → Traced g a (r .via) from (g .from e) m k → Traced g a (r .via) from s n (k + g .cost e)
   unfolding way-next
   step-traced s n e m k he hm hs hv hn x =

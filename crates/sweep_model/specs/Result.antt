@@ -34,6 +34,12 @@ pub record Fresh (g : Graph) (a : Automaton) (r : Rows) : Type 0 where
   pub no-cost : (p : ℕ) → p < pairs g a → getD (r .cost) p 0 ≡ unreached
   pub no-node : (s : ℕ) → s < g .stages → getD (r .counts) s 0 ≡ 0
 
+-- tables after the sweep: each pair has its least cost, and the lists have the reached pairs
+pub record Finished (g : Graph) (a : Automaton) (r : Rows) : Type 0 where
+  pub table : Table g a (g .stages) r
+  pub cost-is : (s n : ℕ) → s < g .stages → n < a .size → costAt (a .size) r s n ≡ shown (leastCost g a s n)
+  pub count-is : total (countAt r) (g .stages) ≡ length (reachedPairs g a)
+
 total-zero : (f : ℕ → ℕ) (n : ℕ) → ((i : ℕ) → i < n → f i ≡ 0) → total f n ≡ 0
 unfolding total
 total-zero f zero h = refl
@@ -80,7 +86,7 @@ module _ (g : Graph) (a : Automaton) (v : Valid g) (l : Lawful g a) (r : Rows) (
     place-inside : pair a (g .start) 0 < pairs g a
     place-inside = pair-inside g a (g .start) 0 (v .start-inside) (omega (arith, l .root-inside))
 
-    pub start-cost : costAt (a .size) r₁ (g .start) (a .root) ≡ 0
+    start-cost : costAt (a .size) r₁ (g .start) (a .root) ≡ 0
     start-cost = getD-set-same (r .cost) q 0 0 (omega (arith, new .cost-fits, q-inside))
 
     other-cost : (p : ℕ) → (p ≡ q → ⊥) → getD (r₁ .cost) p 0 ≡ getD (r .cost) p 0
@@ -101,7 +107,7 @@ module _ (g : Graph) (a : Automaton) (v : Valid g) (l : Lawful g a) (r : Rows) (
         either (same-or-not s (g .start)) (λ b. (b, omega (arith, start-count, ap (countAt r₁) b)))
         (λ b. absurd (omega (arith, other-count s b, new .no-node s h)))
 
-    pub begun-cell : (s n : ℕ) → s < g .stages → n < a .size → (costAt (a .size) r₁ s n ≡ unreached) ⊎ ((s ≡ g .start) × (n ≡ a .root))
+    begun-cell : (s n : ℕ) → s < g .stages → n < a .size → (costAt (a .size) r₁ s n ≡ unreached) ⊎ ((s ≡ g .start) × (n ≡ a .root))
     begun-cell s n h i =
         either (same-or-not (pair a s n) q) (λ b. inr (pair-apart a s n (g .start) (a .root) i (l .root-inside) b))
         (λ b. inl (other-cost (pair a s n) b ∙ blank s n h i))
@@ -193,7 +199,7 @@ module _ (g : Graph) (a : Automaton) (v : Valid g) (l : Lawful g a) (r : Rows) (
         let n : g .start + (g .stages - g .start) ≡ g .stages = omega (arith, v .start-inside) in
         rw n at (rows-made g a v l first F (g .stages - g .start) (g .start) (begun g a r) (omega (arith, v .start-inside)) (begins .table) (begins .done))
 
-    pub final-table : Table g a (g .stages) final
+    final-table : Table g a (g .stages) final
     final-table = all-rows .table
 
     pub final-past : Past g a r final
@@ -210,7 +216,7 @@ module _ (g : Graph) (a : Automaton) (v : Valid g) (l : Lawful g a) (r : Rows) (
         omega (arith, along w (g .to e) (a .next e n) (k + g .cost e) (i .2) (v .inside e (i .0)) (l .next-inside e n (i .0) j) (omega arith) (omega arith) z)
 
     -- no way to a pair is cheaper
-    pub lower-bound : (s n k : ℕ) → (n ≡ 0 → ⊥) → WayTo g a s n k → costAt (a .size) final s n ≤ k
+    lower-bound : (s n k : ℕ) → (n ≡ 0 → ⊥) → WayTo g a s n k → costAt (a .size) final s n ≤ k
     lower-bound s n k z w =
         let root-alive : a .root ≡ 0 → ⊥ = λ d. z (sym (w .stand) ∙ ap (λ (m : ℕ). stands a m (w .steps)) d ∙ stands-dead g a l (w .steps) (g .start) (w .way)) in
         let c : costAt (a .size) final (g .start) (a .root) ≤ 0 = omega (arith, all-rows .lower (g .start) (a .root) (v .start-inside) (l .root-inside), begins .start root-alive) in
@@ -219,7 +225,7 @@ module _ (g : Graph) (a : Automaton) (v : Valid g) (l : Lawful g a) (r : Rows) (
         omega (arith, t, w .costs, ap₂ (λ (i j : ℕ). costAt (a .size) final i j) (w .ends) (w .stand))
 
     -- the cost of a pair is its least cost
-    pub final-cost : (s n : ℕ) → s < g .stages → n < a .size → costAt (a .size) final s n ≡ shown (leastCost g a s n)
+    final-cost : (s n : ℕ) → s < g .stages → n < a .size → costAt (a .size) final s n ≡ shown (leastCost g a s n)
     final-cost s n h i = either (final-table .cell s n h i) unseen seen
       where
         seen : Entry g a final (g .stages) s n → costAt (a .size) final s n ≡ shown (leastCost g a s n)
@@ -254,7 +260,7 @@ module _ (g : Graph) (a : Automaton) (v : Valid g) (l : Lawful g a) (r : Rows) (
         (final-past .cost-past)
 
     -- the count
-    pub final-count : total (countAt final) (g .stages) ≡ length (reachedPairs g a)
+    final-count : total (countAt final) (g .stages) ≡ length (reachedPairs g a)
     unfolding reachedPairs reached
     final-count =
         final-table .counted
@@ -262,3 +268,6 @@ module _ (g : Graph) (a : Automaton) (v : Valid g) (l : Lawful g a) (r : Rows) (
         (λ p h. ap (λ (z : ℕ). one z) (cost-by-number p h) ∙ mark-of (leastCost g a (stageOf a p) (nodeOf a p))
         (λ m e. omega (arith, way-inside g a v l _ _ m (cost-attained g a (stageOf a p) (nodeOf a p) m e))))
         ∙ sym (keep-total (λ p. reached g a (stageOf a p) (nodeOf a p)) (pairs g a))
+
+    pub finished : Finished g a final
+    finished = record { table = final-table; cost-is = final-cost; count-is = final-count }

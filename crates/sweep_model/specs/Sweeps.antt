@@ -151,7 +151,7 @@ module _ (g : Graph) (a : Automaton) (v : Valid g) (l : Lawful g a) where
       pub lower : (t n : ℕ) → t < g .stages → n < a .size → costAt (a .size) r′ t n ≤ costAt (a .size) r t n
       pub past : Past g a r r′
 
-    pub row-made : (s : ℕ) → s < g .stages → (r : Rows) → Table g a s r → Done s r → Swept (suc s) r (relaxNodes g a first s 0 (countAt r s) r)
+    row-made : (s : ℕ) → s < g .stages → (r : Rows) → Table g a s r → Done s r → Swept (suc s) r (relaxNodes g a first s 0 (countAt r s) r)
     row-made s hs r t d =
         let x = nodes-made s hs (countAt r s) 0 r (table-more g a s (suc s) r (omega arith) t) (omega arith) in
         let r′ = relaxNodes g a first s 0 (countAt r s) r in

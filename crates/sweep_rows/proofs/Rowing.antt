@@ -51,7 +51,7 @@ module _ (z : Shape) (on : Walk) where
     pub small-stage : (s : ℕ) → s < z .stages → s < 256
     small-stage s h = omega (arith, few-stages z (on .read) (y .tables))
 
-    pub base-at : (s base : ℕ) → s < z .stages → base ≡ getD row s 0 → base ≡ s * w
+    base-at : (s base : ℕ) → s < z .stages → base ≡ getD row s 0 → base ≡ s * w
     base-at s base h e =
         e ∙ row-start z on y s h ∙ ap (λ (k : ℕ). s * k) (sym (width-is z (on .read) (y .tables)))
 
@@ -79,54 +79,58 @@ module _ (z : Shape) (on : Walk) where
       row-place =
           omega (arith, base-is, x .table .nodes-fits, count-fits g a (suc s) r (x .table) s (x .stage), x .counted, pair-inside g a s k (x .stage) (omega (arith, count-fits g a (suc s) r (x .table) s (x .stage), x .counted)))
 
-      module _ {n m : ℕ} (en : n ≡ getD (r .nodes) (base + k) 0) (em : m ≡ n) where
-        node-is : n ≡ nodeAt w r s k
-        node-is = en ∙ ap (λ (i : ℕ). getD (r .nodes) (i + k) 0) base-is
+      -- the k-th node of the list, and its cost
+      abbrev n : ℕ
+      n = getD (r .nodes) (base + k) 0
 
-        pub row-small : n < 512
-        row-small = omega (arith, node-is, listed .0, narrow)
+      abbrev v : ℕ
+      v = getD (r .cost) (base + n) 0
 
-        pub row-cost : base + m < length (r .cost)
-        row-cost = omega (arith, base-is, node-is, listed .0, x .table .cost-fits, pair-inside g a s (nodeAt w r s k) (x .stage) (listed .0))
+      node-is : n ≡ nodeAt w r s k
+      node-is = ap (λ (i : ℕ). getD (r .nodes) (i + k) 0) base-is
 
-        module _ {v : ℕ} (ev : v ≡ getD (r .cost) (base + m) 0) where
-          cost-is : v ≡ costAt w r s (nodeAt w r s k)
-          cost-is = ev ∙ ap₂ (λ (i j : ℕ). getD (r .cost) (i + j) 0) base-is (em ∙ node-is)
+      cost-is : v ≡ costAt w r s (nodeAt w r s k)
+      cost-is = ap₂ (λ (i j : ℕ). getD (r .cost) (i + j) 0) base-is node-is
 
-          pub row-standing : Standing z on s n v r
-          row-standing = record {
+      pub row-small : n < 512
+      row-small = omega (arith, node-is, listed .0, narrow)
+
+      pub row-cost : base + n < length (r .cost)
+      row-cost = omega (arith, base-is, node-is, listed .0, x .table .cost-fits, pair-inside g a s (nodeAt w r s k) (x .stage) (listed .0))
+
+      pub row-standing : Standing z on s n v r
+      row-standing = record {
+        ready = x .ready;
+        table = x .table;
+        stage = x .stage;
+        node = omega (arith, node-is, listed .0);
+        costs = ap (λ (i : ℕ). costAt w r s i) node-is ∙ sym cost-is;
+        low = omega (arith, cost-is, listed .1);
+      }
+
+      abbrev pub row-stands : Stands (on .read) row n v (getD first s 0) (getD first (s + 1) 0) r
+      row-stands = record { z = z; first = first; s = s; standing = row-standing; begins = refl; ends = refl }
+
+      pub row-more : {r′ : Rows} → r′ ≡ relaxSteps g a n v (getD first s 0) (getD first (s + 1) 0 - getD first s 0) r → Rowing z on s count r₀ r′ (k + 1)
+      unfolding relaxNodes relaxNode
+      row-more {r′} er =
+          let q : s + 1 ≡ suc s = omega arith in
+          let f = first-steps z on (x .ready) in
+          let one = steps-made g a (x .ready .tables .valid) (lawful-in z (on .read) (x .ready .tables)) s (nodeAt w r s k) (costAt w r s (nodeAt w r s k)) (x .stage) (listed .0) (listed .1)
+          (at first (suc s) - at first s) (at first s) r (x .table) refl (λ e i j. f .leave s e (x .stage) i (omega arith)) in
+          let e : r′ ≡ relaxSteps g a (nodeAt w r s k) (costAt w r s (nodeAt w r s k)) (at first s) (at first (suc s) - at first s) r =
+          er ∙ ap₂ (λ (i j : ℕ). relaxSteps g a i j (at first s) (at first (s + 1) - at first s) r) node-is cost-is
+          ∙ ap (λ (i : ℕ). relaxSteps g a (nodeAt w r s k) (costAt w r s (nodeAt w r s k)) (at first s) (at first i - at first s) r) q in
+          let j : count - k ≡ suc (count - (k + 1)) = omega arith in
+          let p : suc k ≡ k + 1 = omega arith in
+          record {
             ready = x .ready;
-            table = x .table;
+            table = subst (Table g a (suc s)) (sym e) (one .table);
             stage = x .stage;
-            node = omega (arith, node-is, listed .0);
-            costs = ap (λ (i : ℕ). costAt w r s i) node-is ∙ sym cost-is;
-            low = omega (arith, cost-is, listed .1);
+            counted = ap (λ (i : Rows). countAt i s) e ∙ one .later .count-same s (omega arith) ∙ x .counted;
+            same = x .same ∙ ap (λ (i : ℕ). relaxNodes g a (at first) s k i r) j
+                ∙ ap₂ (λ (i : ℕ) (l : Rows). relaxNodes g a (at first) s i (count - (k + 1)) l) p (sym e);
           }
-
-          module _ {start until : ℕ} (es : start ≡ getD first s 0) (eu : until ≡ getD first (s + 1) 0) where
-            abbrev pub row-stands : Stands (on .read) row n v start until r
-            row-stands = record { z = z; first = first; s = s; standing = row-standing; begins = es; ends = eu }
-
-            pub row-more : {r′ : Rows} → r′ ≡ relaxSteps g a n v start (until - start) r → Rowing z on s count r₀ r′ (k + 1)
-            unfolding relaxNodes relaxNode
-            row-more {r′} er =
-                let q : s + 1 ≡ suc s = omega arith in
-                let f = first-steps z on (x .ready) in
-                let one = steps-made g a (x .ready .tables .valid) (lawful-in z (on .read) (x .ready .tables)) s (nodeAt w r s k) (costAt w r s (nodeAt w r s k)) (x .stage) (listed .0) (listed .1)
-                (at first (suc s) - at first s) (at first s) r (x .table) refl (λ e i j. f .leave s e (x .stage) i (omega arith)) in
-                let e : r′ ≡ relaxSteps g a (nodeAt w r s k) (costAt w r s (nodeAt w r s k)) (at first s) (at first (suc s) - at first s) r =
-                er ∙ ap₂ (λ (i j : ℕ). relaxSteps g a i j start (until - start) r) node-is cost-is
-                ∙ ap₂ (λ (i j : ℕ). relaxSteps g a (nodeAt w r s k) (costAt w r s (nodeAt w r s k)) i (j - i) r) es (eu ∙ ap (at first) q) in
-                let j : count - k ≡ suc (count - (k + 1)) = omega arith in
-                let p : suc k ≡ k + 1 = omega arith in
-                record {
-                  ready = x .ready;
-                  table = subst (Table g a (suc s)) (sym e) (one .table);
-                  stage = x .stage;
-                  counted = ap (λ (i : Rows). countAt i s) e ∙ one .later .count-same s (omega arith) ∙ x .counted;
-                  same = x .same ∙ ap (λ (i : ℕ). relaxNodes g a (at first) s k i r) j
-                      ∙ ap₂ (λ (i : ℕ) (l : Rows). relaxNodes g a (at first) s i (count - (k + 1)) l) p (sym e);
-                }
 
     pub row-done : count ≤ k → {c : ℕ} → count ≡ c → r ≡ relaxNodes g a (at first) s 0 c r₀
     unfolding relaxNodes

@@ -14,6 +14,7 @@ use Rattle.definitions.specs.Ways.{Graph}
 use Rattle.definitions.specs.Pairs.{Automaton}
 use Rattle.theory.specs.Basics.{pick-true, pick-false, either}
 use Rattle.theory.specs.Diagrams.{advance-leaf}
+use Rattle.theory.specs.Variables.{next-is}
 use Rattle.trace.specs.Trails.{packed}
 use Rattle.diagram.specs.Tables.{Marked}
 use Rattle.nodes.specs.Falling.{lo-falls}
@@ -25,7 +26,7 @@ use Rattle.sweep_model.specs.Offers.{pair-fits, roomy, place-fits}
 use Rattle.sweep_model.specs.Sweeps.{step-made}
 use Rattle.checks.specs.Ready.{Walk, walk, graphIn, automatonIn, count-is, width-is, lawful-in, few-stages, few-nodes, few-steps, to-at, cost-at, first-leave, row-start}
 use Rattle.chart.specs.Tables.{Steps}
-use Rattle.checks.specs.Tables.{Read, Tables, diagramIn}
+use Rattle.checks.specs.Tables.{Read, Tables, chartIn, diagramIn}
 use Rattle.definitions.specs.declared.Shape.{Shape}
 use Rattle.sweep_rows.specs.Standing.{Open, Offering, stepped, Standing, Stands}
 
@@ -40,24 +41,24 @@ module _ (c : Steps) (row : List ℕ) (e n v t : ℕ) (r : Rows) where
   unfolding stepped
   stepped-none h = sym (pick-true _ _ _ (eq-eqb t 0 h))
 
-  pub stepped-offer : (base : ℕ) (r′ : Rows) → (t ≡ 0 → ⊥) → base ≡ getD row (getD (c .to) e 0) 0
-      → r′ ≡ offer base (getD (c .to) e 0) t (v + getD (c .cost) e 0) (e * 512 + n) r → r′ ≡ stepped c row e n v t r
+  pub stepped-offer : (base mark : ℕ) (r′ : Rows) → (t ≡ 0 → ⊥) → base ≡ getD row (getD (c .to) e 0) 0 → mark ≡ packed e n
+      → r′ ≡ offer base (getD (c .to) e 0) t (v + getD (c .cost) e 0) mark r → r′ ≡ stepped c row e n v t r
   unfolding stepped
-  stepped-offer base r′ h b q =
-      q ∙ ap (λ (i : ℕ). offer i (getD (c .to) e 0) t (v + getD (c .cost) e 0) (e * 512 + n) r) b ∙ sym (pick-false _ _ _ (ne-eqb t 0 h))
+  stepped-offer base mark r′ h b m q =
+      q ∙ ap₂ (λ (i j : ℕ). offer i (getD (c .to) e 0) t (v + getD (c .cost) e 0) j r) b m ∙ sym (pick-false _ _ _ (ne-eqb t 0 h))
 
 -- The loop of `relax_node` before step e, with the node carried down to m: what is left to do comes to the same as the whole
-pub record Walking (z : Shape) (on : Walk) (s n v start until : ℕ) (r₀ r : Rows) (e m : ℕ) : Type 0 where
-  pub begins : start ≡ getD (on .first) s 0
+pub record Walking (z : Shape) (on : Walk) (s n v begin until : ℕ) (r₀ r : Rows) (e m : ℕ) : Type 0 where
+  pub begins : begin ≡ getD (on .first) s 0
   pub ends : until ≡ getD (on .first) (s + 1) 0
   pub standing : Standing z on s n v r
-  pub same : relaxSteps (graphIn z (on .read)) (automatonIn z (on .read)) n v start (until - start) r₀
+  pub same : relaxSteps (graphIn z (on .read)) (automatonIn z (on .read)) n v begin (until - begin) r₀
       ≡ relaxSteps (graphIn z (on .read)) (automatonIn z (on .read)) n v e (until - e) r
-  pub later : start ≤ e
+  pub later : begin ≤ e
   pub carried : (f : ℕ) → e ≤ f → advance (diagramIn z (on .read)) f m ≡ advance (diagramIn z (on .read)) f n
   pub down : m ≤ n
 
-module _ {z : Shape} {on : Walk} {s n v start until : ℕ} {r₀ r : Rows} {e m : ℕ} (w : Walking z on s n v start until r₀ r e m) where
+module _ {z : Shape} {on : Walk} {s n v begin until : ℕ} {r₀ r : Rows} {e m : ℕ} (w : Walking z on s n v begin until r₀ r e m) where
   abbrev g : Graph
   g = graphIn z (on .read)
 
@@ -100,7 +101,7 @@ module _ {z : Shape} {on : Walk} {s n v start until : ℕ} {r₀ r : Rows} {e m 
     walk-step = omega (arith, leaving .0, few-steps z (on .read) (standing .ready .tables))
 
     -- one step e out of the stage, to node t
-    module _ (t : ℕ) (et : t ≡ advance d e n) where
+    module _ (t : ℕ) (et : t ≡ a .next e n) where
       exists : e < g .count
       exists = omega (arith, leaving .0, count-is z (on .read) tables)
 
@@ -119,7 +120,7 @@ module _ {z : Shape} {on : Walk} {s n v start until : ℕ} {r₀ r : Rows} {e m 
       cost-is = cost-at z (on .read) tables e (leaving .0)
 
       -- what the code does is the model's step
-      pub stepped-is : stepped (on .read .steps) row e n v t r ≡ relaxStep g a n v e r
+      stepped-is : stepped (on .read .steps) row e n v t r ≡ relaxStep g a n v e r
       unfolding stepped relaxStep
       stepped-is =
           ap (λ (i : ℕ). pick (eqb i 0) r (offer (getD row (getD to e 0) 0) (getD to e 0) i (v + getD cost e 0) (packed e n) r)) et
@@ -161,7 +162,7 @@ module _ {z : Shape} {on : Walk} {s n v start until : ℕ} {r₀ r : Rows} {e m 
             );
           }
 
-      pub offering : Offering (on .read .steps) row e n v t r
+      offering : Offering (on .read .steps) row e n v t r
       offering = record {
         exists = omega (arith, leaving .0, few-steps z (on .read) tables);
         inside = omega (arith, to-is, to-inside, few-stages z (on .read) tables);
@@ -171,7 +172,7 @@ module _ {z : Shape} {on : Walk} {s n v start until : ℕ} {r₀ r : Rows} {e m 
       }
 
       -- afterwards the node stands as before
-      pub stands-on : Standing z on s n v (relaxStep g a n v e r)
+      stands-on : Standing z on s n v (relaxStep g a n v e r)
       stands-on =
           let m = step-made g a (tables .valid) (lawful-in z (on .read) tables) s n v (standing .stage) (standing .node) (standing .low) e r (standing .table) (standing .costs) exists (leaving .1) in
           record {
@@ -195,20 +196,21 @@ module _ {z : Shape} {on : Walk} {s n v start until : ℕ} {r₀ r : Rows} {e m 
       unfolding relaxSteps relaxStep
       dead zero f h q r = refl
       dead (suc k) f h q r =
-          let none : a .next f n ≡ 0 = sym (carried-on f h) ∙ ap (advance d f) q ∙ advance-leaf d (standing .ready .tables .held .ordered) f 0 (omega arith) in
+          let none : a .next f n ≡ 0 = next-is (chartIn z (on .read)) d f n ∙ sym (carried-on f h) ∙ ap (advance d f) q ∙ advance-leaf d (standing .ready .tables .held .ordered) f 0 (omega arith) in
           ap (relaxSteps g a n v (suc f) k) (pick-true _ _ _ (eq-eqb _ 0 none)) ∙ dead k (suc f) (omega arith) q r
 
-      pub walk-dead : m′ ≡ 0 → r ≡ relaxSteps g a n v start (until - start) r₀
+      pub walk-dead : m′ ≡ 0 → r ≡ relaxSteps g a n v begin (until - begin) r₀
       walk-dead q = sym (w .same ∙ dead (until - e) e (omega arith) q r)
 
       module _ {t : ℕ} (y : BranchesTo (on .read .inner .step) (on .read .inner .hi) e m′ t) where
-        advanced-is : t ≡ advance d e n
-        advanced-is = y (on .read .inner .lo) m x .is d (standing .ready .tables .held) small ∙ w .carried e (omega arith)
+        advanced-is : t ≡ a .next e n
+        advanced-is =
+            y (on .read .inner .lo) m x .is d (standing .ready .tables .held) small ∙ w .carried e (omega arith) ∙ sym (next-is (chartIn z (on .read)) d e n)
 
         pub walk-offering : Offering (on .read .steps) row e n v t r
         walk-offering = offering t advanced-is
 
-        pub walk-more : (r′ : Rows) → r′ ≡ stepped (on .read .steps) row e n v t r → Walking z on s n v start until r₀ r′ (e + 1) m′
+        pub walk-more : (r′ : Rows) → r′ ≡ stepped (on .read .steps) row e n v t r → Walking z on s n v begin until r₀ r′ (e + 1) m′
         unfolding relaxSteps
         walk-more r′ q =
             let p = q ∙ stepped-is t advanced-is in
@@ -225,10 +227,10 @@ module _ {z : Shape} {on : Walk} {s n v start until : ℕ} {r₀ r : Rows} {e m 
               down = omega (arith, w .down, x .below);
             }
 
-  pub walk-done : until ≤ e → r ≡ relaxSteps g a n v start (until - start) r₀
+  pub walk-done : until ≤ e → r ≡ relaxSteps g a n v begin (until - begin) r₀
   unfolding relaxSteps
   walk-done h = let k : until - e ≡ 0 = omega arith in sym (w .same ∙ ap (λ (i : ℕ). relaxSteps g a n v e i r) k)
 
-pub walk-start : {t : Read} {row : List ℕ} {n v start until : ℕ} {r : Rows} (x : Stands t row n v start until r)
-    → Walking (x .z) (walk t (x .first) row) (x .s) n v start until r r start n
+pub walk-start : {t : Read} {row : List ℕ} {n v begin until : ℕ} {r : Rows} (x : Stands t row n v begin until r)
+    → Walking (x .z) (walk t (x .first) row) (x .s) n v begin until r r begin n
 walk-start x = record { begins = x .begins; ends = x .ends; standing = x .standing; same = refl; later = omega arith; carried = λ f h. refl; down = omega arith }

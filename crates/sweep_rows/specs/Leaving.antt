@@ -1,6 +1,6 @@
 -- The table of first steps gives each stage the steps that leave it.
 -- Assumes nothing.
-use Prim.Native.Nat.{ℕ, suc, _+_}
+use Prim.Native.Nat.{suc, _+_}
 use mathlib.Core.Path.{_≡_, ap}
 use native.Mathlib.Omega.{arith}
 use Rattle.sweep_model.specs.Sweeps.{FirstSteps}

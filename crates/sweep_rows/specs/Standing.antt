@@ -45,13 +45,13 @@ pub record Standing (z : Shape) (on : Walk) (s n v : ℕ) (r : Rows) : Type 0 wh
   pub costs : costAt (automatonIn z (on .read) .size) r s n ≡ v
   pub low : v < unreached
 
--- node n stands in the tables at the cost v, as a node of some stage of some chart and diagram; the steps that leave the stage are those from `start` to before `until`
-pub record Stands (t : Read) (row : List ℕ) (n v start until : ℕ) (r : Rows) : Type 0 where
+-- node n stands in the tables at the cost v, as a node of some stage of some chart and diagram; the steps that leave the stage are those from `begin` to before `until`
+pub record Stands (t : Read) (row : List ℕ) (n v begin until : ℕ) (r : Rows) : Type 0 where
   pub z : Shape
   pub first : List ℕ
   pub s : ℕ
   pub standing : Standing z (walk t first row) s n v r
-  pub begins : start ≡ getD first s 0
+  pub begins : begin ≡ getD first s 0
   pub ends : until ≡ getD first (s + 1) 0
 
 -- row s stands in the tables

@@ -8,7 +8,6 @@ ghost use Rattle.checks.specs.Ready.{walk, graphIn, automatonIn};
 ghost use Rattle.sweep_rows.specs.Standing.{Open, Offering, stepped, Stands, Row, InRow, at};
 use chart::COST;
 use chart::TO;
-use convert::index;
 use convert::wide;
 use definitions::NONE;
 use definitions::Node;
@@ -20,6 +19,13 @@ use diagram::LO;
 use diagram::STEP;
 use nodes::branch;
 use nodes::descend_to;
+use trace::packed;
+
+// The steps from `begin` to before `until`.
+struct Span {
+    begin: Step,
+    until: Step,
+}
 
 // The pair of stage s, whose row starts at `base`, and node t is offered the cost v. `mark` has the step and the node
 // that offer it.
@@ -29,33 +35,34 @@ fn offer(
     nodes: &mut [u32],
     counts: &mut [u32; 256],
     base: usize,
-    s: usize,
-    t: usize,
+    s: Stage,
+    t: Node,
     v: u32,
     mark: u32,
 )
-    requires { ⌜ Open base s t (rows (now costs) (now via) (now nodes) (now counts)) ⌝ }
+    requires { ⌜ Open base (s .0) (t .0) (rows (now costs) (now via) (now nodes) (now counts)) ⌝ }
     ensures { λ _. ⌜
         (let before = rows (now (costs .entry)) (now (via .entry)) (now (nodes .entry)) (now (counts .entry)) in
         let after = rows (now (costs .exit)) (now (via .exit)) (now (nodes .exit)) (now (counts .exit)) in
-        after ≡ offered base s t v mark before)
+        after ≡ offered base (s .0) (t .0) v mark before)
         ⌝ }
 {
-    let q = base + t;
-    let old = costs[q];
+    let pair = base + t.0 as usize;
+    let old = costs[pair];
     if old <= v {
         return;
     }
     if old == NONE {
-        let k = counts[s];
-        nodes[base + wide(k)] = t as u32;
-        counts[s] = k + 1;
-        costs[q] = v;
-        via[q] = mark;
+        let stage = s.0 as usize;
+        let k = counts[stage];
+        nodes[base + wide(k)] = t.0 as u32;
+        counts[stage] = k + 1;
+        costs[pair] = v;
+        via[pair] = mark;
         return;
     }
-    costs[q] = v;
-    via[q] = mark;
+    costs[pair] = v;
+    via[pair] = mark;
 }
 
 // Node n at cost v offers by step e, which leads to node t; to node 0 it offers nothing.
@@ -66,40 +73,32 @@ fn relax_step<'a>(
     counts: &mut [u32; 256],
     steps: &'a [[u32; 1024]; 3],
     row: &'a [u32; 256],
-    e: usize,
+    e: Step,
     n: Node,
     v: u32,
     t: Node,
 )
     requires { ⌜
-        Offering (stepsIn (now steps)) (now row) e (n .0) v (t .0) (rows (now costs) (now via) (now nodes) (now counts))
+        Offering (stepsIn (now steps)) (now row) (e .0) (n .0) v (t .0) (rows (now costs) (now via) (now nodes) (now counts))
         ⌝ }
     ensures { λ _. ⌜
         (let before = rows (now (costs .entry)) (now (via .entry)) (now (nodes .entry)) (now (counts .entry)) in
         let after = rows (now (costs .exit)) (now (via .exit)) (now (nodes .exit)) (now (counts .exit)) in
-        after ≡ stepped (stepsIn (now (steps .entry))) (now (row .entry)) e (n .0) v (t .0) before)
+        after ≡ stepped (stepsIn (now (steps .entry))) (now (row .entry)) (e .0) (n .0) v (t .0) before)
         ⌝ }
 {
     if t.0 == 0 {
         return;
     }
-    let s = steps[TO][e] as usize;
-    let base = wide(row[s]);
-    let mark = e as u32 * 512 + n.0 as u32;
-    offer(
-        costs,
-        via,
-        nodes,
-        counts,
-        base,
-        s,
-        t.0 as usize,
-        v + steps[COST][e],
-        mark,
-    );
+    let step = e.0 as usize;
+    let s = Stage(steps[TO][step] as u16);
+    let base = wide(row[s.0 as usize]);
+    let mark = packed(e, n);
+    let total = v + steps[COST][step];
+    offer(costs, via, nodes, counts, base, s, t, total, mark);
 }
 
-// Node n, at cost v, offers by the steps from `start` to before `until`, which leave its stage.
+// Node n, at cost v, offers by the steps that leave its stage.
 fn relax_node<'a>(
     costs: &mut [u32],
     via: &mut [u32],
@@ -110,32 +109,32 @@ fn relax_node<'a>(
     inner: &'a [[u16; 512]; 3],
     n: Node,
     v: u32,
-    start: usize,
-    until: usize,
+    leaving: Span,
 )
     requires { ⌜
         (let t = read (now steps) (now inner) in
-        Stands t (now row) (n .0) v start until (rows (now costs) (now via) (now nodes) (now counts)))
+        Stands t (now row) (n .0) v (leaving .begin .0) (leaving .until .0) (rows (now costs) (now via) (now nodes) (now counts)))
         ⌝ }
     ensures { λ _. ⌜
         (let before = rows (now (costs .entry)) (now (via .entry)) (now (nodes .entry)) (now (counts .entry)) in
         let after = rows (now (costs .exit)) (now (via .exit)) (now (nodes .exit)) (now (counts .exit)) in
         let t = read (now (steps .entry)) (now (inner .entry)) in
-        (x : Stands t (now (row .entry)) (n .0) v start until before)
-        → after ≡ relaxSteps (graphIn (x .z) t) (automatonIn (x .z) t) (n .0) v start (until - start) before)
+        (x : Stands t (now (row .entry)) (n .0) v (leaving .begin .0) (leaving .until .0) before)
+        → after ≡ relaxSteps (graphIn (x .z) t) (automatonIn (x .z) t) (n .0) v (leaving .begin .0) (leaving .until .0 - leaving .begin .0) before)
         ⌝ }
 {
     let mut m = n;
-    let mut e = start;
-    while e < until {
-        let key = Step(e as u16);
-        m = descend_to(&inner[STEP], &inner[LO], key, m);
+    let mut next = leaving.begin.0;
+    let end = leaving.until.0;
+    while next < end {
+        let e = Step(next);
+        m = descend_to(&inner[STEP], &inner[LO], e, m);
         if m.0 == 0 {
             return;
         }
-        let t = branch(&inner[STEP], &inner[HI], key, m);
+        let t = branch(&inner[STEP], &inner[HI], e, m);
         relax_step(costs, via, nodes, counts, steps, row, e, n, v, t);
-        e += 1;
+        next += 1;
     }
 }
 
@@ -164,28 +163,17 @@ fn relax_row<'a>(
         → after ≡ relaxNodes (graphIn (x .z) t) (automatonIn (x .z) t) (at first) (s .0) 0 (at (before .counts) (s .0)) before)
         ⌝ }
 {
-    let at = s.0 as usize;
-    let base = wide(row[at]);
-    let start = index(first[at]);
-    let until = index(first[at + 1]);
-    let count = wide(counts[at]);
+    let stage = s.0 as usize;
+    let base = wide(row[stage]);
+    let begin = Step(first[stage]);
+    let until = Step(first[stage + 1]);
+    let leaving = Span { begin, until };
+    let count = wide(counts[stage]);
     let mut k: usize = 0;
     while k < count {
-        let n = nodes[base + k];
-        let v = costs[base + wide(n)];
-        relax_node(
-            costs,
-            via,
-            nodes,
-            counts,
-            steps,
-            row,
-            inner,
-            Node(n as u16),
-            v,
-            start,
-            until,
-        );
+        let n = Node(nodes[base + k] as u16);
+        let v = costs[base + n.0 as usize];
+        relax_node(costs, via, nodes, counts, steps, row, inner, n, v, leaving);
         k += 1;
     }
 }
@@ -216,17 +204,8 @@ pub fn relax_rows<'a>(
     let stages = z.stages;
     let mut s = z.start.0;
     while s < stages {
-        relax_row(
-            costs,
-            via,
-            nodes,
-            counts,
-            steps,
-            first,
-            row,
-            inner,
-            Stage(s),
-        );
+        let stage = Stage(s);
+        relax_row(costs, via, nodes, counts, steps, first, row, inner, stage);
         s += 1;
     }
 }

@@ -1,16 +1,18 @@
 -- Laws of what the definitions are written with: a choice by a test, numbers in order, optional numbers, and lists.
 -- Assumes nothing.
-use Prim.Native.Nat.{ℕ, zero, suc, _+_, _≤_, _<_, min, max}
+use Prim.Native.Nat.{ℕ, zero, suc, _+_, _-_, _≤_, _<_, min, max}
 use mathlib.Core.Path.{_≡_, refl, sym, _∙_, ap}
 use mathlib.Core.Bool.{Bool, true, false, _&&_, cond, and-eq-true-iff}
-use mathlib.Core.List.{List, [], _∷_, map, List·Memᴰ, List·Memᴰ·head, List·Memᴰ·tail, List·Memᴰ·not-nil, List·Memᴰ·cases-cons, List·Memᴰ·append-cases, Memᴰ·append-left, Memᴰ·append-right}
+use mathlib.Core.List.{List, [], _∷_, _++_, map, List·Memᴰ, List·Memᴰ·head, List·Memᴰ·tail, List·Memᴰ·not-nil, List·Memᴰ·cases-cons, List·Memᴰ·append-cases, Memᴰ·append-left, Memᴰ·append-right}
 use mathlib.Core.Logic.{_⊎_, inl, inr}
 use mathlib.Core.Option.{Option, none, some}
+use native.Mathlib.Numerals.{add-one}
 use native.Mathlib.Omega.{arith}
 use lib.Dec.{ltb}
-use lib.ListN.{length, getD}
+use lib.ListN.{length, getD, set, drop}
+use lib.Seq.{drop-set-lt, drop-drop}
 use borrow.Author.Tests.{ltb-true, ltb-false}
-use Rattle.definitions.specs.Basics.{pick, smaller, larger, plus, sumOf, keep, each, run, upto, least}
+use Rattle.definitions.specs.Basics.{pick, smaller, larger, sumOf, keep, each, run, upto, least}
 
 -- ---- tests
 
@@ -80,7 +82,7 @@ larger-none-right none = refl
 larger-none-right (some x) = refl
 
 pub sumOf-some : (x y : ℕ) → sumOf (some x) (some y) ≡ some (x + y)
-unfolding sumOf plus
+unfolding sumOf
 sumOf-some x y = refl
 
 -- where the result is a number, the parts are
@@ -92,13 +94,8 @@ smaller-cases (some x) (some y) k e =
     let r : min x y ≡ k = some-inj (min x y) k e in
     either (lt-or-le x y) (λ l. let q : x ≡ k = omega arith in inl (ap (λ (n : ℕ). some n) q)) (λ l. let q : y ≡ k = omega arith in inr (ap (λ (n : ℕ). some n) q))
 
-pub plus-parts : (c : ℕ) (a : Option ℕ) (k : ℕ) → plus c a ≡ some k → (x : ℕ) × (a ≡ some x) × (k ≡ c + x)
-unfolding plus
-plus-parts c none k e = absurd (none-not-some k e)
-plus-parts c (some x) k e = (x, refl, some-inj k (c + x) (sym e))
-
 pub sumOf-parts : (a b : Option ℕ) (k : ℕ) → sumOf a b ≡ some k → (x y : ℕ) × (a ≡ some x) × (b ≡ some y) × (k ≡ x + y)
-unfolding sumOf plus
+unfolding sumOf
 sumOf-parts none b k e = absurd (none-not-some k e)
 sumOf-parts (some x) none k e = absurd (none-not-some k e)
 sumOf-parts (some x) (some y) k e = (x, y, refl, refl, some-inj k (x + y) (sym e))
@@ -142,10 +139,11 @@ smaller-right none b k h = h
 smaller-right (some x) none k h = none-at-most k h
 smaller-right (some x) (some y) k h = (min x y, refl, omega (arith, some-at-most y k h))
 
-pub plus-at-most : (c : ℕ) (a : Option ℕ) (k : ℕ) → AtMost a k → AtMost (plus c a) (c + k)
-unfolding plus
-plus-at-most c none k h = none-at-most k h
-plus-at-most c (some x) k h = (c + x, refl, omega (arith, some-at-most x k h))
+pub sumOf-at-most : (a b : Option ℕ) (j k : ℕ) → AtMost a j → AtMost b k → AtMost (sumOf a b) (j + k)
+unfolding sumOf
+sumOf-at-most none b j k h i = none-at-most j h
+sumOf-at-most (some x) none j k h i = none-at-most k i
+sumOf-at-most (some x) (some y) j k h i = (x + y, refl, omega (arith, some-at-most x j h, some-at-most y k i))
 
 pub larger-at-most : (a b : Option ℕ) (k : ℕ) → AtMost a k → AtMost b k → AtMost (larger a b) k
 unfolding larger
@@ -222,6 +220,25 @@ module _ {A : Type 0} (f : ℕ → A) where
 
   pub getD-map-upto : (n j : ℕ) (z : A) → j < n → getD (map f (upto n)) j z ≡ f j
   getD-map-upto n j z h = let q : 0 + j ≡ j = omega arith in getD-map-run 0 n j z h ∙ ap f q
+
+-- one more entry, the entries before it as they were
+module _ {A : Type 0} (f h : ℕ → A) where
+  run-grown : (i n : ℕ) → ((j : ℕ) → j < i + n → h j ≡ f j) → map h (run i (suc n)) ≡ map f (run i n) ++ h (i + n) ∷ []
+  run-grown i zero kept = let q : i ≡ i + 0 = omega arith in ap (λ (j : ℕ). h j ∷ []) q
+  run-grown i (suc n) kept =
+      let q : suc i + n ≡ i + suc n = omega arith in
+      rw (kept i (omega arith), ← q) (ap (λ (l : List A). f i ∷ l) (run-grown (suc i) n (λ j l. kept j (omega arith))))
+
+  pub upto-grown : (n : ℕ) (y : A) → ((j : ℕ) → j < n → h j ≡ f j) → h n ≡ y → map h (upto (n + 1)) ≡ map f (upto n) ++ y ∷ []
+  upto-grown n y kept here =
+      let q : 0 + n ≡ n = omega arith in
+      rw (add-one n, ← here) (run-grown 0 n (λ j l. kept j (omega arith)) ∙ ap (λ (k : ℕ). map f (upto n) ++ h k ∷ []) q)
+
+-- what stays past a number stays past a later one, after a store before that
+pub rest-kept : (m n i v : ℕ) (l l₀ : List ℕ) → m ≤ n → i < n → drop m l ≡ drop m l₀ → drop n (set l i v) ≡ drop n l₀
+rest-kept m n i v l l₀ h g e =
+    let q : m + (n - m) ≡ n = omega arith in
+    drop-set-lt n l i v g ∙ rw (← q) (sym (drop-drop (n - m) m l) ∙ ap (drop (n - m)) e ∙ drop-drop (n - m) m l₀)
 
 -- members by their place
 pub member-at : (xs : List ℕ) {x : ℕ} → List·Memᴰ x xs → (i : ℕ) × (i < length xs) × (getD xs i 0 ≡ x)

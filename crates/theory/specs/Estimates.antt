@@ -10,15 +10,16 @@ use native.Mathlib.Omega.{arith}
 use lib.Dec.{eqb}
 use lib.ListN.{length}
 use borrow.Author.Tests.{eqb-true, eq-eqb}
-use Rattle.definitions.specs.Basics.{smaller, larger, plus}
+use Rattle.definitions.specs.Basics.{smaller, larger, sumOf}
 use Rattle.definitions.specs.Charts.{Chart}
 use Rattle.definitions.specs.Diagrams.{Diagram, size, inner, advance, finish}
 use Rattle.definitions.specs.Ways.{Graph, IsWay, endOf, wayCost}
 use Rattle.definitions.specs.Pairs.{Automaton, stands, goal, toEnd, Estimate}
 use Rattle.definitions.specs.Plans.{graph, automaton, variable, variableCost, chartEstimate, leafEstimate, diagramEstimate, estimate}
 use Rattle.theory.specs.Limits.{Small, Valid, Ordered, Sound}
-use Rattle.theory.specs.Basics.{Order, less, same, more, order, AtMost, none-not-some, some-inj, at-most-zero, weaken, smaller-left, smaller-right, smaller-cases, plus-at-most, plus-parts, larger-at-most, larger-left, larger-right, larger-parts, larger-none-right}
+use Rattle.theory.specs.Basics.{Order, less, same, more, order, AtMost, none-not-some, some-inj, at-most-zero, weaken, smaller-left, smaller-right, smaller-cases, sumOf-at-most, sumOf-parts, larger-at-most, larger-left, larger-right, larger-parts, larger-none-right}
 use Rattle.theory.specs.Diagrams.{induction, descend-leaf, descend-inner, advance-leaf, advance-below, advance-at, advance-above, finish-leaf, finish-inner}
+use Rattle.theory.specs.Variables.{variableCost-at-most, variableCost-cheap}
 use Rattle.theory.specs.Pairs.{goal-parts}
 use Rattle.theory.specs.Ways.{way-climbs, way-cheap, leastWay-lower, leastWay-attained}
 
@@ -88,36 +89,30 @@ chart-bounded c v s m e = toEnd-bounded (graph c) v s m e
 
 -- ---- the diagram estimate
 
--- what a step costs is at least what setting its variable costs
-pub variableCost-at-most : (c : Chart) (e : ℕ) → e < graph c .count → variableCost c (variable c e) ≤ graph c .cost e
-variableCost-at-most c e h = omega arith
-
-pub variableCost-cheap : (c : Chart) → Small c → (k : ℕ) → k < length (c .steps) → variableCost c k ≤ 1000000
-variableCost-cheap c v k h = v k h
-
 module _ (c : Chart) (d : Diagram) (o : Ordered d) where
   pub diagramEstimate-leaf : (n : ℕ) → n < 2 → diagramEstimate c d n ≡ leafEstimate n
   unfolding diagramEstimate
   diagramEstimate-leaf n h = descend-leaf d o _ _ n h
 
   pub diagramEstimate-inner : (n : ℕ) → 2 ≤ n
-      → diagramEstimate c d n ≡ smaller (diagramEstimate c d (inner d n .lo)) (plus (variableCost c (inner d n .step)) (diagramEstimate c d (inner d n .hi)))
+      → diagramEstimate c d n ≡ smaller (diagramEstimate c d (inner d n .lo)) (sumOf (variableCost c (inner d n .step)) (diagramEstimate c d (inner d n .hi)))
   unfolding diagramEstimate
   diagramEstimate-inner n h = descend-inner d o _ _ n h
 
-  pub diagram-step : (k m n : ℕ) → AtMost (diagramEstimate c d (advance d k n)) m → AtMost (diagramEstimate c d n) (variableCost c k + m)
-  diagram-step k m =
-      induction d o (λ n. AtMost (diagramEstimate c d (advance d k n)) m → AtMost (diagramEstimate c d n) (variableCost c k + m))
+  -- a variable's cost at most j, the estimate after it at most m: before it at most j + m
+  pub diagram-step : (k j m n : ℕ) → AtMost (variableCost c k) j → AtMost (diagramEstimate c d (advance d k n)) m → AtMost (diagramEstimate c d n) (j + m)
+  diagram-step k j m n u =
+      induction d o (λ n. AtMost (diagramEstimate c d (advance d k n)) m → AtMost (diagramEstimate c d n) (j + m))
       (λ n h t. weaken _ _ _ (rw (advance-leaf d o k n h) at t) (omega arith))
-      (λ n h l r. node n h l (order (inner d n .step) k))
+      (λ n h l r. node n h l (order (inner d n .step) k)) n
     where
       node : (n : ℕ) → 2 ≤ n
-          → (AtMost (diagramEstimate c d (advance d k (inner d n .lo))) m → AtMost (diagramEstimate c d (inner d n .lo)) (variableCost c k + m))
-          → Order (inner d n .step) k → AtMost (diagramEstimate c d (advance d k n)) m → AtMost (diagramEstimate c d n) (variableCost c k + m)
+          → (AtMost (diagramEstimate c d (advance d k (inner d n .lo))) m → AtMost (diagramEstimate c d (inner d n .lo)) (j + m))
+          → Order (inner d n .step) k → AtMost (diagramEstimate c d (advance d k n)) m → AtMost (diagramEstimate c d n) (j + m)
       node n h l (less q) t = rw (diagramEstimate-inner n h) (smaller-left _ _ _ (l (rw (advance-below d o k n h q) at t)))
       node n h l (same q) t =
-          rw (diagramEstimate-inner n h, q) (smaller-right _ _ _ (plus-at-most (variableCost c k) _ m (rw (advance-at d o k n h q) at t)))
-      node n h l (more q) t = weaken (diagramEstimate c d n) m (variableCost c k + m) (rw (advance-above d o k n h q) at t) (omega arith)
+          rw (diagramEstimate-inner n h, q) (smaller-right _ _ _ (sumOf-at-most (variableCost c k) _ j m u (rw (advance-at d o k n h q) at t)))
+      node n h l (more q) t = weaken (diagramEstimate c d n) m (j + m) (rw (advance-above d o k n h q) at t) (omega arith)
 
   pub diagram-goal : (n : ℕ) → finish d n ≡ 1 → AtMost (diagramEstimate c d n) 0
   diagram-goal =
@@ -127,7 +122,7 @@ module _ (c : Chart) (d : Diagram) (o : Ordered d) where
 
   pub diagram-consistent : ConsistentEstimate 0 (graph c) (automaton c d) (λ s n. diagramEstimate c d n)
   diagram-consistent = record {
-    step = λ e n m h t. weaken _ _ _ (diagram-step (variable c e) m n t) (omega (arith, variableCost-at-most c e h));
+    step = λ e n m h t. diagram-step (variable c e) (graph c .cost e) m n (variableCost-at-most c e h) t;
     goal = λ n t. at-most-zero _ (diagram-goal n (eqb-true _ _ t));
   }
 
@@ -170,12 +165,12 @@ module _ (c : Chart) (d : Diagram) (v : Valid (graph c)) (small : Small c) (s : 
           go b t x
         where
           go : inner d n .lo < n → inner d n .hi < n
-              → (diagramEstimate c d (inner d n .lo) ≡ some m) ⊎ (plus (variableCost c (inner d n .step)) (diagramEstimate c d (inner d n .hi)) ≡ some m)
+              → (diagramEstimate c d (inner d n .lo) ≡ some m) ⊎ (sumOf (variableCost c (inner d n .step)) (diagramEstimate c d (inner d n .hi)) ≡ some m)
               → m + 1000000 ≤ n * 1000000
           go b t (inl q) = omega (arith, l (omega arith) m q)
           go b t (inr q) =
-              let x = plus-parts _ _ m q in
-              omega (arith, r (omega arith) (x .0) (x .1), variableCost-cheap c small (inner d n .step) (s .exist n h i), x .2)
+              let x = sumOf-parts _ _ m q in
+              omega (arith, r (omega arith) (x .1) (x .3), variableCost-cheap c small (inner d n .step) (x .0) (s .exist n h i) (x .2), x .4)
 
   pub diagram-bounded : (n m : ℕ) → n < size d → diagramEstimate c d n ≡ some m → m ≤ 510000000
   diagram-bounded n m h e = omega (arith, by-depth n h m e, s .few)

@@ -5,7 +5,7 @@ use mathlib.Core.Path.{_≡_, refl, ap}
 use mathlib.Core.Logic.{_⊎_, inl, inr}
 use mathlib.Core.Option.{Option, none, some}
 use native.Mathlib.Omega.{arith}
-use Rattle.definitions.specs.Basics.{smaller, plus}
+use Rattle.definitions.specs.Basics.{smaller, sumOf}
 use Rattle.theory.specs.Basics.{either, lt-or-le, AtMost, at-most, none-not-some}
 
 -- o is the least number with P: none where there is none
@@ -44,7 +44,7 @@ least-either P Q (some x) (some y) h i = (
 abbrev pub More : ℕ → (ℕ → Type 0) → ℕ → Type 0
 More c P k = (j : ℕ) × P j × (k ≡ c + j)
 
-pub least-more : (c : ℕ) (P : ℕ → Type 0) (a : Option ℕ) → IsLeast P a → IsLeast (More c P) (plus c a)
-unfolding plus
+pub least-more : (c : ℕ) (P : ℕ → Type 0) (a : Option ℕ) → IsLeast P a → IsLeast (More c P) (sumOf (some c) a)
+unfolding sumOf
 least-more c P none h = λ k t. h (t .0) (t .1)
 least-more c P (some x) h = ((x, h .0, refl), λ k t. omega (arith, h .1 (t .0) (t .1)))

@@ -4,6 +4,7 @@ pub mod Diagrams
 pub mod Least
 pub mod Ways
 pub mod Pairs
+pub mod Variables
 pub mod Plans
 pub mod Estimates
 pub mod BestFirst

@@ -18,13 +18,10 @@ use Rattle.theory.specs.Basics.{both}
 use Rattle.theory.specs.Least.{IsLeast, least-same, least-unique}
 use Rattle.theory.specs.Diagrams.{Sorted, advanceAll, finish-leaf, verdict-stands}
 use Rattle.theory.specs.Ways.{Rising, way-rising, Passing, leastWay-least, isWay-is, is-isWay}
+use Rattle.theory.specs.Variables.{variable-rises}
 use Rattle.theory.specs.Pairs.{WayTo, cost-attained, cost-lower, way-reached, goal-parts, is-goal}
 
 -- ---- the variables of a way
-
--- variables never fall as the steps rise
-pub variable-rises : (c : Chart) (e f : ℕ) → e ≤ f → f < graph c .count → variable c e ≤ variable c f
-variable-rises c e f h l = h
 
 rising-sorted : (c : Chart) (w : List ℕ) (s k j : ℕ) → IsWay (graph c) s w → Rising k w
     → ((e : ℕ) → k ≤ e → e < graph c .count → j ≤ variable c e) → Sorted j (map (variable c) w)

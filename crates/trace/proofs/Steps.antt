@@ -1,32 +1,27 @@
 -- Laws of trails: how a step back shortens one, and what the loops that follow one keep.
 -- Assumes nothing.
-use Prim.Native.Nat.{ℕ, zero, suc, _+_, _-_, _*_, _/_, _%_, _≤_, _<_}
+use Prim.Native.Nat.{ℕ, suc, _+_, _-_, _*_, _≤_, _<_}
 use mathlib.Core.Path.{_≡_, refl, sym, _∙_, ap, subst₂}
-use mathlib.Core.List.{List, [], _∷_, _++_}
+use mathlib.Core.List.{List, [], _∷_, _++_, append-nil}
 use native.Mathlib.Omega.{arith}
 use native.Mathlib.Nat.{mul-le-mul-right}
 use lib.ListN.{length, getD, set, take, length-append}
+use lib.Seq.{append-snoc, take-suc, set-at, length-take-le}
 use Rattle.rows.specs.Rows.{row-at}
-use Rattle.trace.specs.Trails.{packed, Trail, begin, more, Traceable}
+use Rattle.trace.specs.Trails.{packed, stepIn, step-packed, node-packed, CameFrom, Trail, begin, more, Traceable}
+use Rattle.trace.specs.declared.Predecessor.{Predecessor}
 
-append-nil : (xs : List ℕ) → xs ++ [] ≡ xs
-append-nil [] = refl
-append-nil (x ∷ xs) = ap (λ (r : List ℕ). x ∷ r) (append-nil xs)
-
-append-one : (xs : List ℕ) (e : ℕ) (ys : List ℕ) → (xs ++ e ∷ []) ++ ys ≡ xs ++ e ∷ ys
-append-one [] e ys = refl
-append-one (x ∷ xs) e ys = ap (λ (r : List ℕ). x ∷ r) (append-one xs e ys)
-
--- an entry put before a part that stands after the first ones of a list
-pub put-before : (j : ℕ) (l xs : List ℕ) (e : ℕ) → j < length l → set (take (suc j) l ++ xs) j e ≡ take j l ++ e ∷ xs
-put-before j [] xs e h = absurd (omega arith)
-put-before zero (x ∷ l) xs e h = refl
-put-before (suc j) (x ∷ l) xs e h = ap (λ (r : List ℕ). x ∷ r) (put-before j l xs e (omega arith))
-
+-- an entry put at j, before the part xs that stands after the first j + 1 entries of a list
 pub put-at : (i j : ℕ) (l xs plan : List ℕ) (e : ℕ) → i ≤ length l → i ≡ j + 1 → plan ≡ take i l ++ xs → set plan j e ≡ take j l ++ e ∷ xs
 put-at i j l xs plan e h q p =
-    let r : i ≡ suc j = omega arith in
-    ap (λ (z : List ℕ). set z j e) (p ∙ ap (λ (k : ℕ). take k l ++ xs) r) ∙ put-before j l xs e (omega arith)
+    let k : i ≡ suc j = omega arith in
+    ap (λ (z : List ℕ). set z j e) (p ∙ ap (λ (n : ℕ). take n l ++ xs) k ∙ ap (λ (z : List ℕ). z ++ xs) (take-suc l j 0 (omega arith)) ∙ append-snoc (take j l) (getD l j 0) xs)
+    ∙ set-at (take j l) (getD l j 0) xs e j (length-take-le j l (omega arith))
+
+-- a trail has at most as many steps as there are stages from the start on
+trail-short : {via from : List ℕ} {width start s n : ℕ} {w : List ℕ} → Trail via from width start s n w → length w + start ≤ s
+trail-short begin = omega arith
+trail-short (more {e} {w} a b c d f t) = omega (arith, length-append w (e ∷ []), trail-short t)
 
 module _ (via from : List ℕ) (width start : ℕ) where
   abbrev Way : ℕ → ℕ → List ℕ → Type 0
@@ -44,98 +39,108 @@ module _ (via from : List ℕ) (width start : ℕ) where
     pub packs : getD via (s * width + n) 0 ≡ packed e m
     pub trail : Way (getD from e 0) m rest
 
-  pub last-step : (s n : ℕ) (w : List ℕ) → start < s → Way s n w → Last s n w
-  last-step s n u h begin = absurd (omega arith)
-  last-step s n u h (more {e} {m} {w} a b c d f t) = record { e = e; m = m; rest = w; whole = refl; exists = b; node = c; down = d; packs = f; trail = t }
+  pub last-step : {s n : ℕ} {w : List ℕ} → start < s → Way s n w → Last s n w
+  last-step h begin = absurd (omega arith)
+  last-step h (more {e} {m} {w} a b c d f t) = record { e = e; m = m; rest = w; whole = refl; exists = b; node = c; down = d; packs = f; trail = t }
 
-  pub no-step : (s n : ℕ) (w : List ℕ) → s ≤ start → Way s n w → w ≡ []
-  no-step s n w h begin = refl
-  no-step s n w h (more a b c d f t) = absurd (omega arith)
+  pub no-step : {s n : ℕ} {w : List ℕ} → s ≤ start → Way s n w → w ≡ []
+  no-step h begin = refl
+  no-step h (more a b c d f t) = absurd (omega arith)
 
-  -- The loops that follow the trail `steps`: they have come to the pair of s and n, `before` leads there, and `after` are the steps from there on
-  pub record Following (steps : List ℕ) (s₀ s n : ℕ) (after : List ℕ) : Type 0 where
-    pub before : List ℕ
-    pub trail : Way s n before
+  -- The loops that follow the trail `steps`: they have come to the pair of s and n, `rest` leads there, and `taken` are the steps from there on
+  pub record Following (steps : List ℕ) (s₀ s n : ℕ) (taken : List ℕ) : Type 0 where
+    pub rest : List ℕ
+    pub trail : Way s n rest
     pub node : n < width
     pub down : s ≤ s₀
-    pub whole : steps ≡ before ++ after
+    pub whole : steps ≡ rest ++ taken
 
-module _ (via from row : List ℕ) (start s₀ n₀ : ℕ) (t : Traceable via from row start s₀ n₀) where
+module _ {via from row : List ℕ} {start s₀ n₀ : ℕ} (t : Traceable via from row start s₀ n₀) where
   abbrev width : ℕ
   width = t .width
 
   abbrev pub Follows : ℕ → ℕ → List ℕ → Type 0
   Follows = Following via from width start (t .steps) s₀
 
+  pub steps-few : length (t .steps) ≤ s₀ - start
+  steps-few = omega (arith, trail-short (t .trail))
+
   pub follow-start : Follows s₀ n₀ []
   follow-start = record {
-    before = t .steps;
+    rest = t .steps;
     trail = t .trail;
     node = t .node;
     down = omega arith;
     whole = sym (append-nil (t .steps));
   }
 
-  module _ (s n : ℕ) (after : List ℕ) (f : Follows s n after) where
+  module _ {s n : ℕ} {taken : List ℕ} (f : Follows s n taken) where
     -- the pair stands in the tables
     pub follow-stage : s < 256
     follow-stage = omega (arith, f .down, t .stage, t .few)
 
-    place : (at : ℕ) → at ≡ getD row s 0 + n → at ≡ s * width + n
-    place at e = omega (arith, ap (λ (l : List ℕ). getD l s 0) (t .rows), row-at (t .stages) width s (t .few) (omega (arith, f .down, t .stage)))
+    -- past the start's stage there is a last step to take back; `at` is the pair's number
+    module _ (h : start < s) {at : ℕ} (is-at : at ≡ getD row s 0 + n) where
+      abbrev last : Last via from width start s n (f .rest)
+      last = last-step via from width start h (f .trail)
 
-    pub follow-fits : (at : ℕ) → at ≡ getD row s 0 + n → at < length via
-    follow-fits at e =
-        let h : s < t .stages = omega (arith, f .down, t .stage) in
-        omega (arith, place at e, f .node, t .fits, mul-le-mul-right width h)
+      place : at ≡ s * width + n
+      place = omega (arith, ap (λ (l : List ℕ). getD l s 0) (t .rows), row-at (t .stages) width s (t .few) (omega (arith, f .down, t .stage)))
 
-    module _ (h : start < s) (at x : ℕ) (e : at ≡ getD row s 0 + n) (ex : x ≡ getD via at 0) where
-      abbrev last : Last via from width start s n (f .before)
-      last = last-step via from width start s n (f .before) h (f .trail)
+      pub follow-fits : at < length via
+      follow-fits =
+          let inside : s < t .stages = omega (arith, f .down, t .stage) in
+          omega (arith, place, f .node, t .fits, mul-le-mul-right width inside)
 
-      packs : x ≡ packed (last .e) (last .m)
-      packs = ex ∙ ap (λ (i : ℕ). getD via i 0) (place at e) ∙ last .packs
+      packs : getD via at 0 ≡ packed (last .e) (last .m)
+      packs = ap (λ (i : ℕ). getD via i 0) place ∙ last .packs
 
-      pub follow-packed : (x / 512 < 1024) × (getD from (x / 512) 0 < 65536)
+      small : last .m < 512
+      small = omega (arith, last .node, t .narrow)
+
+      step-is : stepIn (getD via at 0) ≡ last .e
+      step-is = step-packed (last .e) (last .m) (getD via at 0) packs small
+
+      pub follow-packed : (stepIn (getD via at 0) < 1024) × (getD from (stepIn (getD via at 0)) 0 < 65536)
       follow-packed =
-          let e : x / 512 ≡ last .e = omega (arith, packs, last .node, t .narrow) in
-          (omega (arith, last .exists), omega (arith, ap (λ (i : ℕ). getD from i 0) e, last .down, follow-stage))
+          (omega (arith, step-is, last .exists), omega (arith, ap (λ (i : ℕ). getD from i 0) step-is, last .down, follow-stage))
 
-      module _ (step stage node : ℕ) (es : step ≡ x / 512) (et : stage ≡ getD from step 0) (en : node ≡ x % 512) where
-        step-is : step ≡ last .e
-        step-is = omega (arith, packs, last .node, t .narrow)
+      module _ {p : Predecessor} (c : CameFrom from (getD via at 0) p) where
+        by-last : p .step .0 ≡ last .e
+        by-last = c .by-step ∙ step-is
 
-        node-is : node ≡ last .m
-        node-is = omega (arith, packs, last .node, t .narrow)
+        node-is : p .node .0 ≡ last .m
+        node-is = c .of-node ∙ node-packed (last .e) (last .m) (getD via at 0) packs small
 
-        stage-is : stage ≡ getD from (last .e) 0
-        stage-is = et ∙ ap (λ (i : ℕ). getD from i 0) step-is
+        stage-is : p .stage .0 ≡ getD from (last .e) 0
+        stage-is = c .of-stage ∙ ap (λ (i : ℕ). getD from i 0) by-last
 
-        pub follow-less : stage < s
+        pub follow-less : p .stage .0 < s
         follow-less = omega (arith, stage-is, last .down)
 
-        pub follow-more : Follows stage node (step ∷ after)
+        pub follow-more : Follows (p .stage .0) (p .node .0) (p .step .0 ∷ taken)
         follow-more = record {
-          before = last .rest;
+          rest = last .rest;
           trail = subst₂ (λ (i j : ℕ). Trail via from width start i j (last .rest)) (sym stage-is) (sym node-is) (last .trail);
           node = omega (arith, node-is, last .node);
           down = omega (arith, follow-less, f .down);
-          whole = f .whole ∙ ap (λ (z : List ℕ). z ++ after) (last .whole) ∙ append-one (last .rest) (last .e) after
-              ∙ ap (λ (i : ℕ). last .rest ++ i ∷ after) (sym step-is);
+          whole = f .whole ∙ ap (λ (z : List ℕ). z ++ taken) (last .whole) ∙ append-snoc (last .rest) (last .e) taken
+              ∙ ap (λ (i : ℕ). last .rest ++ i ∷ taken) (sym by-last);
         }
 
     -- what is left of the trail is as long as what was not yet taken of the count
-    pub follow-count : (count i : ℕ) → count ≡ length (t .steps) → i + length after ≡ count → length (f .before) ≡ i
-    follow-count count i c e = omega (arith, ap length (f .whole), length-append (f .before) after)
+    module _ {count i : ℕ} (all : count ≡ length (t .steps)) (sofar : i + length taken ≡ count) where
+      left-is : length (f .rest) ≡ i
+      left-is = omega (arith, ap length (f .whole), length-append (f .rest) taken)
 
-    pub follow-some : (count i : ℕ) → count ≡ length (t .steps) → i + length after ≡ count → start < s → 1 ≤ i
-    follow-some count i c e h =
-        let l = last-step via from width start s n (f .before) h (f .trail) in
-        omega (arith, follow-count count i c e, ap length (l .whole), length-append (l .rest) (l .e ∷ []))
+      pub follow-some : start < s → 1 ≤ i
+      follow-some h =
+          let l = last-step via from width start h (f .trail) in
+          omega (arith, left-is, ap length (l .whole), length-append (l .rest) (l .e ∷ []))
 
-    -- at the start's stage the trail is at its end
-    pub follow-none : (count i : ℕ) → count ≡ length (t .steps) → i + length after ≡ count → s ≤ start → i ≡ 0
-    follow-none count i c e h = sym (follow-count count i c e) ∙ ap length (no-step via from width start s n (f .before) h (f .trail))
+      -- at the start's stage the trail is at its end
+      pub follow-none : s ≤ start → i ≡ 0
+      follow-none h = sym left-is ∙ ap length (no-step via from width start h (f .trail))
 
-    pub follow-done : s ≤ start → t .steps ≡ after
-    follow-done h = f .whole ∙ ap (λ (z : List ℕ). z ++ after) (no-step via from width start s n (f .before) h (f .trail))
+    pub follow-done : s ≤ start → t .steps ≡ taken
+    follow-done h = f .whole ∙ ap (λ (z : List ℕ). z ++ taken) (no-step via from width start h (f .trail))

@@ -1,14 +1,34 @@
 -- The trail from a pair back to the start: each pair keeps the step and the node by which it was reached, packed in one number.
 -- Assumes nothing.
-use Prim.Native.Nat.{ℕ, _+_, _*_, _≤_, _<_}
+use Prim.Native.Nat.{ℕ, _+_, _*_, _/_, _%_, _≤_, _<_}
 use mathlib.Core.Path.{_≡_}
+use native.Mathlib.Omega.{arith}
 use mathlib.Core.List.{List, [], _∷_, _++_}
 use lib.ListN.{length, getD}
 use Rattle.rows.specs.Rows.{rowStarts}
+use Rattle.trace.specs.declared.Predecessor.{Predecessor}
 
--- a step and a node in one number
+-- a step and a node in one number, and both taken out of it
 abbrev pub packed : ℕ → ℕ → ℕ
 packed e n = e * 512 + n
+
+abbrev pub stepIn : ℕ → ℕ
+stepIn mark = mark / 512
+
+abbrev pub nodeIn : ℕ → ℕ
+nodeIn mark = mark % 512
+
+pub step-packed : (e n mark : ℕ) → mark ≡ packed e n → n < 512 → stepIn mark ≡ e
+step-packed e n mark q h = omega arith
+
+pub node-packed : (e n mark : ℕ) → mark ≡ packed e n → n < 512 → nodeIn mark ≡ n
+node-packed e n mark q h = omega arith
+
+-- what a mark says of the pair that keeps it, by the table of the stages that steps leave
+pub record CameFrom (from : List ℕ) (mark : ℕ) (p : Predecessor) : Type 0 where
+  pub by-step : p .step .0 ≡ stepIn mark
+  pub of-stage : p .stage .0 ≡ getD from (p .step .0) 0
+  pub of-node : p .node .0 ≡ nodeIn mark
 
 -- The steps w lead from the start to the pair of stage s and node n of rows of `width` nodes: `via` has at each pair but those of the start stage the step that
 -- leads there and the node that it leaves, `from` the stage that it leaves

@@ -1,13 +1,19 @@
 // The plan traced back: each pair keeps the step by which it was reached and the node that the step left.
 ghost use mathlib.Core.Path.{_≡_};
-ghost use Prim.Native.Nat.{_+_, _/_, _%_, _≤_, _<_};
+ghost use Prim.Native.Nat.{_+_, _-_, _≤_, _<_};
 ghost use lib.ListN.{length, getD, drop};
 ghost use mathlib.Core.List.{_++_};
-ghost use Rattle.trace.specs.Trails.{Traceable};
+ghost use Rattle.trace.specs.Trails.{stepIn, CameFrom, Traceable};
 use convert::wide;
 use definitions::Node;
 use definitions::Stage;
 use definitions::Step;
+
+mod packing;
+
+pub use packing::node_in;
+pub use packing::packed;
+pub use packing::step_in;
 
 // A step, and the stage and node that it left.
 pub struct Predecessor {
@@ -24,16 +30,17 @@ pub fn pair_at(row: &[u32; 256], s: Stage, n: Node) -> usize
     wide(row[s.0 as usize]) + n.0 as usize
 }
 
-// The step and the node that stand packed in one number.
-fn unpacked(from: &[u32; 1024], packed: u32) -> Predecessor
-    requires { ⌜ (packed / 512 < 1024) × (getD (now from) (packed / 512) 0 < 65536) ⌝ }
-    ensures { λ r. ⌜ (r .step .0 ≡ packed / 512) × (r .stage .0 ≡ getD (now (from .entry)) (r .step .0) 0) × (r .node .0 ≡ packed % 512) ⌝ }
+// What a pair was reached from, by the mark that it keeps.
+fn came_from(from: &[u32; 1024], mark: u32) -> Predecessor
+    requires { ⌜ (stepIn mark < 1024) × (getD (now from) (stepIn mark) 0 < 65536) ⌝ }
+    ensures { λ r. ⌜ CameFrom (now (from .entry)) mark r ⌝ }
 {
-    let e = wide(packed / 512);
+    let step = step_in(mark);
+    let left = from[step.0 as usize];
     Predecessor {
-        step: Step(e as u16),
-        stage: Stage(from[e] as u16),
-        node: Node((packed % 512) as u16),
+        step,
+        stage: Stage(left as u16),
+        node: node_in(mark),
     }
 }
 
@@ -52,15 +59,13 @@ pub fn trail_length<'a>(
         → r ≡ length (x .steps))
         ⌝ }
 {
-    let first = start.0;
-    let mut s = stage.0;
-    let mut n = node.0;
+    let mut s = stage;
+    let mut n = node;
     let mut count: usize = 0;
-    while first < s {
-        let at = pair_at(row, Stage(s), Node(n));
-        let b = unpacked(from, via[at]);
-        s = b.stage.0;
-        n = b.node.0;
+    while start.0 < s.0 {
+        let before = came_from(from, via[pair_at(row, s, n)]);
+        s = before.stage;
+        n = before.node;
         count += 1;
     }
     count
@@ -87,16 +92,36 @@ pub fn write_trail<'a>(
         → now (plan .exit) ≡ x .steps ++ drop count (now (plan .entry)))
         ⌝ }
 {
-    let begin = start.0;
-    let mut s = stage.0;
-    let mut n = node.0;
+    let mut s = stage;
+    let mut n = node;
     let mut i = count;
-    while begin < s {
-        let at = pair_at(row, Stage(s), Node(n));
-        let b = unpacked(from, via[at]);
+    while start.0 < s.0 {
+        let before = came_from(from, via[pair_at(row, s, n)]);
         i -= 1;
-        plan[i] = b.step.0;
-        s = b.stage.0;
-        n = b.node.0;
+        plan[i] = before.step.0;
+        s = before.stage;
+        n = before.node;
     }
+}
+
+// Writes the steps that lead from the start to a pair to the front of the plan, and answers how many they are.
+pub fn write_plan<'a>(
+    via: &'a [u32],
+    from: &'a [u32; 1024],
+    row: &'a [u32; 256],
+    start: Stage,
+    stage: Stage,
+    node: Node,
+    plan: &mut [u16],
+) -> usize
+    requires { ⌜ Traceable (now via) (now from) (now row) (start .0) (stage .0) (node .0) ⌝ }
+    requires { ⌜ stage .0 - start .0 ≤ length (now plan) ⌝ }
+    ensures { λ r. ⌜
+        ((x : Traceable (now (via .entry)) (now (from .entry)) (now (row .entry)) (start .0) (stage .0) (node .0))
+        → (r ≡ length (x .steps)) × (now (plan .exit) ≡ x .steps ++ drop r (now (plan .entry))))
+        ⌝ }
+{
+    let count = trail_length(via, from, row, start, stage, node);
+    write_trail(via, from, row, start, stage, node, count, plan);
+    count
 }

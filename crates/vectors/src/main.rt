@@ -1,13 +1,26 @@
-// Reads a script of cases from standard input and writes what the file readers and the refused field answer to each.
-// The file stdin says how a case is written.
+// Plays the scripts of data/ and writes what the calls of the library answer to each case. data/readers.txt says how a
+// case is written; tools/vectors.py computes what must be written.
+mod read;
 mod script;
+mod searches;
 mod show;
 mod write;
 
-fn main() {
+// Plays one script of at most 65,536 bytes.
+fn play(path: &[u8]) {
+    let fd = os::open_read(path);
+    if fd < 0 {
+        os::fail(path);
+        return;
+    }
     let mut text = io::large_buffer();
-    let n = io::read_full(0, &mut text);
-    let mut file = [0u8; 12288];
-    let mut kept = [0u8; 12288];
-    script::run(&text[..n], &mut file, &mut kept);
+    let n = io::read_full(fd, &mut text);
+    libc::close(fd);
+    let mut buf = [0u8; script::BUFFER];
+    script::run(&text[..n], &mut buf);
+}
+
+fn main() {
+    play(b"readers.txt");
+    play(b"searches.txt");
 }

@@ -1,8 +1,13 @@
-// What the readers and the refused field answer, written.
+// What the calls answer, written.
 use chart::ChartRead;
+use definitions::NONE;
 use diagram::DiagramRead;
 
-fn named(word: &[u8], x: u64) {
+pub fn text(word: &[u8]) {
+    io::write_all(1, word);
+}
+
+pub fn named(word: &[u8], x: u64) {
     io::write_all(1, word);
     io::print_decimal(1, x);
 }
@@ -63,5 +68,66 @@ fn byte(x: u8) {
 fn hexadecimal(bytes: &[u8]) {
     for i in 0..bytes.len() {
         byte(bytes[i]);
+    }
+}
+
+// How the entries of a slice are written.
+pub enum How {
+    // Each.
+    Entry,
+    // Its position and itself, unless it is the mark for "not reached".
+    Cost,
+    // Its position, where it is not this number.
+    Changed(u32),
+}
+
+fn cost(i: usize, x: u32) {
+    if x != NONE {
+        named(b" ", i as u64);
+        named(b"=", x as u64);
+    }
+}
+
+fn changed(i: usize, x: u32, fill: u32) {
+    if x != fill {
+        named(b" ", i as u64);
+    }
+}
+
+fn entry(i: usize, x: u32, how: How) {
+    match how {
+        How::Entry => named(b" ", x as u64),
+        How::Cost => cost(i, x),
+        How::Changed(fill) => changed(i, x, fill),
+    }
+}
+
+fn entry_at(s: &[u32], i: usize, how: How) {
+    if i < s.len() {
+        entry(i, s[i], how);
+    }
+}
+
+fn step_at(s: &[u16], i: usize, how: How) {
+    if i < s.len() {
+        step(i, s[i], how);
+    }
+}
+
+fn step(i: usize, x: u16, how: How) {
+    entry(i, x as u32, how);
+}
+
+// The entries of a work slice from a position to another, that not included.
+pub fn each(s: &[u32], from: usize, to: usize, how: How) {
+    for i in from..to {
+        entry_at(s, i, how);
+    }
+}
+
+// The same of a plan slice.
+pub fn each_step(s: &[u16], from: usize, to: usize, how: How) {
+    for i in from..to {
+        step_at(s, i, how);
     }
 }

@@ -1,6 +1,10 @@
 // Files made in a buffer. Past the buffer's end nothing is written.
+ghost use Prim.Native.Nat.{_≤_, _<_};
+use crate::read::Command;
 use std::num::wrapping_add_usize;
-use std::num::wrapping_sub_u64;
+
+// How many bytes of the buffer a file has.
+pub const LONGEST: usize = 12288;
 
 // One byte at a place.
 pub fn put(buf: &mut [u8], at: usize, x: u8) {
@@ -22,41 +26,134 @@ fn put_low(buf: &mut [u8], at: usize, number: u64, bytes: u64) -> usize {
 }
 
 // The tag of a field and the length of its body.
-pub struct Kind {
-    pub tag: u64,
-    pub length: u64,
+struct Kind {
+    tag: u64,
+    length: u64,
+}
+
+// The field that a letter stands for; no field has length 0.
+fn kind_of(letter: u8) -> Kind {
+    match letter {
+        b'h' => Kind { tag: 1, length: 6 },
+        b's' | b't' => Kind { tag: 2, length: 8 },
+        b'r' => Kind { tag: 17, length: 2 },
+        b'n' | b'm' => Kind { tag: 18, length: 6 },
+        _ => Kind { tag: 0, length: 0 },
+    }
 }
 
 // A field whose body is two numbers of two bytes and one of four, as far as its length goes; the place after it.
-pub fn put_field(buf: &mut [u8], at: usize, kind: Kind, a: u64, b: u64, c: u64) -> usize {
-    let header = kind.tag % 256 + kind.length % 65536 * 256;
+fn put_field(buf: &mut [u8], at: usize, letter: u8, a: u64, b: u64, c: u64) -> usize {
+    let k = kind_of(letter);
+    if k.length == 0 {
+        return at;
+    }
+    let header = k.tag % 256 + k.length % 65536 * 256;
     let start = put_low(buf, at, header, 3);
     let body = a % 65536 + b % 65536 * 65536 + c % 4294967296 * 4294967296;
-    put_low(buf, start, body, kind.length)
+    put_low(buf, start, body, k.length)
 }
 
-// So many steps to stage 255, five from each stage, with the step's number as its cost.
-pub fn put_steps(buf: &mut [u8], at: usize, count: u64) -> usize {
+fn lesser(a: u64, b: u64) -> u64
+    ensures { λ r. ⌜ (r ≤ a) × (r ≤ b) ⌝ }
+{
+    if a <= b {
+        return a;
+    }
+    b
+}
+
+fn less(a: u64, b: u64) -> u64
+    ensures { λ r. ⌜ r ≤ a ⌝ }
+{
+    if a < b {
+        return 0;
+    }
+    a - b
+}
+
+fn divisor(x: u64) -> u64
+    ensures { λ r. ⌜ 1 ≤ r ⌝ }
+{
+    if x == 0 {
+        return 1;
+    }
+    x
+}
+
+// A number below 16,777,216.
+fn cut(x: u64) -> u64
+    ensures { λ r. ⌜ r < 16777216 ⌝ }
+{
+    x % 16777216
+}
+
+// The product of two numbers of two bytes.
+fn times(a: u64, b: u64) -> u64
+    ensures { λ r. ⌜ r < 4294967296 ⌝ }
+{
+    let x = a % 65536;
+    let y = b % 65536;
+    x * y
+}
+
+// The i-th step of a rule: it leaves stage i / b, at most 254, and goes c + d × (i mod b) further, at most to stage 255;
+// it costs e + f × i, modulo 1,000,001.
+fn put_ith_step(buf: &mut [u8], at: usize, c: Command, i: u64) -> usize {
+    let d = divisor(c.b);
+    let from = lesser(i / d, 254);
+    let to = lesser(from + cut(c.c) + times(c.d, i % d), 255);
+    let cost = (cut(c.e) + times(c.f, i)) % 1000001;
+    put_field(buf, at, c.letter, from, to, cost)
+}
+
+// The i-th node of a rule: it has step 1023 - c × (i / b), lo is d nodes before it, and hi e + f × (i mod b) nodes.
+fn put_ith_node(buf: &mut [u8], at: usize, c: Command, i: u64) -> usize {
+    let d = divisor(c.b);
+    let step = less(1023, times(c.c, i / d));
+    let number = cut(i) + 2;
+    let lo = less(number, c.d);
+    let hi = less(number, cut(c.e) + times(c.f, i % d));
+    put_field(buf, at, c.letter, step, lo, hi)
+}
+
+fn put_ith(buf: &mut [u8], at: usize, c: Command, i: u64) -> usize {
+    if c.letter == b't' {
+        return put_ith_step(buf, at, c, i);
+    }
+    put_ith_node(buf, at, c, i)
+}
+
+// As many fields as the command's first number says, by its rule; the place after them.
+fn put_many(buf: &mut [u8], at: usize, c: Command) -> usize {
     let mut next = at;
-    for i in 0..count {
-        next = put_field(buf, next, Kind { tag: 2, length: 8 }, i / 5, 255, i);
+    for i in 0..cut(c.a) {
+        next = put_ith(buf, next, c, i);
     }
     next
 }
 
-// So many nodes, at most 1,024: the first has step 1023, each next one the step before, with hi at the node before it.
-pub fn put_nodes(buf: &mut [u8], at: usize, count: u64) -> usize {
-    let mut next = at;
-    for i in 0..count {
-        let step = wrapping_sub_u64(1023, i);
-        next = put_field(buf, next, Kind { tag: 18, length: 6 }, step, 0, i + 1);
+// What a command adds at a place; the place after it.
+pub fn add(buf: &mut [u8], at: usize, c: Command) -> usize {
+    let letter = c.letter;
+    match letter {
+        b't' | b'm' => put_many(buf, at, c),
+        _ => put_field(buf, at, letter, c.a, c.b, c.c),
     }
-    next
 }
 
-// All of one buffer into another.
-pub fn copy(from: &[u8], to: &mut [u8]) {
-    for i in 0..from.len() {
-        put(to, i, from[i]);
+// The byte at a place, 0 past the end.
+fn byte(buf: &[u8], at: usize) -> u8 {
+    if at < buf.len() {
+        return buf[at];
+    }
+    0
+}
+
+// The file at a place, put at another.
+pub fn copy(buf: &mut [u8], from: usize, to: usize) {
+    for i in 0..LONGEST {
+        let x = byte(buf, wrapping_add_usize(from, i));
+        put(buf, wrapping_add_usize(to, i), x);
     }
 }

@@ -5,15 +5,20 @@
 //! The program `plan` lends work for 4,096 pairs and answers 7 beyond that; this example lends what
 //! the files need. (The program reads 16,384 bytes of a file, which changes no answer: the first fault
 //! of a longer one is at byte 11,273 of a chart or 4,595 of a diagram at the latest.) A file that is
-//! missing counts as empty. The bytes of a refused field go to standard error.
+//! missing counts as empty. The bytes of a refused field go to standard error. The exit status is 0
+//! for a plan and for a refusal, 2 where writing the output fails and for bad arguments.
 
+use std::ffi::OsString;
+use std::io::{self, Write};
 use std::process::ExitCode;
 
+use planner::Plan;
+
 fn main() -> ExitCode {
-    let args: Vec<String> = std::env::args().skip(1).collect();
+    let args: Vec<OsString> = std::env::args_os().skip(1).collect();
     let (chart, rules) = match &args[..] {
-        [] => ("chart.bin", "rules.bin"),
-        [chart, rules] => (chart.as_str(), rules.as_str()),
+        [] => ("chart.bin".as_ref(), "rules.bin".as_ref()),
+        [chart, rules] => (chart.as_os_str(), rules.as_os_str()),
         _ => {
             eprintln!("usage: plan-rust [CHART RULES]");
             return ExitCode::from(2);
@@ -21,22 +26,29 @@ fn main() -> ExitCode {
     };
     let chart = std::fs::read(chart).unwrap_or_default();
     let rules = std::fs::read(rules).unwrap_or_default();
-    match planner::plan(&chart, &rules) {
-        Ok(plan) => {
-            println!("cost {}", plan.cost);
-            for step in &plan.steps {
-                println!("step {step}");
-            }
-            println!("settled {} reached {}", plan.settled, plan.reached);
-        }
+    let text = match planner::plan(&chart, &rules) {
+        Ok(plan) => lines(&plan),
         Err(refusal) => {
-            println!("{refusal}");
             if refusal.field_place().is_some() {
                 show(refusal.field(&chart, &rules));
             }
+            format!("{refusal}\n")
+        }
+    };
+    let mut out = io::stdout();
+    match out.write_all(text.as_bytes()).and_then(|()| out.flush()) {
+        Ok(()) => ExitCode::SUCCESS,
+        Err(error) => {
+            eprintln!("plan-rust: the output is not complete: {error}");
+            ExitCode::from(2)
         }
     }
-    ExitCode::SUCCESS
+}
+
+/// A plan's cost, its steps and both counts.
+fn lines(plan: &Plan) -> String {
+    let steps: String = plan.steps.iter().map(|step| format!("step {step}\n")).collect();
+    format!("cost {}\n{steps}settled {} reached {}\n", plan.cost, plan.settled, plan.reached)
 }
 
 /// The first bytes of a refused field.

@@ -38,7 +38,7 @@ use denote.Triple.Table.{entered, cited}
 use denote.Triple.Walked.{says, Stays, stay-none, stay-none-slice, walkOf, goes-none, goes-none-slice, Walks, ends-at, walked, walk-meets}
 use denote.Exit.{yes}
 use denote.Triple.Clauses.{ensured, lasts}
-use Rattle.definitions.specs.Fields.{fieldAt}
+use Rattle.definitions.specs.Fields.{only, fieldAt}
 use Rattle.fields.specs.declared.reader.Reader.{Reader}
 use Rattle.definitions.specs.declared.Field.{Field}
 use Rattle.fields.proofs.reader.Reader as T
@@ -87,7 +87,7 @@ module _ {M : Type 1} (𝓤 : URA M) (H : Heap 𝓤) (A : Atoms 𝓤) (W : Given
   v = sliceVal (s .ptr) (length (s .now))
 
   abbrev found : Field
-  found = fieldAt (now s) n tag len
+  found = fieldAt (now s) n (only tag len)
 
   -- the struct's type as a local of a body has it
   abbrev αᵉ : NamedLft
@@ -138,8 +138,8 @@ module _ {M : Type 1} (𝓤 : URA M) (H : Heap 𝓤) (A : Atoms 𝓤) (W : Given
       nothing ! $ owned ! u16 (Is u16) (uint-makes 𝓤 H A W w16) len _ (refl, len-fits) $ fjoin ! $ owned ! u8 (Is u8) (uint-makes 𝓤 H A W w8) tag _ (refl, tag-fits) $ fjoin ! $
       move ! (1 ∷ 0 ∷ []) $ fjoin ! $ move ! (1 ∷ 0 ∷ []) $ join ! $ frame ! $ done !
 
-  next-said : (m : Reader) (t : Field) → ent 𝓤 (ensured 𝓤 H A next.ended (next.clauses 𝓤 H A mem run) (κ, tt) (m, (tag, (len, tt))) tt t) (fact 𝓤 (t ≡ fieldAt (now (m .src)) (m .at) tag len))
-  next-said m t = exE 𝓤 _ (λ ws. snd∗ 𝓤 (sem 𝓤 H A (lasts next.ended (κ, tt) (m, (tag, (len, tt))) ws)) (fact 𝓤 (t ≡ fieldAt (now (m .src)) (m .at) tag len)))
+  next-said : (m : Reader) (t : Field) → ent 𝓤 (ensured 𝓤 H A next.ended (next.clauses 𝓤 H A mem run) (κ, tt) (m, (tag, (len, tt))) tt t) (fact 𝓤 (t ≡ fieldAt (now (m .src)) (m .at) (only tag len)))
+  next-said m t = exE 𝓤 _ (λ ws. snd∗ 𝓤 (sem 𝓤 H A (lasts next.ended (κ, tt) (m, (tag, (len, tt))) ws)) (fact 𝓤 (t ≡ fieldAt (now (m .src)) (m .at) (only tag len))))
 
   exits : (t : Field) (u : Val) → t ≡ found → ent 𝓤 (⋆ 𝓤 H A (‵ (S.the-row .own t (u ∷ [])) ∷ (‵ (flft κ q) ⊛ ‵ ftrue) ∷ ‵ Own ∷ [])) (Post u)
   exits t u e =
@@ -172,13 +172,13 @@ module _ {M : Type 1} (𝓤 : URA M) (H : Heap 𝓤) (A : Atoms 𝓤) (W : Given
         use2 W (raw (Next 𝓤 H A mem run .pre (to-next m u′))) (goes-next m u′) $
         calls-at ! fm (Next 𝓤 H A mem run) known-next (to-next m u′) (and-then ! (load ! (from ! (stop !)) (look ! 4 refl)) (and-then ! (load ! (from ! (stop !)) (look ! 8 refl)) (and-then ! (load ! (from ! (stop !)) (look ! 6 refl)) (no-more !)))) (λ u″.
         use1 W (later (some (λ (t : Field). ((‵ (flft κ q) ⊛ ‵ ftrue) ⊛ ‵ (S.the-row .own t (u″ ∷ []))) ⊛ raw (ensured 𝓤 H A next.ended (next.clauses 𝓤 H A mem run) (κ, tt) (m, (tag, (len, tt))) tt t)))) (id⊢ 𝓤 _) $ await ! tt $ pick ! (λ t.
-        split ! $ move ! (1 ∷ []) $ use1 W (raw (fact 𝓤 (t ≡ fieldAt (now (m .src)) (m .at) tag len))) (next-said m t) $ heard ! (t ≡ fieldAt (now (m .src)) (m .at) tag len) (λ e″. split ! $ move ! (1 ∷ []) $
+        split ! $ move ! (1 ∷ []) $ use1 W (raw (fact 𝓤 (t ≡ fieldAt (now (m .src)) (m .at) (only tag len)))) (next-said m t) $ heard ! (t ≡ fieldAt (now (m .src)) (m .at) (only tag len)) (λ e″. split ! $ move ! (1 ∷ []) $
         -- [the result; the token; what s owns; _6; …; _5; …; the rest as before]
         peeks ! S.the-row (Is S.the-row) (shows 𝓤 H A S.the-row) t (u″ ∷ []) (λ is″.
         land ! (from ! (stop !)) (init ! 15 refl (EL.lawful S.the-type S′.the-laws 𝓤 H A W tt .typed t _ is″ .0)) $
         returns ! (look ! 15 refl) $ forget ! 3 refl $ forget ! 5 refl $ forget ! 7 refl $ forget ! 9 refl $ forget ! 11 refl $ forget ! 13 refl $ forget ! 15 refl $
         move ! (15 ∷ 16 ∷ []) $ free1 ! $ move ! (13 ∷ 14 ∷ []) $ free1 ! $ move ! (11 ∷ 12 ∷ []) $ free1 ! $ move ! (9 ∷ 10 ∷ []) $ free1 ! $ move ! (7 ∷ 8 ∷ []) $ free1 ! $ move ! (5 ∷ 6 ∷ []) $ free1 ! $ move ! (3 ∷ 4 ∷ []) $ free1 ! $ free0 ! $
-        by ! (exits t u″ (e″ ∙ (ap (λ (x : RefT (List ℕ)). fieldAt (now x) (m .at) tag len) (e′ .0 ∙ e .0) ∙ ap (λ (k : ℕ). fieldAt (now s) k tag len) (e′ .1)))))))))))))))))))))))
+        by ! (exits t u″ (e″ ∙ (ap (λ (x : RefT (List ℕ)). fieldAt (now x) (m .at) (only tag len)) (e′ .0 ∙ e .0) ∙ ap (λ (k : ℕ). fieldAt (now s) k (only tag len)) (e′ .1)))))))))))))))))))))))
 
 module _ {M : Type 1} (𝓤 : URA M) (H : Heap 𝓤) (A : Atoms 𝓤) (W : Given 𝓤 H A) (mem : Memory → SProp 𝓤) (run : Routine → Fun 𝓤) where
   field-at-walks : (C : Calls 𝓤 H) (Λ : Loops 𝓤 H) → FmC 𝓤 H (W .laws) C → Triple 𝓤 (C #fields·reader·new) (New 𝓤 H A mem run) → Triple 𝓤 (C #fields·reader·moved) (Moved 𝓤 H A mem run)

@@ -9,25 +9,39 @@ use Rattle.heap.proofs.decrease_key.Statement.{statement}
 use Rattle.heap.proofs.decrease_key.Tie as tie
 
 mul-keys : tie.Need-mul-keys
-mul-keys c = let s = c .before .before .before in omega (arith, in-pair (s .pre .0 .indexed) (s .args .q) (s .pre .1 .0))
+mul-keys c =
+    let start : tie.Start = search in
+    omega (arith, in-pair (start .pre .0 .indexed) (start .args .q) (start .pre .1 .0))
 
 slice-write-keys : tie.Need-slice-write-keys
-slice-write-keys c = let s = c .before .before .before in omega (arith, in-pair (s .pre .0 .indexed) (s .args .q) (s .pre .1 .0))
+slice-write-keys c =
+    let start : tie.Start = search in
+    omega (arith, in-pair (start .pre .0 .indexed) (start .args .q) (start .pre .1 .0))
 
 mul-wide : tie.Need-mul-wide
-mul-wide c = let s = c .before .before .before in omega (arith, in-pair (s .pre .0 .indexed) (s .args .q) (s .pre .1 .0))
+mul-wide c =
+    let start : tie.Start = search in
+    omega (arith, in-pair (start .pre .0 .indexed) (start .args .q) (start .pre .1 .0))
 
 slice-read-wide : tie.Need-slice-read-wide
-slice-read-wide c = let s = c .before .before .before .before in omega (arith, in-pair (s .pre .0 .indexed) (s .args .q) (s .pre .1 .0))
+slice-read-wide c =
+    let start : tie.Start = search in
+    omega (arith, in-pair (start .pre .0 .indexed) (start .args .q) (start .pre .1 .0))
 
 wide-requires : tie.Need-wide-requires
 wide-requires c κs = search needs
 
 sift-up-requires : tie.Need-sift-up-requires
 sift-up-requires c κs =
-    let e = c .before .before .before in
-    let s = e .before .before .before .before .before in
-    (s .pre .0 .indexed, (simp length-set (omega arith), decrease-moving (s .pre .0) (s .pre .1 .0) (e .wide .ensures .0), decrease-rising (s .pre .0) (s .pre .1 .0) (s .pre .1 .1) (e .wide .ensures .0)))
+    let place : tie.After-wide = search in
+    let start : tie.Start = search in (
+      start .pre .0 .indexed,
+      (
+        simp length-set (omega arith),
+        decrease-moving (start .pre .0) (start .pre .1 .0) (place .wide .ensures .0),
+        decrease-rising (start .pre .0) (start .pre .1 .0) (start .pre .1 .1) (place .wide .ensures .0),
+      ),
+    )
 
 same-length : tie.Need-same-length
 same-length c = search needs

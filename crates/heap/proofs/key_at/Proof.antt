@@ -25,7 +25,10 @@ shared-slice-read-result c = search needs
 
 returns : tie.Need-returns
 unfolding key
-returns c = ap (λ (q : ℕ). getD (c .before .before .before .before .before .args .keys .now) q 0) (c .before .wide .ensures .0)
+returns c =
+    let pair : tie.After-wide = search in
+    let start : tie.Start = search in
+    ap (λ (q : ℕ). getD (start .args .keys .now) q 0) (pair .wide .ensures .0)
 
 pub key-at-spec : {M : Type 1} → statement M
 key-at-spec =

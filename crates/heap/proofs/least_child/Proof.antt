@@ -20,10 +20,14 @@ returns : tie.Need-returns
 returns c = search child-only
 
 key-at-requires : tie.Need-key-at-requires
-key-at-requires c κs = let s = c .before .before .before in omega (arith, s .pre .1 (s .args .x + s .args .x + 1) (omega arith))
+key-at-requires c κs =
+    let start : tie.Start = search in
+    omega (arith, start .pre .1 (start .args .x + start .args .x + 1) (omega arith))
 
 key-at-requires-2 : tie.Need-key-at-requires-2
-key-at-requires-2 c κs = let s = c .before .before .before .before in omega (arith, s .pre .1 (s .args .x + s .args .x + 1 + 1) (omega arith))
+key-at-requires-2 c κs =
+    let start : tie.Start = search in
+    omega (arith, start .pre .1 (start .args .x + start .args .x + 1 + 1) (omega arith))
 
 returns-2 : tie.Need-returns-2
 returns-2 c = search child-right

@@ -20,17 +20,26 @@ wide-requires : tie.Need-wide-requires
 wide-requires c κs = search needs
 
 key-at-requires : tie.Need-key-at-requires
-key-at-requires c κs = let s = c .before .before .before .before .before .before in omega (arith, s .pre .0 .indexed .pair (s .args .n - 1) (omega arith))
+key-at-requires c κs =
+    let start : tie.Start = search in
+    omega (arith, start .pre .0 .indexed .pair (start .args .n - 1) (omega arith))
 
 swap-requires : tie.Need-swap-requires
 swap-requires c κs = search needs
 
 sift-down-requires : tie.Need-sift-down-requires
 sift-down-requires c κs =
-    let w = c .before .before .before .before .before .before in
-    let k = w .before .before .before in
-    let s = k .before .before .before .before .before .before .before in
-    (pop-indexed (s .pre .0) (s .pre .1) (w .swap .ensures), (omega arith, omega arith, pop-moving (s .pre .0) (s .pre .1) (w .swap .ensures) (k .key-at .ensures), pop-sinking (s .pre .0) (s .pre .1) (w .swap .ensures)))
+    let swapped : tie.After-swap = search in
+    let lowest : tie.After-key-at = search in
+    let start : tie.Start = search in (
+      pop-indexed (start .pre .0) (start .pre .1) (swapped .swap .ensures),
+      (
+        omega arith,
+        omega arith,
+        pop-moving (start .pre .0) (start .pre .1) (swapped .swap .ensures) (lowest .key-at .ensures),
+        pop-sinking (start .pre .0) (start .pre .1) (swapped .swap .ensures),
+      ),
+    )
 
 same-length : tie.Need-same-length
 same-length c = search needs

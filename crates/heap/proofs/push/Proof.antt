@@ -21,10 +21,14 @@ mul-heap : tie.Need-mul-heap
 mul-heap c = search needs
 
 slice-write-heap : tie.Need-slice-write-heap
-slice-write-heap c = let s = c .before .before .before in omega (arith, push-room (s .pre .0) (s .pre .1 .0) (s .pre .1 .1))
+slice-write-heap c =
+    let start : tie.Start = search in
+    omega (arith, push-room (start .pre .0) (start .pre .1 .0) (start .pre .1 .1))
 
 cast-pos : tie.Need-cast-pos
-cast-pos c = let s = c .before .before .before in omega (arith, push-room (s .pre .0) (s .pre .1 .0) (s .pre .1 .1))
+cast-pos c =
+    let start : tie.Start = search in
+    omega (arith, push-room (start .pre .0) (start .pre .1 .0) (start .pre .1 .1))
 
 mul-pos : tie.Need-mul-pos
 mul-pos c = search needs
@@ -37,18 +41,25 @@ add-sift-up c = search needs
 
 sift-up-requires : tie.Need-sift-up-requires
 sift-up-requires c κs =
-    let s = c .before .before .before .before .before .before in
-    let v = s .args .v in
-    (push-indexed (s .pre .0) (s .pre .1 .0) (s .pre .1 .1), (simp length-set (omega arith), push-moving (s .pre .0) (s .pre .1 .0) (s .pre .1 .1) v, push-rising (s .pre .0) (s .pre .1 .0) (s .pre .1 .1) v))
+    let start : tie.Start = search in
+    let v = start .args .v in
+    let heap = start .pre .0 in
+    let inside = start .pre .1 .0 in
+    let outside = start .pre .1 .1 in
+    (push-indexed heap inside outside, (simp length-set (omega arith), push-moving heap inside outside v, push-rising heap inside outside v))
 
 same-length : tie.Need-same-length
 same-length c = search needs
 
 same-length-2 : tie.Need-same-length-2
-same-length-2 c = c .before .before .before .before .sift-up .kept .1 .0 ∙ simp length-set
+same-length-2 c =
+    let lifted : tie.After-sift-up = search in
+    lifted .sift-up .kept .1 .0 ∙ simp length-set
 
 same-length-3 : tie.Need-same-length-3
-same-length-3 c = c .before .before .before .before .sift-up .kept .1 .1 .0 ∙ simp length-set
+same-length-3 c =
+    let lifted : tie.After-sift-up = search in
+    lifted .sift-up .kept .1 .1 .0 ∙ simp length-set
 
 returns : tie.Need-returns
 returns c = search push-done

@@ -25,13 +25,15 @@ add-loop-2 : tie.Need-add-loop-2 Inv-loop μ-loop
 add-loop-2 c = search needs
 
 least-child-requires : tie.Need-least-child-requires Inv-loop μ-loop
-least-child-requires c κs = ((omega arith, omega arith), λ i h. omega (arith, c .before .before .loop .inv .3 .moved .indexed .pair i h))
+least-child-requires c κs =
+    let head : tie.At-loop Inv-loop μ-loop = search in
+    ((omega arith, omega arith), λ i h. omega (arith, head .loop .inv .3 .moved .indexed .pair i h))
 
 key-at-requires : tie.Need-key-at-requires Inv-loop μ-loop
 key-at-requires c κs =
-    let d = c .before in
-    let l = d .before .before .before in
-    omega (arith, l .loop .inv .3 .moved .indexed .pair (d .least-child .result) (d .least-child .ensures .place))
+    let child : tie.After-least-child Inv-loop μ-loop = search in
+    let head : tie.At-loop Inv-loop μ-loop = search in
+    omega (arith, head .loop .inv .3 .moved .indexed .pair (child .least-child .result) (child .least-child .ensures .place))
 
 same-length : tie.Need-same-length Inv-loop μ-loop
 same-length c = search needs
@@ -50,12 +52,16 @@ loop-less c = search needs
 
 loop-again : tie.Need-loop-again Inv-loop μ-loop
 loop-again c =
-    let w = c .before .before .before .before in
-    let t = w .before .before .before in
-    let k = t .before in
-    let d = k .before .before in
-    let l = d .before .before .before in
-    (search needs, search needs, omega arith, drop-turn (l .loop .inv .3) (d .least-child .ensures) (k .key-at .ensures) (t .if1 .left) (w .swap .ensures))
+    let swapped : tie.After-swap Inv-loop μ-loop = search in
+    let larger : tie.Else1 Inv-loop μ-loop = search in
+    let below : tie.After-key-at Inv-loop μ-loop = search in
+    let child : tie.After-least-child Inv-loop μ-loop = search in
+    let head : tie.At-loop Inv-loop μ-loop = search in (
+      search needs,
+      search needs,
+      omega arith,
+      drop-turn (head .loop .inv .3) (child .least-child .ensures) (below .key-at .ensures) (larger .if1 .left) (swapped .swap .ensures),
+    )
 
 same-length-3 : tie.Need-same-length-3 Inv-loop μ-loop
 same-length-3 c = search needs

@@ -23,9 +23,9 @@ parent-requires c κs = search needs
 
 key-at-requires : tie.Need-key-at-requires Inv-loop μ-loop
 key-at-requires c κs =
-    let y = c .before in
-    let l = y .before .before in
-    omega (arith, l .loop .inv .3 .moved .indexed .pair (y .parent .result) (omega arith))
+    let above : tie.After-parent Inv-loop μ-loop = search in
+    let head : tie.At-loop Inv-loop μ-loop = search in
+    omega (arith, head .loop .inv .3 .moved .indexed .pair (above .parent .result) (omega arith))
 
 same-length : tie.Need-same-length Inv-loop μ-loop
 same-length c = search needs
@@ -44,12 +44,16 @@ loop-less c = search needs
 
 loop-again : tie.Need-loop-again Inv-loop μ-loop
 loop-again c =
-    let w = c .before .before .before .before in
-    let t = w .before .before .before in
-    let k = t .before in
-    let y = k .before .before in
-    let l = y .before .before in
-    (search needs, search needs, omega arith, lift-turn (l .loop .inv .3) (y .parent .ensures) (k .key-at .ensures) (omega arith) (t .if1 .left) (w .swap .ensures))
+    let swapped : tie.After-swap Inv-loop μ-loop = search in
+    let smaller : tie.Else1 Inv-loop μ-loop = search in
+    let key : tie.After-key-at Inv-loop μ-loop = search in
+    let above : tie.After-parent Inv-loop μ-loop = search in
+    let head : tie.At-loop Inv-loop μ-loop = search in (
+      search needs,
+      search needs,
+      omega arith,
+      lift-turn (head .loop .inv .3) (above .parent .ensures) (key .key-at .ensures) (omega arith) (smaller .if1 .left) (swapped .swap .ensures),
+    )
 
 same-length-3 : tie.Need-same-length-3 Inv-loop μ-loop
 same-length-3 c = search needs

@@ -41,19 +41,27 @@ cast-pos : tie.Need-cast-pos
 cast-pos c = search needs
 
 mul-pos : tie.Need-mul-pos
-mul-pos c = let s = c .before .before .before .before .before .before in omega (arith, s .pre .0 .pair (s .args .i) (s .pre .1 .0))
+mul-pos c =
+    let start : tie.Start = search in
+    omega (arith, start .pre .0 .pair (start .args .i) (start .pre .1 .0))
 
 slice-write-pos : tie.Need-slice-write-pos
-slice-write-pos c = let s = c .before .before .before .before .before .before in omega (arith, s .pre .0 .pair (s .args .i) (s .pre .1 .0))
+slice-write-pos c =
+    let start : tie.Start = search in
+    omega (arith, start .pre .0 .pair (start .args .i) (start .pre .1 .0))
 
 cast-pos-2 : tie.Need-cast-pos-2
 cast-pos-2 c = search needs
 
 mul-pos-2 : tie.Need-mul-pos-2
-mul-pos-2 c = let s = c .before .before .before .before .before .before in omega (arith, s .pre .0 .pair (s .args .j) (s .pre .1 .1))
+mul-pos-2 c =
+    let start : tie.Start = search in
+    omega (arith, start .pre .0 .pair (start .args .j) (start .pre .1 .1))
 
 slice-write-pos-2 : tie.Need-slice-write-pos-2
-slice-write-pos-2 c = let s = c .before .before .before .before .before .before in simp length-set (omega (arith, s .pre .0 .pair (s .args .j) (s .pre .1 .1)))
+slice-write-pos-2 c =
+    let start : tie.Start = search in
+    simp length-set (omega (arith, start .pre .0 .pair (start .args .j) (start .pre .1 .1)))
 
 same-length : tie.Need-same-length
 same-length c = search needs

@@ -1,5 +1,5 @@
--- `planner::both` meets its contract: each search keeps its promise, and so they agree.
-use Rattle.planner.specs.Both.{both-agree}
+-- `planner::both` meets its contract: each search keeps its promise, and so both meet the demands.
+use Rattle.planner.specs.Both.{both-call}
 use borrow.Author.Needs.{needs}
 use Rattle.planner.proofs.both.Statement.{statement}
 use Rattle.planner.proofs.both.Tie as tie
@@ -48,7 +48,10 @@ same-length-11 : tie.Need-same-length-11
 same-length-11 c = search needs
 
 returns : tie.Need-returns
-returns c = (record { answers = c .before .before .before .before .before .before .before .before .before .before .before .before .before .before .before .before .before .before .before .before .before .before .before .before .before .before .before .before .before .before .sweep .ensures .0; via-kept = c .before .before .before .before .before .before .before .before .before .before .before .before .before .before .before .before .before .before .before .before .before .before .before .before .before .before .before .before .before .before .sweep .ensures .1 .0; nodes-kept = c .before .before .before .before .before .before .before .before .before .before .before .before .before .before .before .before .before .before .before .before .before .before .before .before .before .before .before .before .before .before .sweep .ensures .1 .1 }, (record { answers = c .before .before .before .before .before .before .before .before .before .before .before .before .before .before .guided .ensures .0; keys-kept = c .before .before .before .before .before .before .before .before .before .before .before .before .before .before .guided .ensures .1 .0; via-kept = c .before .before .before .before .before .before .before .before .before .before .before .before .before .before .guided .ensures .1 .1 .0; heap-kept = c .before .before .before .before .before .before .before .before .before .before .before .before .before .before .guided .ensures .1 .1 .1 .0; pos-kept = c .before .before .before .before .before .before .before .before .before .before .before .before .before .before .guided .ensures .1 .1 .1 .1 .0; stack-kept = c .before .before .before .before .before .before .before .before .before .before .before .before .before .before .guided .ensures .1 .1 .1 .1 .1 }, both-agree _ _ _ _ _ _ _ _ _ _ _ _ _ _ _ _ (c .before .before .before .before .before .before .before .before .before .before .before .before .before .before .before .before .before .before .before .before .before .before .before .before .before .before .before .before .before .before .sweep .ensures .0) (c .before .before .before .before .before .before .before .before .before .before .before .before .before .before .guided .ensures .0)))
+returns c =
+    let found : tie.After-guided = search in
+    let swept : tie.After-sweep = search in
+    both-call (swept .sweep .ensures) (found .guided .ensures)
 
 pub both-spec : {M : Type 1} → statement M
 both-spec =

@@ -10,7 +10,9 @@ sub-decrease-key : tie.Need-sub-decrease-key
 sub-decrease-key c = search needs
 
 decrease-key-requires : tie.Need-decrease-key-requires
-decrease-key-requires c κs = let s = c .before .before .before .before .before .before .before in (s .pre .0 .ordered, (in-the-heap (s .pre .0) (s .pre .1 .0) (s .pre .1 .1) (s .pre .1 .2), omega arith))
+decrease-key-requires c κs =
+    let start : tie.Start = search in
+    (start .pre .0 .ordered, (in-the-heap (start .pre .0) (start .pre .1 .0) (start .pre .1 .1) (start .pre .1 .2), omega arith))
 
 same-length : tie.Need-same-length
 same-length c = search needs

@@ -17,16 +17,24 @@ cast-stack : tie.Need-cast-stack
 cast-stack c = search needs
 
 mul-stack : tie.Need-mul-stack
-mul-stack c = let s = c .before .before .before .before .before in omega (arith, stack-room (s .pre .0) (s .pre .1 .0) (s .pre .1 .2), s .pre .0 .stack-fits)
+mul-stack c =
+    let start : tie.Start = search in
+    omega (arith, stack-room (start .pre .0) (start .pre .1 .0) (start .pre .1 .2), start .pre .0 .stack-fits)
 
 slice-write-stack : tie.Need-slice-write-stack
-slice-write-stack c = let s = c .before .before .before .before .before in omega (arith, stack-room (s .pre .0) (s .pre .1 .0) (s .pre .1 .2), s .pre .0 .stack-fits)
+slice-write-stack c =
+    let start : tie.Start = search in
+    omega (arith, stack-room (start .pre .0) (start .pre .1 .0) (start .pre .1 .2), start .pre .0 .stack-fits)
 
 add-t13 : tie.Need-add-t13
-add-t13 c = let s = c .before .before .before .before .before in omega (arith, held-room (s .pre .0) (s .pre .1 .0) (s .pre .1 .2), s .pre .0 .stack-fits)
+add-t13 c =
+    let start : tie.Start = search in
+    omega (arith, held-room (start .pre .0) (start .pre .1 .0) (start .pre .1 .2), start .pre .0 .stack-fits)
 
 add-t17 : tie.Need-add-t17
-add-t17 c = let s = c .before .before .before .before .before in omega (arith, stack-room (s .pre .0) (s .pre .1 .0) (s .pre .1 .2), s .pre .0 .stack-fits)
+add-t17 c =
+    let start : tie.Start = search in
+    omega (arith, stack-room (start .pre .0) (start .pre .1 .0) (start .pre .1 .2), start .pre .0 .stack-fits)
 
 same-length : tie.Need-same-length
 same-length c = search needs
@@ -41,10 +49,14 @@ sub-push : tie.Need-sub-push
 sub-push c = search needs
 
 push-requires : tie.Need-push-requires
-push-requires c κs = let s = c .before .before .before .before .before .before .before .before in (s .pre .0 .ordered, (s .pre .1 .0, λ w. s .pre .1 .2 (Contains.in-heap w)))
+push-requires c κs =
+    let start : tie.Start = search in
+    (start .pre .0 .ordered, (start .pre .1 .0, λ w. start .pre .1 .2 (Contains.in-heap w)))
 
 add-t25 : tie.Need-add-t25
-add-t25 c = let s = c .before .before .before .before .before .before .before .before .before .before .before .before .before .before .before in omega (arith, held-room (s .pre .0) (s .pre .1 .0) (s .pre .1 .2), s .pre .0 .stack-fits)
+add-t25 c =
+    let start : tie.Start = search in
+    omega (arith, held-room (start .pre .0) (start .pre .1 .0) (start .pre .1 .2), start .pre .0 .stack-fits)
 
 same-length-3 : tie.Need-same-length-3
 same-length-3 c = search needs

@@ -10,10 +10,14 @@ sub-wide : tie.Need-sub-wide
 sub-wide c = search needs
 
 mul-wide : tie.Need-mul-wide
-mul-wide c = omega (arith, stack-within (c .before .before .before .before .before .pre .0))
+mul-wide c =
+    let start : tie.Start = search in
+    omega (arith, stack-within (start .pre .0))
 
 shared-slice-read-wide : tie.Need-shared-slice-read-wide
-shared-slice-read-wide c = omega (arith, stack-within (c .before .before .before .before .before .before .pre .0))
+shared-slice-read-wide c =
+    let start : tie.Start = search in
+    omega (arith, stack-within (start .pre .0))
 
 wide-requires : tie.Need-wide-requires
 wide-requires c κs = search needs
@@ -28,7 +32,10 @@ returns : tie.Need-returns
 returns c = search take-stack
 
 pop-min-requires : tie.Need-pop-min-requires
-pop-min-requires c κs = let s = c .before .before .before .before .before .before .before in (all-heaped (s .pre .0) (c .before .before .if1 .left), s .pre .1)
+pop-min-requires c κs =
+    let none-stacked : tie.Else1 = search in
+    let start : tie.Start = search in
+    (all-heaped (start .pre .0) (none-stacked .if1 .left), start .pre .1)
 
 mul-v : tie.Need-mul-v
 mul-v c = search needs

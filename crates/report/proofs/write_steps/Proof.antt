@@ -38,9 +38,10 @@ loop-less c = search needs
 
 loop-again : tie.Need-loop-again Inv-loop μ-loop
 loop-again c =
-    let w = c .before .before in
-    let head = w .before .before .before .before in
-    (search needs, steps-more (head .before .before .before .before .pre) (head .loop .inv .1) (search needs) (w .write-step .ensures))
+    let written : tie.After-write-step Inv-loop μ-loop = search in
+    let head : tie.At-loop Inv-loop μ-loop = search in
+    let start : tie.Start Inv-loop μ-loop = search in
+    (search needs, steps-more (start .pre) (head .loop .inv .1) (search needs) (written .write-step .ensures))
 
 same-length : tie.Need-same-length Inv-loop μ-loop
 same-length c = search needs

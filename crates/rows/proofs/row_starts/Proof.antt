@@ -4,17 +4,15 @@ use borrow.Author.Needs.{needs}
 use Rattle.rows.specs.Rows.{Filled, filled-none, filled-more, filled-all}
 use Rattle.rows.proofs.row_starts.Statement.{statement}
 use Rattle.rows.proofs.row_starts.Tie as tie
-use Rattle.rows.proofs.row_starts.Reads as reads
-use Rattle.rows.proofs.row_starts.Lts as lts
 
 abbrev Inv-loop : tie.InvT-loop
-Inv-loop stages width row₀ step at₀ s₀ row at s = (s ≤ stages) × Filled stages width s at row
+Inv-loop stages width row₀ gap at₀ s₀ row at s = (s ≤ stages) × Filled stages width s at row
 
 abbrev μ-loop : tie.MeasureT-loop
-μ-loop stages width row₀ step at₀ s₀ row at s = stages - s
+μ-loop stages width row₀ gap at₀ s₀ row at s = stages - s
 
-cast-step : tie.Need-cast-step Inv-loop μ-loop
-cast-step c = search needs
+cast-gap : tie.Need-cast-gap Inv-loop μ-loop
+cast-gap c = search needs
 
 loop-holds : tie.Need-loop-holds Inv-loop μ-loop
 loop-holds c = (search needs, filled-none _ _)
@@ -50,7 +48,7 @@ row-starts-spec =
     (tie.spec
     Inv-loop
     μ-loop
-    cast-step
+    cast-gap
     loop-holds
     mul-row
     array-write-row

@@ -7,8 +7,11 @@ use borrow.Author.Needs.{needs}
 use Rattle.sweep_rows.proofs.offer.Statement.{statement}
 use Rattle.sweep_rows.proofs.offer.Tie as tie
 
-add-q : tie.Need-add-q
-add-q c = search needs
+cast-pair : tie.Need-cast-pair
+cast-pair c = search needs
+
+add-pair : tie.Need-add-pair
+add-pair c = search needs
 
 mul-old : tie.Need-mul-old
 mul-old c = search needs
@@ -18,6 +21,9 @@ slice-read-old c = search needs
 
 returns : tie.Need-returns
 returns c = offer-kept _ _ _ _ _ _ (c .if1 .taken)
+
+cast-stage : tie.Need-cast-stage
+cast-stage c = search needs
 
 mul-k : tie.Need-mul-k
 mul-k c = search needs
@@ -110,10 +116,12 @@ pub offer-spec : {M : Type 1} → statement M
 offer-spec =
     tie.close
     (tie.spec
-    add-q
+    cast-pair
+    add-pair
     mul-old
     slice-read-old
     returns
+    cast-stage
     mul-k
     element-copy-out-k
     cast-nodes

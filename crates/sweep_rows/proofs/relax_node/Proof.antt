@@ -13,26 +13,18 @@ use Rattle.sweep_rows.proofs.relax_node.Statement.{statement}
 use Rattle.sweep_rows.proofs.relax_node.Tie as tie
 
 abbrev Inv-loop : tie.InvT-loop
-Inv-loop costs₀ via₀ nodes₀ counts₀ steps row inner n v start until m₀ e₀ costs via nodes counts m e =
-    ((x : Stands (read steps inner) row (n .0) v start until (rows costs₀ via₀ nodes₀ counts₀))
-    → Walking (x .z) (walk (read steps inner) (x .first) row) (x .s) (n .0) v start until (rows costs₀ via₀ nodes₀ counts₀) (rows costs via nodes counts) e (m .0))
+Inv-loop costs₀ via₀ nodes₀ counts₀ steps row inner n v m₀ begin until costs via nodes counts m e =
+    ((x : Stands (read steps inner) row (n .0) v begin until (rows costs₀ via₀ nodes₀ counts₀))
+    → Walking (x .z) (walk (read steps inner) (x .first) row) (x .s) (n .0) v begin until (rows costs₀ via₀ nodes₀ counts₀) (rows costs via nodes counts) e (m .0))
     × (length costs ≡ length costs₀)
     × (length via ≡ length via₀)
     × (length nodes ≡ length nodes₀)
 
 abbrev μ-loop : tie.MeasureT-loop
-μ-loop costs₀ via₀ nodes₀ counts₀ steps row inner n v start until m₀ e₀ costs via nodes counts m e = until - e
+μ-loop costs₀ via₀ nodes₀ counts₀ steps row inner n v m₀ begin until costs via nodes counts m e = until - e
 
 loop-holds : tie.Need-loop-holds Inv-loop μ-loop
 loop-holds c = (walk-start, refl, refl, refl)
-
-cast-t17 : tie.Need-cast-t17 Inv-loop μ-loop
-cast-t17 c =
-    let turn : tie.In-loop Inv-loop μ-loop = search in
-    let head : tie.At-loop Inv-loop μ-loop = search in
-    let start : tie.Start Inv-loop μ-loop = search in
-    let w = head .loop .inv .0 (start .pre) in
-    omega (arith, walk-step w (turn .loop-test .taken))
 
 index-1-descend-to : tie.Need-index-1-descend-to Inv-loop μ-loop
 index-1-descend-to c = search needs
@@ -95,8 +87,8 @@ relax-step-requires c κs =
     let w = head .loop .inv .0 (start .pre) in
     walk-offering w (turn .loop-test .taken) (low .descend-to .ensures) (led .branch .ensures)
 
-add-e : tie.Need-add-e Inv-loop μ-loop
-add-e c =
+add-next : tie.Need-add-next Inv-loop μ-loop
+add-next c =
     let turn : tie.In-loop Inv-loop μ-loop = search in
     let head : tie.At-loop Inv-loop μ-loop = search in
     let start : tie.Start Inv-loop μ-loop = search in
@@ -146,7 +138,6 @@ relax-node-spec =
     Inv-loop
     μ-loop
     loop-holds
-    cast-t17
     index-1-descend-to
     index-1-descend-to-2
     descend-to-requires
@@ -158,7 +149,7 @@ relax-node-spec =
     index-1-branch-2
     branch-requires
     relax-step-requires
-    add-e
+    add-next
     loop-less
     loop-again
     same-length-4

@@ -3,28 +3,28 @@ use Prim.Native.Nat.{_-_}
 use mathlib.Core.Path.{_≡_, refl}
 use native.Mathlib.Omega.{arith}
 use lib.ListN.{length}
+use borrow.Author.Needs.{needs}
 use Rattle.checks.specs.Tables.{read}
 use Rattle.checks.specs.Ready.{walk}
 use Rattle.sweep_model.specs.Model.{rows}
 use Rattle.sweep_rows.specs.Standing.{InRow}
 use Rattle.sweep_rows.proofs.Rowing.{Rowing, small-stage, row-begins, row-place, row-small, row-cost, row-stands, row-more, row-done}
-use borrow.Author.Needs.{needs}
 use Rattle.sweep_rows.proofs.relax_row.Statement.{statement}
 use Rattle.sweep_rows.proofs.relax_row.Tie as tie
 
 abbrev Inv-loop : tie.InvT-loop
-Inv-loop costs₀ via₀ nodes₀ counts₀ steps first row inner at base start until count k₀ costs via nodes counts k =
-    ((x : InRow (walk (read steps inner) first row) at (rows costs₀ via₀ nodes₀ counts₀))
-    → Rowing (x .z) (walk (read steps inner) first row) at count (rows costs₀ via₀ nodes₀ counts₀) (rows costs via nodes counts) k)
+Inv-loop costs₀ via₀ nodes₀ counts₀ steps first row inner stage base leaving count k₀ costs via nodes counts k =
+    ((x : InRow (walk (read steps inner) first row) stage (rows costs₀ via₀ nodes₀ counts₀))
+    → Rowing (x .z) (walk (read steps inner) first row) stage count (rows costs₀ via₀ nodes₀ counts₀) (rows costs via nodes counts) k)
     × (length costs ≡ length costs₀)
     × (length via ≡ length via₀)
     × (length nodes ≡ length nodes₀)
 
 abbrev μ-loop : tie.MeasureT-loop
-μ-loop costs₀ via₀ nodes₀ counts₀ steps first row inner at base start until count k₀ costs via nodes counts k = count - k
+μ-loop costs₀ via₀ nodes₀ counts₀ steps first row inner stage base leaving count k₀ costs via nodes counts k = count - k
 
-cast-at : tie.Need-cast-at Inv-loop μ-loop
-cast-at c = search needs
+cast-stage : tie.Need-cast-stage Inv-loop μ-loop
+cast-stage c = search needs
 
 mul-wide : tie.Need-mul-wide Inv-loop μ-loop
 mul-wide c =
@@ -39,36 +39,30 @@ element-copy-out-wide c =
 wide-requires : tie.Need-wide-requires Inv-loop μ-loop
 wide-requires c κs = search needs
 
-mul-index : tie.Need-mul-index Inv-loop μ-loop
-mul-index c =
+mul-t19 : tie.Need-mul-t19 Inv-loop μ-loop
+mul-t19 c =
     let start : tie.Start Inv-loop μ-loop = search in
     omega (arith, small-stage _ _ (start .pre .row .ready) _ (start .pre .inside))
 
-element-copy-out-index : tie.Need-element-copy-out-index Inv-loop μ-loop
-element-copy-out-index c =
+element-copy-out-t25 : tie.Need-element-copy-out-t25 Inv-loop μ-loop
+element-copy-out-t25 c =
     let start : tie.Start Inv-loop μ-loop = search in
     omega (arith, small-stage _ _ (start .pre .row .ready) _ (start .pre .inside))
 
-index-requires : tie.Need-index-requires Inv-loop μ-loop
-index-requires c κs = search needs
-
-add-index : tie.Need-add-index Inv-loop μ-loop
-add-index c =
+add-t19 : tie.Need-add-t19 Inv-loop μ-loop
+add-t19 c =
     let start : tie.Start Inv-loop μ-loop = search in
     omega (arith, small-stage _ _ (start .pre .row .ready) _ (start .pre .inside))
 
-mul-index-2 : tie.Need-mul-index-2 Inv-loop μ-loop
-mul-index-2 c =
+mul-t26 : tie.Need-mul-t26 Inv-loop μ-loop
+mul-t26 c =
     let start : tie.Start Inv-loop μ-loop = search in
     omega (arith, small-stage _ _ (start .pre .row .ready) _ (start .pre .inside))
 
-element-copy-out-index-2 : tie.Need-element-copy-out-index-2 Inv-loop μ-loop
-element-copy-out-index-2 c =
+element-copy-out-t25-2 : tie.Need-element-copy-out-t25-2 Inv-loop μ-loop
+element-copy-out-t25-2 c =
     let start : tie.Start Inv-loop μ-loop = search in
     omega (arith, small-stage _ _ (start .pre .row .ready) _ (start .pre .inside))
-
-index-requires-2 : tie.Need-index-requires-2 Inv-loop μ-loop
-index-requires-2 c κs = search needs
 
 mul-wide-2 : tie.Need-mul-wide-2 Inv-loop μ-loop
 mul-wide-2 c =
@@ -86,8 +80,8 @@ wide-requires-2 c κs = search needs
 loop-holds : tie.Need-loop-holds Inv-loop μ-loop
 loop-holds c = ((λ x. row-begins _ _ (x .row) (x .inside) (c .wide2 .ensures .0)), refl, refl, refl)
 
-add-n : tie.Need-add-n Inv-loop μ-loop
-add-n c =
+add-t32 : tie.Need-add-t32 Inv-loop μ-loop
+add-t32 c =
     let turn : tie.In-loop Inv-loop μ-loop = search in
     let head : tie.At-loop Inv-loop μ-loop = search in
     let based : tie.After-wide Inv-loop μ-loop = search in
@@ -95,8 +89,8 @@ add-n c =
     let w = head .loop .inv .0 (start .pre) in
     omega (arith, row-place _ _ w (based .wide .ensures .0) (turn .loop-test .taken))
 
-mul-n : tie.Need-mul-n Inv-loop μ-loop
-mul-n c =
+mul-t33 : tie.Need-mul-t33 Inv-loop μ-loop
+mul-t33 c =
     let turn : tie.In-loop Inv-loop μ-loop = search in
     let head : tie.At-loop Inv-loop μ-loop = search in
     let based : tie.After-wide Inv-loop μ-loop = search in
@@ -104,8 +98,8 @@ mul-n c =
     let w = head .loop .inv .0 (start .pre) in
     omega (arith, row-place _ _ w (based .wide .ensures .0) (turn .loop-test .taken))
 
-slice-read-n : tie.Need-slice-read-n Inv-loop μ-loop
-slice-read-n c =
+slice-read-t35 : tie.Need-slice-read-t35 Inv-loop μ-loop
+slice-read-t35 c =
     let turn : tie.In-loop Inv-loop μ-loop = search in
     let head : tie.At-loop Inv-loop μ-loop = search in
     let based : tie.After-wide Inv-loop μ-loop = search in
@@ -113,60 +107,53 @@ slice-read-n c =
     let w = head .loop .inv .0 (start .pre) in
     row-place _ _ w (based .wide .ensures .0) (turn .loop-test .taken)
 
-wide-requires-3 : tie.Need-wide-requires-3 Inv-loop μ-loop
-wide-requires-3 c κs = search needs
+cast-t36 : tie.Need-cast-t36 Inv-loop μ-loop
+cast-t36 c =
+    let turn : tie.In-loop Inv-loop μ-loop = search in
+    let head : tie.At-loop Inv-loop μ-loop = search in
+    let based : tie.After-wide Inv-loop μ-loop = search in
+    let start : tie.Start Inv-loop μ-loop = search in
+    let w = head .loop .inv .0 (start .pre) in
+    omega (arith, row-small _ _ w (based .wide .ensures .0) (turn .loop-test .taken))
+
+cast-v : tie.Need-cast-v Inv-loop μ-loop
+cast-v c = search needs
 
 add-v : tie.Need-add-v Inv-loop μ-loop
 add-v c =
-    let node : tie.After-wide3 Inv-loop μ-loop = search in
     let turn : tie.In-loop Inv-loop μ-loop = search in
     let head : tie.At-loop Inv-loop μ-loop = search in
     let based : tie.After-wide Inv-loop μ-loop = search in
     let start : tie.Start Inv-loop μ-loop = search in
     let w = head .loop .inv .0 (start .pre) in
-    omega (arith, row-cost _ _ w (based .wide .ensures .0) (turn .loop-test .taken) refl (node .wide3 .ensures .0))
+    omega (arith, row-cost _ _ w (based .wide .ensures .0) (turn .loop-test .taken))
 
 mul-v : tie.Need-mul-v Inv-loop μ-loop
 mul-v c =
-    let node : tie.After-wide3 Inv-loop μ-loop = search in
     let turn : tie.In-loop Inv-loop μ-loop = search in
     let head : tie.At-loop Inv-loop μ-loop = search in
     let based : tie.After-wide Inv-loop μ-loop = search in
     let start : tie.Start Inv-loop μ-loop = search in
     let w = head .loop .inv .0 (start .pre) in
-    omega (arith, row-cost _ _ w (based .wide .ensures .0) (turn .loop-test .taken) refl (node .wide3 .ensures .0))
+    omega (arith, row-cost _ _ w (based .wide .ensures .0) (turn .loop-test .taken))
 
 slice-read-v : tie.Need-slice-read-v Inv-loop μ-loop
 slice-read-v c =
-    let node : tie.After-wide3 Inv-loop μ-loop = search in
     let turn : tie.In-loop Inv-loop μ-loop = search in
     let head : tie.At-loop Inv-loop μ-loop = search in
     let based : tie.After-wide Inv-loop μ-loop = search in
     let start : tie.Start Inv-loop μ-loop = search in
     let w = head .loop .inv .0 (start .pre) in
-    row-cost _ _ w (based .wide .ensures .0) (turn .loop-test .taken) refl (node .wide3 .ensures .0)
-
-cast-t45 : tie.Need-cast-t45 Inv-loop μ-loop
-cast-t45 c =
-    let node : tie.After-wide3 Inv-loop μ-loop = search in
-    let turn : tie.In-loop Inv-loop μ-loop = search in
-    let head : tie.At-loop Inv-loop μ-loop = search in
-    let based : tie.After-wide Inv-loop μ-loop = search in
-    let start : tie.Start Inv-loop μ-loop = search in
-    let w = head .loop .inv .0 (start .pre) in
-    omega (arith, row-small _ _ w (based .wide .ensures .0) (turn .loop-test .taken) refl (node .wide3 .ensures .0))
+    row-cost _ _ w (based .wide .ensures .0) (turn .loop-test .taken)
 
 relax-node-requires : tie.Need-relax-node-requires Inv-loop μ-loop
 relax-node-requires c κs =
-    let node : tie.After-wide3 Inv-loop μ-loop = search in
     let turn : tie.In-loop Inv-loop μ-loop = search in
     let head : tie.At-loop Inv-loop μ-loop = search in
-    let last : tie.After-index2 Inv-loop μ-loop = search in
-    let first : tie.After-index Inv-loop μ-loop = search in
     let based : tie.After-wide Inv-loop μ-loop = search in
     let start : tie.Start Inv-loop μ-loop = search in
     let w = head .loop .inv .0 (start .pre) in
-    row-stands _ _ w (based .wide .ensures .0) (turn .loop-test .taken) refl (node .wide3 .ensures .0) refl (first .index .ensures .0) (last .index2 .ensures .0)
+    row-stands _ _ w (based .wide .ensures .0) (turn .loop-test .taken)
 
 add-k : tie.Need-add-k Inv-loop μ-loop
 add-k c = search needs
@@ -177,16 +164,13 @@ loop-less c = search needs
 loop-again : tie.Need-loop-again Inv-loop μ-loop
 loop-again c =
     let done : tie.After-relax-node Inv-loop μ-loop = search in
-    let node : tie.After-wide3 Inv-loop μ-loop = search in
     let turn : tie.In-loop Inv-loop μ-loop = search in
     let head : tie.At-loop Inv-loop μ-loop = search in
-    let last : tie.After-index2 Inv-loop μ-loop = search in
-    let first : tie.After-index Inv-loop μ-loop = search in
     let based : tie.After-wide Inv-loop μ-loop = search in (
       (λ x.
           let w = head .loop .inv .0 x in
-          row-more _ _ w (based .wide .ensures .0) (turn .loop-test .taken) refl (node .wide3 .ensures .0) refl (first .index .ensures .0) (last .index2 .ensures .0)
-          (done .relax-node .ensures (row-stands _ _ w (based .wide .ensures .0) (turn .loop-test .taken) refl (node .wide3 .ensures .0) refl (first .index .ensures .0) (last .index2 .ensures .0)))),
+          let stands = row-stands _ _ w (based .wide .ensures .0) (turn .loop-test .taken) in
+          row-more _ _ w (based .wide .ensures .0) (turn .loop-test .taken) (done .relax-node .ensures stands)),
       omega (arith, head .loop .inv .1, done .relax-node .kept .0),
       omega (arith, head .loop .inv .2, done .relax-node .kept .1 .0),
       omega (arith, head .loop .inv .3, done .relax-node .kept .1 .1 .0),
@@ -220,29 +204,27 @@ relax-row-spec =
     (tie.spec
     Inv-loop
     μ-loop
-    cast-at
+    cast-stage
     mul-wide
     element-copy-out-wide
     wide-requires
-    mul-index
-    element-copy-out-index
-    index-requires
-    add-index
-    mul-index-2
-    element-copy-out-index-2
-    index-requires-2
+    mul-t19
+    element-copy-out-t25
+    add-t19
+    mul-t26
+    element-copy-out-t25-2
     mul-wide-2
     element-copy-out-wide-2
     wide-requires-2
     loop-holds
-    add-n
-    mul-n
-    slice-read-n
-    wide-requires-3
+    add-t32
+    mul-t33
+    slice-read-t35
+    cast-t36
+    cast-v
     add-v
     mul-v
     slice-read-v
-    cast-t45
     relax-node-requires
     add-k
     loop-less

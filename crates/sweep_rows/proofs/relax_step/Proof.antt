@@ -7,17 +7,23 @@ use Rattle.sweep_rows.proofs.relax_step.Tie as tie
 returns : tie.Need-returns
 returns c = stepped-none _ _ _ _ _ _ _ (c .if1 .taken)
 
-mul-s : tie.Need-mul-s
-mul-s c = search needs
+cast-step : tie.Need-cast-step
+cast-step c = search needs
 
-index-1-s : tie.Need-index-1-s
-index-1-s c = search needs
+mul-t19 : tie.Need-mul-t19
+mul-t19 c = search needs
 
-index-2-s : tie.Need-index-2-s
-index-2-s c = search needs
+index-1-t22 : tie.Need-index-1-t22
+index-1-t22 c = search needs
 
-cast-s : tie.Need-cast-s
-cast-s c = search needs
+index-2-t22 : tie.Need-index-2-t22
+index-2-t22 c = search needs
+
+cast-t23 : tie.Need-cast-t23
+cast-t23 c = search needs
+
+cast-wide : tie.Need-cast-wide
+cast-wide c = search needs
 
 mul-wide : tie.Need-mul-wide
 mul-wide c = search needs
@@ -28,32 +34,20 @@ element-copy-out-wide c = search needs
 wide-requires : tie.Need-wide-requires
 wide-requires c κs = search needs
 
-cast-mark : tie.Need-cast-mark
-cast-mark c = search needs
+packed-requires : tie.Need-packed-requires
+packed-requires c κs = search needs
 
-mul-mark : tie.Need-mul-mark
-mul-mark c = search needs
+mul-total : tie.Need-mul-total
+mul-total c = search needs
 
-cast-mark-2 : tie.Need-cast-mark-2
-cast-mark-2 c = search needs
+index-1-total : tie.Need-index-1-total
+index-1-total c = search needs
 
-add-mark : tie.Need-add-mark
-add-mark c = search needs
+index-2-total : tie.Need-index-2-total
+index-2-total c = search needs
 
-cast-offer : tie.Need-cast-offer
-cast-offer c = search needs
-
-mul-offer : tie.Need-mul-offer
-mul-offer c = search needs
-
-index-1-offer : tie.Need-index-1-offer
-index-1-offer c = search needs
-
-index-2-offer : tie.Need-index-2-offer
-index-2-offer c = search needs
-
-add-offer : tie.Need-add-offer
-add-offer c = search needs
+add-total : tie.Need-add-total
+add-total c = search needs
 
 offer-requires : tie.Need-offer-requires
 offer-requires c κs =
@@ -74,31 +68,30 @@ same-length-3 c = search needs
 returns-2 : tie.Need-returns-2
 returns-2 c =
     let offered : tie.After-offer = search in
+    let marked : tie.After-packed = search in
     let based : tie.After-wide = search in
     let goes : tie.Else1 = search in
-    stepped-offer _ _ _ _ _ _ _ _ _ (goes .if1 .left) (based .wide .ensures .0) (offered .offer .ensures)
+    stepped-offer _ _ _ _ _ _ _ _ _ _ (goes .if1 .left) (based .wide .ensures .0) (marked .packed .ensures) (offered .offer .ensures)
 
 pub relax-step-spec : {M : Type 1} → statement M
 relax-step-spec =
     tie.close
     (tie.spec
     returns
-    mul-s
-    index-1-s
-    index-2-s
-    cast-s
+    cast-step
+    mul-t19
+    index-1-t22
+    index-2-t22
+    cast-t23
+    cast-wide
     mul-wide
     element-copy-out-wide
     wide-requires
-    cast-mark
-    mul-mark
-    cast-mark-2
-    add-mark
-    cast-offer
-    mul-offer
-    index-1-offer
-    index-2-offer
-    add-offer
+    packed-requires
+    mul-total
+    index-1-total
+    index-2-total
+    add-total
     offer-requires
     same-length
     same-length-2

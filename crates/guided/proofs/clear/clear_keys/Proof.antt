@@ -1,14 +1,12 @@
 -- `guided::clear_keys` meets its contract.
 use mathlib.Core.Path.{_≡_, refl}
 use Prim.Native.Nat.{_-_, _≤_}
-use lib.ListN.{length, length-set}
 use native.Mathlib.Omega.{arith}
-use borrow.Author.Needs.{needs}
+use lib.ListN.{length, length-set}
 use Rattle.guided.proofs.Clearing.{Clearing, clear-none, clear-more, clear-all}
+use borrow.Author.Needs.{needs}
 use Rattle.guided.proofs.clear.clear_keys.Statement.{statement}
 use Rattle.guided.proofs.clear.clear_keys.Tie as tie
-use Rattle.guided.proofs.clear.clear_keys.Reads as reads
-use Rattle.guided.proofs.clear.clear_keys.Lts as lts
 
 abbrev Inv-loop : tie.InvT-loop
 Inv-loop keys₀ first until k₀ keys k = (length keys ≡ length keys₀) × (first ≤ k) × (k ≤ until) × Clearing first k until keys₀ keys
@@ -17,7 +15,9 @@ abbrev μ-loop : tie.MeasureT-loop
 μ-loop keys₀ first until k₀ keys k = until - k
 
 loop-holds : tie.Need-loop-holds Inv-loop μ-loop
-loop-holds c = (refl, omega arith, c .pre .0, clear-none _ _ _)
+loop-holds c =
+    let start : tie.Start Inv-loop μ-loop = search in
+    (refl, omega arith, start .pre .0, clear-none _ _ _)
 
 mul-keys : tie.Need-mul-keys Inv-loop μ-loop
 mul-keys c = search needs
@@ -32,13 +32,23 @@ loop-less : tie.Need-loop-less Inv-loop μ-loop
 loop-less c = search needs
 
 loop-again : tie.Need-loop-again Inv-loop μ-loop
-loop-again c = (simp length-set (c .before .loop .inv .0), omega (arith, c .before .loop .inv .1), omega (arith, c .loop-test .taken), clear-more (c .before .loop .inv .3) (c .loop-test .taken) (omega (arith, c .before .loop .inv .0, c .loop-test .taken, c .before .before .pre .1)))
+loop-again c =
+    let turn : tie.In-loop Inv-loop μ-loop = search in
+    let head : tie.At-loop Inv-loop μ-loop = search in
+    let start : tie.Start Inv-loop μ-loop = search in
+    let inv = head .loop .inv in
+    let more = turn .loop-test .taken in
+    (simp length-set (inv .0), omega (arith, inv .1), omega (arith, more), clear-more (inv .3) more (omega (arith, inv .0, more, start .pre .1)))
 
 same-length : tie.Need-same-length Inv-loop μ-loop
-same-length c = c .before .loop .inv .0
+same-length c =
+    let head : tie.At-loop Inv-loop μ-loop = search in
+    head .loop .inv .0
 
 returns : tie.Need-returns Inv-loop μ-loop
-returns c = clear-all (c .before .loop .inv .3) (c .loop-test .left)
+returns c =
+    let head : tie.At-loop Inv-loop μ-loop = search in
+    clear-all (head .loop .inv .3) (c .loop-test .left)
 
 pub clear-keys-spec : {M : Type 1} → statement M
 clear-keys-spec =

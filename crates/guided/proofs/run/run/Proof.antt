@@ -1,87 +1,247 @@
 -- `guided::run` meets its contract.
+use mathlib.Core.Path.{_∙_}
 use native.Mathlib.Omega.{arith}
-use Rattle.guided.proofs.Preparing.{run-nodes, run-lo, run-sorted, run-width, run-root, run-some, run-none, run-prepared}
+use Rattle.guided.proofs.Preparing.{run-lo, run-nodes, run-sorted, run-narrow, run-root}
+use Rattle.guided.proofs.Finding.{runs-none, clears, cleared-start, found-traceable, found-runs}
 use borrow.Author.Needs.{needs}
 use Rattle.guided.proofs.run.run.Statement.{statement}
 use Rattle.guided.proofs.run.run.Tie as tie
-use Rattle.guided.proofs.run.run.Reads as reads
-use Rattle.guided.proofs.run.run.Lts as lts
-use Rattle.chart.proofs.chart_estimates.Reads as chart-estimates-reads
-use Rattle.chart.proofs.first_steps.Reads as first-steps-reads
-use Rattle.guided_expand.proofs.pair_estimate.Reads as pair-estimate-reads
-use Rattle.guided.proofs.run.find.Reads as find-reads
-use Rattle.nodes.proofs.diagram_estimates.Reads as diagram-estimates-reads
-use Rattle.nodes.proofs.finishing.Reads as finishing-reads
-use Rattle.rows.proofs.row_starts.Reads as row-starts-reads
+
+-- the places before a place
+abbrev searched-of : tie.After-conclude → tie.After-search
+searched-of c = search
+
+abbrev cleared-of : tie.After-search → tie.After-clear-rows
+cleared-of c = search
+
+abbrev yes-of : tie.After-clear-rows → tie.After-finishing
+yes-of c = search
+
+abbrev row-of : tie.After-finishing → tie.After-row-starts
+row-of c = search
+
+abbrev first-of : tie.After-row-starts → tie.After-first-steps
+first-of c = search
+
+abbrev some-of : tie.After-first-steps → tie.Else1
+some-of c = search
+
+abbrev rest-of : tie.Else1 → tie.After-pair-estimate
+rest-of c = search
+
+abbrev by-node-of : tie.After-pair-estimate → tie.After-diagram-estimates
+by-node-of c = search
+
+abbrev by-stage-of : tie.After-diagram-estimates → tie.After-chart-estimates
+by-stage-of c = search
+
+abbrev start-of : tie.After-chart-estimates → tie.Start
+start-of c = search
 
 chart-estimates-requires : tie.Need-chart-estimates-requires
-chart-estimates-requires c κs = (c .before .before .before .before .before .before .before .pre .0) .valid
+chart-estimates-requires c κs =
+    let start : tie.Start = search in
+    start .pre .0 .valid
+
+index-1-diagram-estimates : tie.Need-index-1-diagram-estimates
+index-1-diagram-estimates c = search needs
+
+index-1-diagram-estimates-2 : tie.Need-index-1-diagram-estimates-2
+index-1-diagram-estimates-2 c = search needs
+
+index-1-diagram-estimates-3 : tie.Need-index-1-diagram-estimates-3
+index-1-diagram-estimates-3 c = search needs
+
+index-1-diagram-estimates-4 : tie.Need-index-1-diagram-estimates-4
+index-1-diagram-estimates-4 c = search needs
 
 diagram-estimates-requires : tie.Need-diagram-estimates-requires
-diagram-estimates-requires c κs = run-nodes (c .before .before .before .before .before .before .before .before .pre .0)
+diagram-estimates-requires c κs =
+    let start : tie.Start = search in
+    run-nodes (start .pre .0)
 
 pair-estimate-requires : tie.Need-pair-estimate-requires
-pair-estimate-requires c κs = run-root (c .before .before .before .before .before .before .before .before .before .before .before .pre .0)
+pair-estimate-requires c κs =
+    let start : tie.Start = search in
+    run-root (start .pre .0)
+
+refusal-requires : tie.Need-refusal-requires
+refusal-requires c κs = search needs
 
 returns : tie.Need-returns
-returns c = run-none (c .before .before .before .before .before .before .before .before .before .before .before .before .before .pre .0) (c .before .before .before .before .before .chart-estimates .ensures) (c .before .before .before .before .diagram-estimates .ensures) (c .before .pair-estimate .ensures) (c .if1 .taken)
+returns c =
+    let answer : tie.After-refusal = search in
+    let none : tie.Then1 = search in
+    let rest : tie.After-pair-estimate = search in
+    let by-node = by-node-of rest in
+    let by-stage = by-stage-of by-node in
+    let start = start-of by-stage in
+    runs-none (start .pre .0) (by-stage .chart-estimates .ensures) (by-node .diagram-estimates .ensures) (rest .pair-estimate .ensures) (none .if1 .taken) (answer .refusal .ensures)
+
+index-1-first-steps : tie.Need-index-1-first-steps
+index-1-first-steps c = search needs
 
 first-steps-requires : tie.Need-first-steps-requires
-first-steps-requires c κs = run-sorted (c .before .before .before .before .before .before .before .before .before .before .before .before .before .pre .0)
+first-steps-requires c κs =
+    let start : tie.Start = search in
+    run-sorted (start .pre .0)
 
 cast-row-starts : tie.Need-cast-row-starts
 cast-row-starts c = search needs
 
 add-row-starts : tie.Need-add-row-starts
-add-row-starts c = omega (arith, run-width (c .before .before .before .before .before .before .before .before .before .before .before .before .before .before .before .before .pre .0))
+add-row-starts c =
+    let start : tie.Start = search in
+    omega (arith, run-narrow (start .pre .0))
 
 row-starts-requires : tie.Need-row-starts-requires
-row-starts-requires c κs = (run-sorted (c .before .before .before .before .before .before .before .before .before .before .before .before .before .before .before .before .pre .0) .1, run-width (c .before .before .before .before .before .before .before .before .before .before .before .before .before .before .before .before .pre .0))
+row-starts-requires c κs =
+    let start : tie.Start = search in
+    run-narrow (start .pre .0)
+
+index-1-finishing : tie.Need-index-1-finishing
+index-1-finishing c = search needs
 
 finishing-requires : tie.Need-finishing-requires
-finishing-requires c κs = run-lo (c .before .before .before .before .before .before .before .before .before .before .before .before .before .before .before .before .before .pre .0)
+finishing-requires c κs =
+    let row : tie.After-row-starts = search in
+    let first = first-of row in
+    let some = some-of first in
+    let rest = rest-of some in
+    let by-node = by-node-of rest in
+    let by-stage = by-stage-of by-node in
+    let start = start-of by-stage in
+    run-lo (start .pre .0)
 
-find-requires : tie.Need-find-requires
-find-requires c κs = (run-prepared (c .before .before .before .before .before .before .before .before .before .before .before .before .before .before .before .before .before .before .before .before .before .before .before .before .before .before .before .before .before .before .pre .0) (c .before .before .before .before .before .before .before .before .before .before .before .before .before .before .before .before .before .before .before .before .before .before .chart-estimates .ensures) (c .before .before .before .before .before .before .before .before .before .before .before .before .before .before .before .before .before .before .before .before .before .diagram-estimates .ensures) (c .before .before .before .before .before .before .before .before .before .before .before .before .before .before .before .before .first-steps .ensures) (c .before .before .before .before .before .before .before .before .before .before .before .before .before .row-starts .ensures) (c .before .before .before .before .before .before .before .before .before .before .before .before .finishing .ensures), (c .before .before .before .before .before .before .before .before .before .before .before .before .before .before .before .before .before .before .before .before .before .before .before .before .before .before .before .before .before .before .pre .1, run-some (c .before .before .before .before .before .before .before .before .before .before .before .before .before .before .before .before .before .before .before .before .before .before .before .before .before .before .before .before .before .before .pre .0) (c .before .before .before .before .before .before .before .before .before .before .before .before .before .before .before .before .before .before .before .before .before .before .chart-estimates .ensures) (c .before .before .before .before .before .before .before .before .before .before .before .before .before .before .before .before .before .before .before .before .before .diagram-estimates .ensures) (c .before .before .before .before .before .before .before .before .before .before .before .before .before .before .before .before .before .before .pair-estimate .ensures) (c .before .before .before .before .before .before .before .before .before .before .before .before .before .before .before .before .before .if1 .left)))
+add-clear-rows : tie.Need-add-clear-rows
+add-clear-rows c =
+    let yes : tie.After-finishing = search in
+    let row = row-of yes in
+    let first = first-of row in
+    let some = some-of first in
+    let rest = rest-of some in
+    let by-node = by-node-of rest in
+    let by-stage = by-stage-of by-node in
+    let start = start-of by-stage in
+    omega (arith, run-narrow (start .pre .0))
+
+clear-rows-requires : tie.Need-clear-rows-requires
+clear-rows-requires c κs =
+    let yes : tie.After-finishing = search in
+    let row = row-of yes in
+    let first = first-of row in
+    let some = some-of first in
+    let rest = rest-of some in
+    let by-node = by-node-of rest in
+    let by-stage = by-stage-of by-node in
+    let start = start-of by-stage in
+    clears (start .pre .0) (by-stage .chart-estimates .ensures) (by-node .diagram-estimates .ensures) (rest .pair-estimate .ensures)
+    (some .if1 .left) (first .first-steps .ensures) (row .row-starts .ensures) (yes .finishing .ensures) (start .pre .1)
+
+search-requires : tie.Need-search-requires
+search-requires c κs =
+    let cleared : tie.After-clear-rows = search in
+    let yes = yes-of cleared in
+    let row = row-of yes in
+    let first = first-of row in
+    let some = some-of first in
+    let rest = rest-of some in
+    let by-node = by-node-of rest in
+    let by-stage = by-stage-of by-node in
+    let start = start-of by-stage in
+    cleared-start (start .pre .0) (by-stage .chart-estimates .ensures) (by-node .diagram-estimates .ensures) (rest .pair-estimate .ensures)
+    (some .if1 .left) (first .first-steps .ensures) (row .row-starts .ensures) (yes .finishing .ensures) (start .pre .1)
+    (cleared .clear-rows .ensures) (cleared .clear-rows .kept .0)
+
+conclude-requires : tie.Need-conclude-requires
+conclude-requires c κs =
+    let searched : tie.After-search = search in
+    let cleared = cleared-of searched in
+    let yes = yes-of cleared in
+    let row = row-of yes in
+    let first = first-of row in
+    let some = some-of first in
+    let rest = rest-of some in
+    let by-node = by-node-of rest in
+    let by-stage = by-stage-of by-node in
+    let start = start-of by-stage in
+    let begun = cleared-start (start .pre .0) (by-stage .chart-estimates .ensures) (by-node .diagram-estimates .ensures) (rest .pair-estimate .ensures)
+    (some .if1 .left) (first .first-steps .ensures) (row .row-starts .ensures) (yes .finishing .ensures) (start .pre .1)
+    (cleared .clear-rows .ensures) (cleared .clear-rows .kept .0) in
+    found-traceable (start .pre .0) (by-stage .chart-estimates .ensures) (by-node .diagram-estimates .ensures) (rest .pair-estimate .ensures)
+    (some .if1 .left) (first .first-steps .ensures) (row .row-starts .ensures) (yes .finishing .ensures) (start .pre .1)
+    (cleared .clear-rows .ensures) (cleared .clear-rows .kept .0) (searched .search .ensures begun) (searched .search .kept .1 .0)
 
 same-length : tie.Need-same-length
-same-length c = c .before .before .before .before .before .before .before .before .before .before .before .before .before .before .find .kept .0
+same-length c =
+    let ended : tie.After-conclude = search in
+    let searched = searched-of ended in
+    let cleared = cleared-of searched in
+    searched .search .kept .0 ∙ cleared .clear-rows .kept .0
 
 same-length-2 : tie.Need-same-length-2
-same-length-2 c = c .before .before .before .before .before .before .before .before .before .before .before .before .before .before .find .kept .1 .0
+same-length-2 c = search needs
 
 same-length-3 : tie.Need-same-length-3
-same-length-3 c = c .before .before .before .before .before .before .before .before .before .before .before .before .before .before .find .kept .1 .1 .0
+same-length-3 c = search needs
 
 same-length-4 : tie.Need-same-length-4
-same-length-4 c = c .before .before .before .before .before .before .before .before .before .before .before .before .before .before .find .kept .1 .1 .1 .0
+same-length-4 c = search needs
 
 same-length-5 : tie.Need-same-length-5
-same-length-5 c = c .before .before .before .before .before .before .before .before .before .before .before .before .before .before .find .kept .1 .1 .1 .1 .0
+same-length-5 c = search needs
 
 same-length-6 : tie.Need-same-length-6
-same-length-6 c = c .before .before .before .before .before .before .before .before .before .before .before .before .before .before .find .kept .1 .1 .1 .1 .1 .0
+same-length-6 c = search needs
 
 same-length-7 : tie.Need-same-length-7
-same-length-7 c = c .before .before .before .before .before .before .before .before .before .before .before .before .before .before .find .kept .1 .1 .1 .1 .1 .1 .0
+same-length-7 c = search needs
 
 returns-2 : tie.Need-returns-2
-returns-2 c = c .before .before .before .before .before .before .before .before .before .before .before .before .before .before .find .ensures
+returns-2 c =
+    let ended : tie.After-conclude = search in
+    let searched = searched-of ended in
+    let cleared = cleared-of searched in
+    let yes = yes-of cleared in
+    let row = row-of yes in
+    let first = first-of row in
+    let some = some-of first in
+    let rest = rest-of some in
+    let by-node = by-node-of rest in
+    let by-stage = by-stage-of by-node in
+    let start = start-of by-stage in
+    let begun = cleared-start (start .pre .0) (by-stage .chart-estimates .ensures) (by-node .diagram-estimates .ensures) (rest .pair-estimate .ensures)
+    (some .if1 .left) (first .first-steps .ensures) (row .row-starts .ensures) (yes .finishing .ensures) (start .pre .1)
+    (cleared .clear-rows .ensures) (cleared .clear-rows .kept .0) in
+    found-runs (start .pre .0) (by-stage .chart-estimates .ensures) (by-node .diagram-estimates .ensures) (rest .pair-estimate .ensures)
+    (some .if1 .left) (first .first-steps .ensures) (row .row-starts .ensures) (yes .finishing .ensures) (start .pre .1)
+    (cleared .clear-rows .ensures) (cleared .clear-rows .kept .0) (searched .search .ensures begun) (searched .search .kept .1 .0)
+    (ended .conclude .ensures) (ended .conclude .kept .1 .1 .1 .1 .1 .0)
 
 pub run-spec : {M : Type 1} → statement M
 run-spec =
     tie.close
     (tie.spec
     chart-estimates-requires
+    index-1-diagram-estimates
+    index-1-diagram-estimates-2
+    index-1-diagram-estimates-3
+    index-1-diagram-estimates-4
     diagram-estimates-requires
     pair-estimate-requires
+    refusal-requires
     returns
+    index-1-first-steps
     first-steps-requires
     cast-row-starts
     add-row-starts
     row-starts-requires
+    index-1-finishing
     finishing-requires
-    find-requires
+    add-clear-rows
+    clear-rows-requires
+    search-requires
+    conclude-requires
     same-length
     same-length-2
     same-length-3

@@ -4,10 +4,6 @@ use Rattle.guided_expand.proofs.Relaxing.{relax-none, relax-inserts, re
 use borrow.Author.Needs.{needs}
 use Rattle.guided_expand.proofs.relax.relax.Statement.{statement}
 use Rattle.guided_expand.proofs.relax.relax.Tie as tie
-use Rattle.guided_expand.proofs.relax.relax.Reads as reads
-use Rattle.guided_expand.proofs.relax.relax.Lts as lts
-use Rattle.queue.proofs.decrease.Reads as decrease-reads
-use Rattle.queue.proofs.insert.Reads as insert-reads
 
 mul-old : tie.Need-mul-old
 mul-old c = search needs
@@ -16,7 +12,9 @@ slice-read-old : tie.Need-slice-read-old
 slice-read-old c = search needs
 
 returns : tie.Need-returns
-returns c = relax-none (c .before .before .before .before .before .before .before .pre .0) (c .if1 .taken)
+returns c =
+    let start : tie.Start = search in
+    relax-none (start .pre) (c .if1 .taken)
 
 mul-via : tie.Need-mul-via
 mul-via c = search needs
@@ -25,7 +23,10 @@ slice-write-via : tie.Need-slice-write-via
 slice-write-via c = search needs
 
 insert-requires : tie.Need-insert-requires
-insert-requires c κs = (c .before .before .before .before .before .before .before .before .before .before .before .before .pre .0, (c .before .before .before .before .before .before .before .before .before .before .before .before .pre .1 .0, c .before .before .before .before .before .before .before .before .before .before .before .before .pre .1 .2, c .before .before .before .before .before .before .before .before .before .before .before .before .pre .1 .4 .outside (c .before .before .before .before .if2 .taken)))
+insert-requires c κs =
+    let new : tie.Then2 = search in
+    let start : tie.Start = search in
+    (start .pre .queue, (start .pre .pair, start .pre .above, start .pre .offerable .outside (new .if2 .taken)))
 
 same-length : tie.Need-same-length
 same-length c = search needs
@@ -43,10 +44,20 @@ same-length-5 : tie.Need-same-length-5
 same-length-5 c = search needs
 
 returns-2 : tie.Need-returns-2
-returns-2 c = relax-inserts (c .before .before .before .before .before .before .before .before .before .before .before .before .before .before .before .before .before .before .before .before .before .pre .0) (c .before .before .before .before .before .before .before .before .before .before .before .before .before .before .before .before .before .before .before .before .before .pre .1 .0) (c .before .before .before .before .before .before .before .before .before .before .before .before .before .before .before .before .before .before .before .before .before .pre .1 .1) (c .before .before .before .before .before .before .before .before .before .before .before .before .before .before .before .before .before .before .before .before .before .pre .1 .3) (c .before .before .before .before .before .before .before .before .before .before .before .before .before .before .if1 .left) (c .before .before .before .before .before .before .before .before .insert .ensures)
+returns-2 c =
+    let inserted : tie.After-insert = search in
+    let lower : tie.Else1 = search in
+    let start : tie.Start = search in
+    relax-inserts (start .pre) (lower .if1 .left) (inserted .insert .ensures)
 
 decrease-requires : tie.Need-decrease-requires
-decrease-requires c κs = (c .before .before .before .before .before .before .before .before .before .before .before .before .pre .0, (relax-inside (c .before .before .before .before .before .before .before .before .before .before .before .before .pre .0) (c .before .before .before .before .before .before .before .before .before .before .before .before .pre .1 .4) (c .before .before .before .before .before .if1 .left) (omega (arith, c .before .before .before .before .before .before .slice-known6 .given (c .before .before .before .before .before .before .before .before .before .before .before .before .args .y))) (c .before .before .before .before .if2 .left), c .before .before .before .before .before .before .before .before .before .before .before .before .pre .1 .2, c .before .before .before .before .before .if1 .left))
+decrease-requires c κs =
+    let opened : tie.Else2 = search in
+    let lower : tie.Else1 = search in
+    let old : tie.After-slice-known6 = search in
+    let start : tie.Start = search in
+    let small = old .slice-known6 .given (start .args .y) in
+    (start .pre .queue, (relax-inside (start .pre) (lower .if1 .left) (omega (arith, small)) (opened .if2 .left), start .pre .above, lower .if1 .left))
 
 same-length-6 : tie.Need-same-length-6
 same-length-6 c = search needs
@@ -64,7 +75,14 @@ same-length-10 : tie.Need-same-length-10
 same-length-10 c = search needs
 
 returns-3 : tie.Need-returns-3
-returns-3 c = relax-decreases (c .before .before .before .before .before .before .before .before .before .before .before .before .before .before .before .before .before .before .before .pre .0) (c .before .before .before .before .before .before .before .before .before .before .before .before .before .before .before .before .before .before .before .pre .1 .0) (c .before .before .before .before .before .before .before .before .before .before .before .before .before .before .before .before .before .before .before .pre .1 .1) (c .before .before .before .before .before .before .before .before .before .before .before .before .before .before .before .before .before .before .before .pre .1 .3) (c .before .before .before .before .before .before .before .before .before .before .before .before .if1 .left) (relax-inside (c .before .before .before .before .before .before .before .before .before .before .before .before .before .before .before .before .before .before .before .pre .0) (c .before .before .before .before .before .before .before .before .before .before .before .before .before .before .before .before .before .before .before .pre .1 .4) (c .before .before .before .before .before .before .before .before .before .before .before .before .if1 .left) (omega (arith, c .before .before .before .before .before .before .before .before .before .before .before .before .before .slice-known6 .given (c .before .before .before .before .before .before .before .before .before .before .before .before .before .before .before .before .before .before .before .args .y))) (c .before .before .before .before .before .before .before .before .before .before .before .if2 .left)) (c .before .before .before .before .before .before .decrease .ensures)
+returns-3 c =
+    let decreased : tie.After-decrease = search in
+    let opened : tie.Else2 = search in
+    let lower : tie.Else1 = search in
+    let old : tie.After-slice-known6 = search in
+    let start : tie.Start = search in
+    let small = old .slice-known6 .given (start .args .y) in
+    relax-decreases (start .pre) (lower .if1 .left) (relax-inside (start .pre) (lower .if1 .left) (omega (arith, small)) (opened .if2 .left)) (decreased .decrease .ensures)
 
 pub relax-spec : {M : Type 1} → statement M
 relax-spec =

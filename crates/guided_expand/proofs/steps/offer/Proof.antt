@@ -1,64 +1,80 @@
 -- `guided_expand::offer` meets its contract.
 use mathlib.Core.Path.{refl}
 use native.Mathlib.Omega.{arith}
-use Rattle.guided_expand.proofs.Stepping.{marked, node-small, step-small, stage-small, target-small, offers-none, offer-fits, offer-asks, offers-some}
+use Rattle.guided_expand.proofs.Stepping.{node-small, step-small, stage-small, target-small, leads-none, leads-fit, leads-ask, leads-some}
 use borrow.Author.Needs.{needs}
 use Rattle.guided_expand.proofs.steps.offer.Statement.{statement}
 use Rattle.guided_expand.proofs.steps.offer.Tie as tie
-use Rattle.guided_expand.proofs.steps.offer.Reads as reads
-use Rattle.guided_expand.proofs.steps.offer.Lts as lts
-use Rattle.guided_expand.proofs.estimate.pair_estimate.Reads as pair-estimate-reads
-use Rattle.guided_expand.proofs.relax.relax.Reads as relax-reads
-use Rattle.nodes.proofs.branch.Reads as branch-reads
-use Rattle.trace.proofs.pair_at.Reads as pair-at-reads
 
 cast-i : tie.Need-cast-i
 cast-i c = search needs
 
-branch-requires : tie.Need-branch-requires
-branch-requires c κs = (marked (c .before .before .before .before .before .before .pre .0), omega (arith, c .before .before .before .before .before .before .pre .1 .2 .below, node-small (c .before .before .before .before .before .before .pre .0)), omega (arith, step-small (c .before .before .before .before .before .before .pre .0) _ (c .before .before .before .before .before .before .pre .1 .0) (c .before .before .before .before .before .before .pre .1 .1)))
+mul-entered : tie.Need-mul-entered
+mul-entered c = search needs
 
-mul-stage : tie.Need-mul-stage
-mul-stage c = search needs
+index-1-entered : tie.Need-index-1-entered
+index-1-entered c = search needs
 
-element-copy-out-stage : tie.Need-element-copy-out-stage
-element-copy-out-stage c = step-small (c .before .before .before .before .before .before .before .pre .0) _ (c .before .before .before .before .before .before .before .pre .1 .0) (c .before .before .before .before .before .before .before .pre .1 .1)
+index-2-entered : tie.Need-index-2-entered
+index-2-entered c =
+    let start : tie.Start = search in
+    step-small (start .pre)
+
+cast-entered : tie.Need-cast-entered
+cast-entered c =
+    let start : tie.Start = search in
+    omega (arith, stage-small (start .pre))
 
 pair-estimate-requires : tie.Need-pair-estimate-requires
-pair-estimate-requires c κs = (stage-small (c .before .before .before .before .before .before .before .before .pre .0) _ (c .before .before .before .before .before .before .before .before .pre .1 .0) (c .before .before .before .before .before .before .before .before .pre .1 .1), target-small (c .before .before .before .before .before .before .before .before .pre .0) _ (c .before .before .before .before .before .before .before .before .pre .1 .0) (c .before .before .before .before .before .before .before .before .pre .1 .1) _ _ (c .before .before .before .before .before .before .before .before .pre .1 .2) (c .before .branch .ensures))
+pair-estimate-requires c κs =
+    let start : tie.Start = search in
+    (stage-small (start .pre), target-small (start .pre))
 
 returns : tie.Need-returns
-returns c = offers-none (c .before .before .before .before .before .before .before .before .before .before .pre .0) _ (c .before .before .before .before .before .before .before .before .before .before .pre .1 .0) (c .before .before .before .before .before .before .before .before .before .before .pre .1 .1) _ _ (c .before .before .before .before .before .before .before .before .before .before .pre .1 .2) (c .before .before .before .branch .ensures) _ (c .before .pair-estimate .ensures) (c .if1 .taken)
+returns c =
+    let rest : tie.After-pair-estimate = search in
+    λ x. leads-none x _ (rest .pair-estimate .ensures) (c .if1 .taken)
 
 pair-at-requires : tie.Need-pair-at-requires
-pair-at-requires c κs = stage-small (c .before .before .before .before .before .before .before .before .before .before .pre .0) _ (c .before .before .before .before .before .before .before .before .before .before .pre .1 .0) (c .before .before .before .before .before .before .before .before .before .before .pre .1 .1)
+pair-at-requires c κs =
+    let start : tie.Start = search in
+    stage-small (start .pre)
 
 mul-v : tie.Need-mul-v
 mul-v c = search needs
 
-element-copy-out-v : tie.Need-element-copy-out-v
-element-copy-out-v c = step-small (c .before .before .before .before .before .before .before .before .before .before .before .pre .0) _ (c .before .before .before .before .before .before .before .before .before .before .before .pre .1 .0) (c .before .before .before .before .before .before .before .before .before .before .before .pre .1 .1)
+index-1-v : tie.Need-index-1-v
+index-1-v c = search needs
+
+index-2-v : tie.Need-index-2-v
+index-2-v c =
+    let start : tie.Start = search in
+    step-small (start .pre)
 
 add-v : tie.Need-add-v
-add-v c = omega (arith, offer-fits (c .before .before .before .before .before .before .before .before .before .before .before .before .pre .0) _ (c .before .before .before .before .before .before .before .before .before .before .before .before .pre .1 .0) (c .before .before .before .before .before .before .before .before .before .before .before .before .pre .1 .1) _ _ (c .before .before .before .before .before .before .before .before .before .before .before .before .pre .1 .2) (c .before .before .before .before .before .branch .ensures) _ (c .before .before .before .pair-estimate .ensures) (c .before .before .if1 .left))
+add-v c =
+    let some : tie.Else1 = search in
+    let rest : tie.After-pair-estimate = search in
+    let start : tie.Start = search in
+    omega (arith, leads-fit (start .pre) _ (rest .pair-estimate .ensures) (some .if1 .left))
 
 add-v-2 : tie.Need-add-v-2
-add-v-2 c = omega (arith, offer-fits (c .before .before .before .before .before .before .before .before .before .before .before .before .pre .0) _ (c .before .before .before .before .before .before .before .before .before .before .before .before .pre .1 .0) (c .before .before .before .before .before .before .before .before .before .before .before .before .pre .1 .1) _ _ (c .before .before .before .before .before .before .before .before .before .before .before .before .pre .1 .2) (c .before .before .before .before .before .branch .ensures) _ (c .before .before .before .pair-estimate .ensures) (c .before .before .if1 .left))
+add-v-2 c =
+    let some : tie.Else1 = search in
+    let rest : tie.After-pair-estimate = search in
+    let start : tie.Start = search in
+    omega (arith, leads-fit (start .pre) _ (rest .pair-estimate .ensures) (some .if1 .left))
 
-cast-mark : tie.Need-cast-mark
-cast-mark c = search needs
-
-mul-mark : tie.Need-mul-mark
-mul-mark c = omega (arith, step-small (c .before .before .before .before .before .before .before .before .before .before .before .before .before .pre .0) _ (c .before .before .before .before .before .before .before .before .before .before .before .before .before .pre .1 .0) (c .before .before .before .before .before .before .before .before .before .before .before .before .before .pre .1 .1))
-
-cast-mark-2 : tie.Need-cast-mark-2
-cast-mark-2 c = search needs
-
-add-mark : tie.Need-add-mark
-add-mark c = omega (arith, step-small (c .before .before .before .before .before .before .before .before .before .before .before .before .before .before .pre .0) _ (c .before .before .before .before .before .before .before .before .before .before .before .before .before .before .pre .1 .0) (c .before .before .before .before .before .before .before .before .before .before .before .before .before .before .pre .1 .1), node-small (c .before .before .before .before .before .before .before .before .before .before .before .before .before .before .pre .0))
+packed-requires : tie.Need-packed-requires
+packed-requires c κs = search needs
 
 relax-requires : tie.Need-relax-requires
-relax-requires c κs = offer-asks (c .before .before .before .before .before .before .before .before .before .before .before .before .before .before .before .before .before .before .before .pre .0) _ (c .before .before .before .before .before .before .before .before .before .before .before .before .before .before .before .before .before .before .before .pre .1 .0) (c .before .before .before .before .before .before .before .before .before .before .before .before .before .before .before .before .before .before .before .pre .1 .1) _ _ (c .before .before .before .before .before .before .before .before .before .before .before .before .before .before .before .before .before .before .before .pre .1 .2) (c .before .before .before .before .before .before .before .before .before .before .before .before .branch .ensures) _ (c .before .before .before .before .before .before .before .before .before .before .pair-estimate .ensures) (c .before .before .before .before .before .before .before .before .before .if1 .left) _ _ (c .before .before .before .before .before .before .before .before .pair-at .ensures) refl
+relax-requires c κs =
+    let target : tie.After-pair-at = search in
+    let some : tie.Else1 = search in
+    let rest : tie.After-pair-estimate = search in
+    let start : tie.Start = search in
+    leads-ask (start .pre) _ (rest .pair-estimate .ensures) (some .if1 .left) _ _ (target .pair-at .ensures) refl
 
 same-length : tie.Need-same-length
 same-length c = search needs
@@ -76,27 +92,32 @@ same-length-5 : tie.Need-same-length-5
 same-length-5 c = search needs
 
 returns-2 : tie.Need-returns-2
-returns-2 c = offers-some (c .before .before .before .before .before .before .before .before .before .before .before .before .before .before .before .before .before .before .before .before .before .before .before .before .before .before .before .before .before .before .pre .0) _ (c .before .before .before .before .before .before .before .before .before .before .before .before .before .before .before .before .before .before .before .before .before .before .before .before .before .before .before .before .before .before .pre .1 .0) (c .before .before .before .before .before .before .before .before .before .before .before .before .before .before .before .before .before .before .before .before .before .before .before .before .before .before .before .before .before .before .pre .1 .1) _ _ (c .before .before .before .before .before .before .before .before .before .before .before .before .before .before .before .before .before .before .before .before .before .before .before .before .before .before .before .before .before .before .pre .1 .2) (c .before .before .before .before .before .before .before .before .before .before .before .before .before .before .before .before .before .before .before .before .before .before .before .branch .ensures) _ (c .before .before .before .before .before .before .before .before .before .before .before .before .before .before .before .before .before .before .before .before .before .pair-estimate .ensures) (c .before .before .before .before .before .before .before .before .before .before .before .before .before .before .before .before .before .before .before .before .if1 .left) _ _ (c .before .before .before .before .before .before .before .before .before .before .before .before .before .before .before .before .before .before .before .pair-at .ensures) refl refl (c .before .before .before .before .before .before .before .before .before .before .relax .ensures .0) (c .before .before .before .before .before .before .before .before .before .before .relax .ensures .1)
+returns-2 c =
+    let relaxed : tie.After-relax = search in
+    let marked : tie.After-packed = search in
+    let target : tie.After-pair-at = search in
+    let some : tie.Else1 = search in
+    let rest : tie.After-pair-estimate = search in
+    λ x. leads-some x _ (rest .pair-estimate .ensures) (some .if1 .left) _ _ (target .pair-at .ensures) refl (marked .packed .ensures) (relaxed .relax .ensures)
 
 pub offer-spec : {M : Type 1} → statement M
 offer-spec =
     tie.close
     (tie.spec
     cast-i
-    branch-requires
-    mul-stage
-    element-copy-out-stage
+    mul-entered
+    index-1-entered
+    index-2-entered
+    cast-entered
     pair-estimate-requires
     returns
     pair-at-requires
     mul-v
-    element-copy-out-v
+    index-1-v
+    index-2-v
     add-v
     add-v-2
-    cast-mark
-    mul-mark
-    cast-mark-2
-    add-mark
+    packed-requires
     relax-requires
     same-length
     same-length-2

@@ -1,77 +1,195 @@
--- `guided_expand::settle` meets its contract.
+-- `guided_expand::settle` meets its contract: the steps before e have been offered.
 use mathlib.Core.Path.{_≡_, refl}
 use Prim.Native.Nat.{_-_, _≤_}
-use lib.ListN.{length}
 use native.Mathlib.Omega.{arith}
+use lib.ListN.{length}
+use Rattle.checks.specs.Tables.{read}
+use Rattle.checks.specs.Ready.{walk}
+use Rattle.guided_expand.specs.Estimates.{estimates}
+use Rattle.guided_expand.specs.Work.{work}
+use Rattle.guided_expand.specs.Opening.{Opening}
+use Rattle.guided_expand.proofs.Walking.{Walking, settles-stage, settles-order, walk-start, walk-falls, walk-step, walk-branches, walk-dead, walk-leading, walk-more, walk-done}
 use borrow.Author.Needs.{needs}
-use Rattle.guided_expand.proofs.Stepping.{step-small}
-use Rattle.guided_expand.proofs.Walking.{Walking, walk-start, walk-falls, walk-lowers, walk-dead, walk-more, walk-done}
 use Rattle.guided_expand.proofs.steps.settle.Statement.{statement}
 use Rattle.guided_expand.proofs.steps.settle.Tie as tie
-use Rattle.guided_expand.proofs.steps.settle.Reads as reads
-use Rattle.guided_expand.proofs.steps.settle.Lts as lts
-use Rattle.guided_expand.proofs.steps.offer.Reads as offer-reads
-use Rattle.nodes.proofs.descend_to.Reads as descend-to-reads
 
 abbrev Inv-loop : tie.InvT-loop
-Inv-loop keys₀ via₀ heap₀ pos₀ stack₀ p from to cost row step lo hi by-stage by-node z s n base first until left₀ m₀ e₀ keys via heap pos stack left m e = (length keys ≡ length keys₀) × (length via ≡ length via₀) × (length heap ≡ length heap₀) × (length pos ≡ length pos₀) × (length stack ≡ length stack₀) × (first ≤ e) × (e ≤ until) × Walking z from to cost row step lo hi by-stage by-node (s .0) (n .0) base p first keys₀ via₀ heap₀ pos₀ stack₀ left₀ keys via heap pos stack left m e
+Inv-loop keys₀ via₀ heap₀ pos₀ stack₀ p steps first row inner by-stage by-node base s n until left₀ m₀ e₀ keys via heap pos stack left m e =
+    ((x : Opening (walk (read steps inner) first row) (estimates by-stage by-node) s (n .0) base p (work keys₀ via₀ heap₀ pos₀ stack₀) left₀)
+    → Walking (x .by) s (n .0) base p (work keys₀ via₀ heap₀ pos₀ stack₀) left₀ (work keys via heap pos stack) left (m .0) e)
+    × (e ≤ until)
+    × (length keys ≡ length keys₀)
+    × (length via ≡ length via₀)
+    × (length heap ≡ length heap₀)
+    × (length pos ≡ length pos₀)
+    × (length stack ≡ length stack₀)
 
 abbrev μ-loop : tie.MeasureT-loop
-μ-loop keys₀ via₀ heap₀ pos₀ stack₀ p from to cost row step lo hi by-stage by-node z s n base first until left₀ m₀ e₀ keys via heap pos stack left m e = until - e
+μ-loop keys₀ via₀ heap₀ pos₀ stack₀ p steps first row inner by-stage by-node base s n until left₀ m₀ e₀ keys via heap pos stack left m e = until - e
+
+-- the place before a place
+abbrev start-of : tie.At-loop Inv-loop μ-loop → tie.Start Inv-loop μ-loop
+start-of c = search
+
+cast-s : tie.Need-cast-s Inv-loop μ-loop
+cast-s c = search needs
+
+add-until : tie.Need-add-until Inv-loop μ-loop
+add-until c =
+    let start : tie.Start Inv-loop μ-loop = search in
+    omega (arith, settles-stage (start .pre))
+
+mul-until : tie.Need-mul-until Inv-loop μ-loop
+mul-until c =
+    let start : tie.Start Inv-loop μ-loop = search in
+    omega (arith, settles-stage (start .pre))
+
+element-copy-out-until : tie.Need-element-copy-out-until Inv-loop μ-loop
+element-copy-out-until c =
+    let start : tie.Start Inv-loop μ-loop = search in
+    omega (arith, settles-stage (start .pre))
+
+mul-e : tie.Need-mul-e Inv-loop μ-loop
+mul-e c =
+    let start : tie.Start Inv-loop μ-loop = search in
+    omega (arith, settles-stage (start .pre))
+
+element-copy-out-e : tie.Need-element-copy-out-e Inv-loop μ-loop
+element-copy-out-e c =
+    let start : tie.Start Inv-loop μ-loop = search in
+    omega (arith, settles-stage (start .pre))
 
 loop-holds : tie.Need-loop-holds Inv-loop μ-loop
-loop-holds c = (refl, refl, refl, refl, refl, omega arith, c .before .before .before .before .before .pre .1 .0, walk-start (c .before .before .before .before .before .pre .0))
+loop-holds c =
+    let start : tie.Start Inv-loop μ-loop = search in
+    (walk-start, settles-order (start .pre), refl, refl, refl, refl, refl)
+
+index-1-descend-to : tie.Need-index-1-descend-to Inv-loop μ-loop
+index-1-descend-to c = search needs
+
+index-1-descend-to-2 : tie.Need-index-1-descend-to-2 Inv-loop μ-loop
+index-1-descend-to-2 c = search needs
 
 descend-to-requires : tie.Need-descend-to-requires Inv-loop μ-loop
-descend-to-requires c κs = walk-falls (c .before .loop .inv .7)
+descend-to-requires c κs =
+    let head : tie.At-loop Inv-loop μ-loop = search in
+    let start : tie.Start Inv-loop μ-loop = search in
+    walk-falls (head .loop .inv .0 (start .pre))
 
 same-length : tie.Need-same-length Inv-loop μ-loop
-same-length c = c .before .before .before .loop .inv .0
+same-length c =
+    let head : tie.At-loop Inv-loop μ-loop = search in
+    head .loop .inv .2
 
 same-length-2 : tie.Need-same-length-2 Inv-loop μ-loop
-same-length-2 c = c .before .before .before .loop .inv .1
+same-length-2 c =
+    let head : tie.At-loop Inv-loop μ-loop = search in
+    head .loop .inv .3
 
 same-length-3 : tie.Need-same-length-3 Inv-loop μ-loop
-same-length-3 c = c .before .before .before .loop .inv .2
+same-length-3 c =
+    let head : tie.At-loop Inv-loop μ-loop = search in
+    head .loop .inv .4
 
 same-length-4 : tie.Need-same-length-4 Inv-loop μ-loop
-same-length-4 c = c .before .before .before .loop .inv .3
+same-length-4 c =
+    let head : tie.At-loop Inv-loop μ-loop = search in
+    head .loop .inv .5
 
 same-length-5 : tie.Need-same-length-5 Inv-loop μ-loop
-same-length-5 c = c .before .before .before .loop .inv .4
+same-length-5 c =
+    let head : tie.At-loop Inv-loop μ-loop = search in
+    head .loop .inv .6
 
 returns : tie.Need-returns Inv-loop μ-loop
-returns c = walk-dead (c .before .before .before .loop .inv .7) (c .before .descend-to .ensures) _ (c .if1 .taken)
+returns c =
+    let low : tie.After-descend-to Inv-loop μ-loop = search in
+    let turn : tie.In-loop Inv-loop μ-loop = search in
+    let head : tie.At-loop Inv-loop μ-loop = search in
+    λ x. walk-dead (head .loop .inv .0 x) (turn .loop-test .taken) (low .descend-to .ensures) (c .if1 .taken)
+
+index-1-branch : tie.Need-index-1-branch Inv-loop μ-loop
+index-1-branch c = search needs
+
+index-1-branch-2 : tie.Need-index-1-branch-2 Inv-loop μ-loop
+index-1-branch-2 c = search needs
+
+branch-requires : tie.Need-branch-requires Inv-loop μ-loop
+branch-requires c κs =
+    let low : tie.After-descend-to Inv-loop μ-loop = search in
+    let turn : tie.In-loop Inv-loop μ-loop = search in
+    let head : tie.At-loop Inv-loop μ-loop = search in
+    let start : tie.Start Inv-loop μ-loop = search in
+    walk-branches (head .loop .inv .0 (start .pre)) (turn .loop-test .taken) (low .descend-to .ensures)
 
 offer-requires : tie.Need-offer-requires Inv-loop μ-loop
-offer-requires c κs = ((c .before .before .before .before .before .before .before .before .loop .inv .7) .opening, (c .before .before .before .before .before .before .before .before .before .before .before .before .before .before .pre .1 .1 (c .before .before .before .before .before .before .before .before .loop .e) (c .before .before .before .before .before .before .before .before .loop .inv .5) (c .before .before .before .before .before .before .before .loop-test .taken) .0, c .before .before .before .before .before .before .before .before .before .before .before .before .before .before .pre .1 .1 (c .before .before .before .before .before .before .before .before .loop .e) (c .before .before .before .before .before .before .before .before .loop .inv .5) (c .before .before .before .before .before .before .before .loop-test .taken) .1, walk-lowers (c .before .before .before .before .before .before .before .before .loop .inv .7) (c .before .before .before .before .before .before .descend-to .ensures)))
+offer-requires c κs =
+    let led : tie.After-branch Inv-loop μ-loop = search in
+    let low : tie.After-descend-to Inv-loop μ-loop = search in
+    let turn : tie.In-loop Inv-loop μ-loop = search in
+    let head : tie.At-loop Inv-loop μ-loop = search in
+    let start = start-of head in
+    walk-leading (head .loop .inv .0 (start .pre)) (turn .loop-test .taken) (low .descend-to .ensures) (led .branch .ensures)
 
 add-e : tie.Need-add-e Inv-loop μ-loop
-add-e c = omega (arith, step-small ((c .before .before .before .before .before .before .before .before .before .before .before .before .before .before .before .before .before .before .before .loop .inv .7) .opening) (c .before .before .before .before .before .before .before .before .before .before .before .before .before .before .before .before .before .before .before .loop .e) (c .before .before .before .before .before .before .before .before .before .before .before .before .before .before .before .before .before .before .before .before .before .before .before .before .before .pre .1 .1 (c .before .before .before .before .before .before .before .before .before .before .before .before .before .before .before .before .before .before .before .loop .e) (c .before .before .before .before .before .before .before .before .before .before .before .before .before .before .before .before .before .before .before .loop .inv .5) (c .before .before .before .before .before .before .before .before .before .before .before .before .before .before .before .before .before .before .loop-test .taken) .0) (c .before .before .before .before .before .before .before .before .before .before .before .before .before .before .before .before .before .before .before .before .before .before .before .before .before .pre .1 .1 (c .before .before .before .before .before .before .before .before .before .before .before .before .before .before .before .before .before .before .before .loop .e) (c .before .before .before .before .before .before .before .before .before .before .before .before .before .before .before .before .before .before .before .loop .inv .5) (c .before .before .before .before .before .before .before .before .before .before .before .before .before .before .before .before .before .before .loop-test .taken) .1))
+add-e c =
+    let turn : tie.In-loop Inv-loop μ-loop = search in
+    let head : tie.At-loop Inv-loop μ-loop = search in
+    let start : tie.Start Inv-loop μ-loop = search in
+    omega (arith, walk-step (head .loop .inv .0 (start .pre)) (turn .loop-test .taken))
 
 loop-less : tie.Need-loop-less Inv-loop μ-loop
 loop-less c = search needs
 
 loop-again : tie.Need-loop-again Inv-loop μ-loop
-loop-again c = (omega (arith, c .before .before .before .before .before .before .before .before .before .before .before .before .before .before .before .before .before .before .before .loop .inv .0, c .before .before .before .before .before .before .before .before .before .before .offer .kept .0), omega (arith, c .before .before .before .before .before .before .before .before .before .before .before .before .before .before .before .before .before .before .before .loop .inv .1, c .before .before .before .before .before .before .before .before .before .before .offer .kept .1 .0), omega (arith, c .before .before .before .before .before .before .before .before .before .before .before .before .before .before .before .before .before .before .before .loop .inv .2, c .before .before .before .before .before .before .before .before .before .before .offer .kept .1 .1 .0), omega (arith, c .before .before .before .before .before .before .before .before .before .before .before .before .before .before .before .before .before .before .before .loop .inv .3, c .before .before .before .before .before .before .before .before .before .before .offer .kept .1 .1 .1 .0), omega (arith, c .before .before .before .before .before .before .before .before .before .before .before .before .before .before .before .before .before .before .before .loop .inv .4, c .before .before .before .before .before .before .before .before .before .before .offer .kept .1 .1 .1 .1 .0), omega (arith, c .before .before .before .before .before .before .before .before .before .before .before .before .before .before .before .before .before .before .before .loop .inv .5), omega (arith, c .before .before .before .before .before .before .before .before .before .before .before .before .before .before .before .before .before .before .loop-test .taken), walk-more (c .before .before .before .before .before .before .before .before .before .before .before .before .before .before .before .before .before .before .before .loop .inv .7) (c .before .before .before .before .before .before .before .before .before .before .before .before .before .before .before .before .before .descend-to .ensures) (c .before .before .before .before .before .before .before .before .before .before .offer .kept .1 .0) (c .before .before .before .before .before .before .before .before .before .before .offer .ensures))
+loop-again c =
+    let done : tie.After-offer Inv-loop μ-loop = search in
+    let led : tie.After-branch Inv-loop μ-loop = search in
+    let low : tie.After-descend-to Inv-loop μ-loop = search in
+    let turn : tie.In-loop Inv-loop μ-loop = search in
+    let head : tie.At-loop Inv-loop μ-loop = search in
+    let w = head .loop .inv .0 in
+    let kept = done .offer .kept in (
+      (λ x.
+          let led-to = walk-leading (w x) (turn .loop-test .taken) (low .descend-to .ensures) (led .branch .ensures) in
+          walk-more (w x) (turn .loop-test .taken) (low .descend-to .ensures) (led .branch .ensures) (kept .1 .0) (done .offer .ensures led-to)),
+      omega (arith, turn .loop-test .taken),
+      omega (arith, head .loop .inv .2, kept .0),
+      omega (arith, head .loop .inv .3, kept .1 .0),
+      omega (arith, head .loop .inv .4, kept .1 .1 .0),
+      omega (arith, head .loop .inv .5, kept .1 .1 .1 .0),
+      omega (arith, head .loop .inv .6, kept .1 .1 .1 .1 .0),
+    )
 
 same-length-6 : tie.Need-same-length-6 Inv-loop μ-loop
-same-length-6 c = c .before .loop .inv .0
+same-length-6 c =
+    let head : tie.At-loop Inv-loop μ-loop = search in
+    head .loop .inv .2
 
 same-length-7 : tie.Need-same-length-7 Inv-loop μ-loop
-same-length-7 c = c .before .loop .inv .1
+same-length-7 c =
+    let head : tie.At-loop Inv-loop μ-loop = search in
+    head .loop .inv .3
 
 same-length-8 : tie.Need-same-length-8 Inv-loop μ-loop
-same-length-8 c = c .before .loop .inv .2
+same-length-8 c =
+    let head : tie.At-loop Inv-loop μ-loop = search in
+    head .loop .inv .4
 
 same-length-9 : tie.Need-same-length-9 Inv-loop μ-loop
-same-length-9 c = c .before .loop .inv .3
+same-length-9 c =
+    let head : tie.At-loop Inv-loop μ-loop = search in
+    head .loop .inv .5
 
 same-length-10 : tie.Need-same-length-10 Inv-loop μ-loop
-same-length-10 c = c .before .loop .inv .4
+same-length-10 c =
+    let head : tie.At-loop Inv-loop μ-loop = search in
+    head .loop .inv .6
 
 returns-2 : tie.Need-returns-2 Inv-loop μ-loop
-returns-2 c = walk-done (c .before .loop .inv .7) _ (omega (arith, c .before .loop .inv .6, c .loop-test .left))
+returns-2 c =
+    let head : tie.At-loop Inv-loop μ-loop = search in
+    λ x. walk-done (head .loop .inv .0 x) (omega (arith, head .loop .inv .1, c .loop-test .left))
 
 pub settle-spec : {M : Type 1} → statement M
 settle-spec =
@@ -79,7 +197,15 @@ settle-spec =
     (tie.spec
     Inv-loop
     μ-loop
+    cast-s
+    add-until
+    mul-until
+    element-copy-out-until
+    mul-e
+    element-copy-out-e
     loop-holds
+    index-1-descend-to
+    index-1-descend-to-2
     descend-to-requires
     same-length
     same-length-2
@@ -87,6 +213,9 @@ settle-spec =
     same-length-4
     same-length-5
     returns
+    index-1-branch
+    index-1-branch-2
+    branch-requires
     offer-requires
     add-e
     loop-less

@@ -3,8 +3,6 @@ use Rattle.guided_loop.proofs.Placing.{goal-there, goal-elsewhere}
 use borrow.Author.Needs.{needs}
 use Rattle.guided_loop.proofs.places.is_goal.Statement.{statement}
 use Rattle.guided_loop.proofs.places.is_goal.Tie as tie
-use Rattle.guided_loop.proofs.places.is_goal.Reads as reads
-use Rattle.guided_loop.proofs.places.is_goal.Lts as lts
 
 cast-result : tie.Need-cast-result
 cast-result c = search needs
@@ -13,7 +11,9 @@ element-copy-out-result : tie.Need-element-copy-out-result
 element-copy-out-result c = search needs
 
 returns : tie.Need-returns
-returns c = goal-there _ _ _ (c .before .before .if1 .taken)
+returns c =
+    let there : tie.Then1 = search in
+    goal-there _ _ _ (there .if1 .taken)
 
 returns-2 : tie.Need-returns-2
 returns-2 c = goal-elsewhere _ _ _ (c .if1 .left)

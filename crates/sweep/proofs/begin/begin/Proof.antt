@@ -1,14 +1,12 @@
--- `sweep::begin` meets its contract.
-use Prim.Native.Nat.{_-_}
-use Rattle.sweep.proofs.Leaves.{begun-none, begun-one}
+-- `sweep::begin` meets its contract: a root that is 0 changes nothing.
 use borrow.Author.Needs.{needs}
+use Rattle.sweep_model.specs.Model.{rows}
+use Rattle.sweep.proofs.Leaves.{begun-none, begun-one}
 use Rattle.sweep.proofs.begin.begin.Statement.{statement}
 use Rattle.sweep.proofs.begin.begin.Tie as tie
-use Rattle.sweep.proofs.begin.begin.Reads as reads
-use Rattle.sweep.proofs.begin.begin.Lts as lts
 
 returns : tie.Need-returns
-returns c = begun-none _ _ _ _ _ _ (c .if1 .taken)
+returns c = λ via. begun-none _ _ _ _ (c .if1 .taken)
 
 cast-costs : tie.Need-cast-costs
 cast-costs c = search needs
@@ -31,6 +29,9 @@ mul-nodes c = search needs
 slice-write-nodes : tie.Need-slice-write-nodes
 slice-write-nodes c = search needs
 
+cast-counts : tie.Need-cast-counts
+cast-counts c = search needs
+
 mul-counts : tie.Need-mul-counts
 mul-counts c = search needs
 
@@ -45,8 +46,9 @@ same-length-2 c = search needs
 
 returns-2 : tie.Need-returns-2
 returns-2 c =
-    let got-not1 : tie.Else1 = search in
-    begun-one _ _ _ _ _ _ (got-not1 .if1 .left)
+    let some : tie.Else1 = search in
+    let start : tie.Start = search in
+    λ via. begun-one _ _ _ (rows (start .args .costs .now) via (start .args .nodes .now) (start .args .counts .now)) (some .if1 .left)
 
 pub begin-spec : {M : Type 1} → statement M
 begin-spec =
@@ -60,6 +62,7 @@ begin-spec =
     cast-nodes
     mul-nodes
     slice-write-nodes
+    cast-counts
     mul-counts
     element-write-counts
     same-length

@@ -1,13 +1,9 @@
 -- `sweep::better` meets its contract.
-use Prim.Native.Nat.{_-_}
 use mathlib.Core.Path.{refl}
 use borrow.Author.Needs.{needs}
 use Rattle.sweep.proofs.Leaves.{better-taken, better-no}
-use borrow.Author.Needs.{needs}
 use Rattle.sweep.proofs.goals.better.Statement.{statement}
 use Rattle.sweep.proofs.goals.better.Tie as tie
-use Rattle.sweep.proofs.goals.better.Reads as reads
-use Rattle.sweep.proofs.goals.better.Lts as lts
 
 returns : tie.Need-returns
 returns c = search needs

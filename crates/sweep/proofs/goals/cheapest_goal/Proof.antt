@@ -7,10 +7,6 @@ use Rattle.sweep.specs.Goals.{Chosen}
 use Rattle.sweep.proofs.Leaves.{chosen-none, chosen-more, chosen-all}
 use Rattle.sweep.proofs.goals.cheapest_goal.Statement.{statement}
 use Rattle.sweep.proofs.goals.cheapest_goal.Tie as tie
-use Rattle.sweep.proofs.goals.cheapest_goal.Reads as reads
-use Rattle.sweep.proofs.goals.cheapest_goal.Lts as lts
-use Rattle.convert.proofs.wide.Reads as wide-reads
-use Rattle.sweep.proofs.goals.better.Reads as better-reads
 
 abbrev Inv-loop : tie.InvT-loop
 Inv-loop costs nodes yes' base count best₀ k₀ best k = (k ≤ count) × Chosen base k costs nodes yes' best

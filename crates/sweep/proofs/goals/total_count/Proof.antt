@@ -8,9 +8,6 @@ use Rattle.sweep_rows.specs.Standing.{at}
 use Rattle.sweep.proofs.Leaves.{total-none, total-more}
 use Rattle.sweep.proofs.goals.total_count.Statement.{statement}
 use Rattle.sweep.proofs.goals.total_count.Tie as tie
-use Rattle.sweep.proofs.goals.total_count.Reads as reads
-use Rattle.sweep.proofs.goals.total_count.Lts as lts
-use Rattle.convert.proofs.wide.Reads as wide-reads
 
 abbrev Inv-loop : tie.InvT-loop
 Inv-loop counts stages sum₀ s₀ sum s = (s ≤ stages) × (sum ≡ total (at counts) s) × (sum ≤ s * 4294967296)

@@ -1,7 +1,7 @@
--- `sweep::run` meets its contract.
+-- `sweep::run` meets its contract: the finished tables give the promise.
 use native.Mathlib.Omega.{arith}
-use Rattle.sweep.proofs.Whole.{blank, run-sorted, run-narrow, run-ready, run-final, run-runs}
 use borrow.Author.Needs.{needs}
+use Rattle.sweep.proofs.Whole.{run-sorted, run-narrow, run-ready, run-blank, run-final, run-promised}
 use Rattle.sweep.proofs.run.run.Statement.{statement}
 use Rattle.sweep.proofs.run.run.Tie as tie
 
@@ -12,10 +12,10 @@ start-of c = search
 abbrev first-of : tie.After-row-starts → tie.After-first-steps
 first-of c = search
 
-abbrev row-of : tie.After-sweep-rows → tie.After-row-starts
+abbrev row-of : tie.After-least-costs → tie.After-row-starts
 row-of c = search
 
-abbrev done-of : tie.After-conclude → tie.After-sweep-rows
+abbrev done-of : tie.After-conclude → tie.After-least-costs
 done-of c = search
 
 index-1-first-steps : tie.Need-index-1-first-steps
@@ -39,20 +39,22 @@ row-starts-requires c κs =
     let start : tie.Start = search in
     run-narrow (start .pre .0)
 
-sweep-rows-requires : tie.Need-sweep-rows-requires
-sweep-rows-requires c κs =
+least-costs-requires : tie.Need-least-costs-requires
+least-costs-requires c κs =
     let row : tie.After-row-starts = search in
     let first : tie.After-first-steps = search in
     let start : tie.Start = search in
-    (run-ready (start .pre .0) (first .first-steps .ensures) (row .row-starts .ensures), (start .pre .1 .0, blank))
+    let firsts = first .first-steps .ensures in
+    let starts = row .row-starts .ensures in
+    (run-ready (start .pre .0) firsts starts, run-blank (start .pre .0) firsts starts (start .pre .1))
 
 conclude-requires : tie.Need-conclude-requires
 conclude-requires c κs =
-    let done : tie.After-sweep-rows = search in
+    let done : tie.After-least-costs = search in
     let row : tie.After-row-starts = search in
     let first : tie.After-first-steps = search in
     let start : tie.Start = search in
-    (run-final (start .pre .0) (first .first-steps .ensures) (row .row-starts .ensures) (start .pre .1 .0) blank (done .sweep-rows .ensures), start .pre .1 .1)
+    (run-final (start .pre .0) (first .first-steps .ensures) (row .row-starts .ensures) (start .pre .1) (done .least-costs .ensures), start .pre .1 .plan-fits)
 
 same-length : tie.Need-same-length
 same-length c = search needs
@@ -73,7 +75,7 @@ returns c =
     let row = row-of done in
     let first = first-of row in
     let start = start-of first in
-    run-runs (start .pre .0) (first .first-steps .ensures) (row .row-starts .ensures) (start .pre .1 .0) blank (done .sweep-rows .ensures) (ended .conclude .ensures)
+    run-promised (start .pre .0) (first .first-steps .ensures) (row .row-starts .ensures) (start .pre .1) (done .least-costs .ensures) (ended .conclude .ensures)
 
 pub run-spec : {M : Type 1} → statement M
 run-spec =
@@ -84,7 +86,7 @@ run-spec =
     cast-row-starts
     add-row-starts
     row-starts-requires
-    sweep-rows-requires
+    least-costs-requires
     conclude-requires
     same-length
     same-length-2

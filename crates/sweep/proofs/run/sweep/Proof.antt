@@ -1,10 +1,10 @@
--- `sweep::sweep` meets its contract.
+-- `sweep::sweep` meets its contract, by the outcome of the checks.
 use Prim.Native.Nat.{ℕ, min}
-use mathlib.Core.Path.{refl, _∙_, ap}
+use mathlib.Core.Path.{_∙_, ap}
 use lib.ListN.{length}
-use Rattle.sweep.specs.Runs.{work}
-use Rattle.sweep.proofs.Whole.{whole-refused, whole-tables, whole-space, whole-runs}
 use borrow.Author.Needs.{needs}
+use Rattle.definitions.specs.Promises.{sweepSlices}
+use Rattle.sweep.proofs.Whole.{call-refused, call-tables, call-space, call-ready}
 use Rattle.sweep.proofs.run.sweep.Statement.{statement}
 use Rattle.sweep.proofs.run.sweep.Tie as tie
 
@@ -21,16 +21,20 @@ lesser-requires-2 c κs = search needs
 load-requires : tie.Need-load-requires
 load-requires c κs = search needs
 
+refusal-requires : tie.Need-refusal-requires
+refusal-requires c κs = search needs
+
 returns : tie.Need-returns
 returns c =
+    let refuses : tie.After-refusal = search in
+    let faulty : tie.Then1 = search in
     let got : tie.After-load = search in
     let two : tie.After-lesser2 = search in
     let one : tie.After-lesser = search in
     let start = start-of one in
-    let works = work (start .args .cost .now) (start .args .via .now) (start .args .nodes .now) in
+    let lent = sweepSlices (start .args .cost .now) (start .args .via .now) (start .args .nodes .now) (start .args .plan .now) in
     let shortest = two .lesser2 .ensures ∙ ap (λ (k : ℕ). min k (length (start .args .nodes .now))) (one .lesser .ensures) in
-    let kept = whole-refused (start .args .chart .now) (start .args .rules .now) works (start .args .plan .now) shortest _ _ (got .load .ensures) (c .if1 .taken) refl in
-    (kept .answers, kept .via-scratch, kept .nodes-scratch)
+    call-refused (start .args .chart .now) (start .args .rules .now) lent shortest _ _ (got .load .ensures) (faulty .if1 .taken) (refuses .refusal .ensures)
 
 run-requires : tie.Need-run-requires
 run-requires c κs =
@@ -39,9 +43,10 @@ run-requires c κs =
     let two : tie.After-lesser2 = search in
     let one : tie.After-lesser = search in
     let start = start-of one in
-    let works = work (start .args .cost .now) (start .args .via .now) (start .args .nodes .now) in
+    let lent = sweepSlices (start .args .cost .now) (start .args .via .now) (start .args .nodes .now) (start .args .plan .now) in
     let shortest = two .lesser2 .ensures ∙ ap (λ (k : ℕ). min k (length (start .args .nodes .now))) (one .lesser .ensures) in
-    (whole-tables (start .args .chart .now) (start .args .rules .now) works (start .args .plan .now) shortest _ _ (got .load .ensures) (passed .if1 .left), whole-space (start .args .chart .now) (start .args .rules .now) works (start .args .plan .now) shortest _ _ (got .load .ensures) (passed .if1 .left))
+    let tables = call-tables (start .args .chart .now) (start .args .rules .now) lent shortest _ _ (got .load .ensures) (passed .if1 .left) in
+    (tables, call-space (start .args .chart .now) (start .args .rules .now) lent shortest _ _ (got .load .ensures) (passed .if1 .left))
 
 same-length : tie.Need-same-length
 same-length c = search needs
@@ -63,10 +68,9 @@ returns-2 c =
     let two : tie.After-lesser2 = search in
     let one : tie.After-lesser = search in
     let start = start-of one in
-    let works = work (start .args .cost .now) (start .args .via .now) (start .args .nodes .now) in
+    let lent = sweepSlices (start .args .cost .now) (start .args .via .now) (start .args .nodes .now) (start .args .plan .now) in
     let shortest = two .lesser2 .ensures ∙ ap (λ (k : ℕ). min k (length (start .args .nodes .now))) (one .lesser .ensures) in
-    let kept = whole-runs (start .args .chart .now) (start .args .rules .now) works (start .args .plan .now) shortest _ _ (got .load .ensures) (passed .if1 .left) (done .run .ensures) in
-    (kept .answers, kept .via-scratch, kept .nodes-scratch)
+    call-ready (start .args .chart .now) (start .args .rules .now) lent shortest _ _ (got .load .ensures) (passed .if1 .left) (done .run .ensures)
 
 pub sweep-spec : {M : Type 1} → statement M
 sweep-spec =
@@ -75,6 +79,7 @@ sweep-spec =
     lesser-requires
     lesser-requires-2
     load-requires
+    refusal-requires
     returns
     run-requires
     same-length

@@ -1,4 +1,4 @@
--- `vectors::script::run` is safe and ends: both buffers keep their lengths, and it has at most a turn for each byte.
+-- `vectors::script::run` is safe and ends: the buffer keeps its length, and it has at most a turn for each byte.
 -- Assumes nothing.
 use borrow.Author.Needs.{needs}
 use mathlib.Core.Path.{_≡_}
@@ -8,10 +8,10 @@ use Rattle.vectors.proofs.script.run.Statement.{statement}
 use Rattle.vectors.proofs.script.run.Tie as tie
 
 abbrev Inv-loop : tie.InvT-loop
-Inv-loop s file₀ kept₀ z₀ counter₀ end file kept z counter = (counter ≤ end) × (length file ≡ length file₀) × (length kept ≡ length kept₀)
+Inv-loop s buf₀ z₀ counter₀ end buf z counter = (counter ≤ end) × (length buf ≡ length buf₀)
 
 abbrev μ-loop : tie.MeasureT-loop
-μ-loop s file₀ kept₀ z₀ counter₀ end file kept z counter = end - counter
+μ-loop s buf₀ z₀ counter₀ end buf z counter = end - counter
 
 loop-holds : tie.Need-loop-holds Inv-loop μ-loop
 loop-holds c = search needs
@@ -31,9 +31,6 @@ loop-again c = search needs
 same-length : tie.Need-same-length Inv-loop μ-loop
 same-length c = search needs
 
-same-length-2 : tie.Need-same-length-2 Inv-loop μ-loop
-same-length-2 c = search needs
-
 returns : tie.Need-returns Inv-loop μ-loop
 returns c = search needs
 
@@ -49,5 +46,4 @@ run-spec =
     loop-less
     loop-again
     same-length
-    same-length-2
     returns)

@@ -8,16 +8,22 @@ use Rattle.vectors.proofs.write.copy.Statement.{statement}
 use Rattle.vectors.proofs.write.copy.Tie as tie
 
 abbrev Inv-loop : tie.InvT-loop
-Inv-loop from to₀ i₀ i-end to i = (i ≤ length from) × (i-end ≡ length from) × (length to ≡ length to₀)
+Inv-loop buf₀ from to i₀ buf i = (i ≤ 12288) × (length buf ≡ length buf₀)
 
 abbrev μ-loop : tie.MeasureT-loop
-μ-loop from to₀ i₀ i-end to i = length from - i
+μ-loop buf₀ from to i₀ buf i = 12288 - i
 
 loop-holds : tie.Need-loop-holds Inv-loop μ-loop
 loop-holds c = search needs
 
-shared-slice-read-put : tie.Need-shared-slice-read-put Inv-loop μ-loop
-shared-slice-read-put c = search needs
+wrapping-add-usize-requires : tie.Need-wrapping-add-usize-requires Inv-loop μ-loop
+wrapping-add-usize-requires c κs = search needs
+
+byte-requires : tie.Need-byte-requires Inv-loop μ-loop
+byte-requires c κs = search needs
+
+wrapping-add-usize-requires-2 : tie.Need-wrapping-add-usize-requires-2 Inv-loop μ-loop
+wrapping-add-usize-requires-2 c κs = search needs
 
 put-requires : tie.Need-put-requires Inv-loop μ-loop
 put-requires c κs = search needs
@@ -44,7 +50,9 @@ copy-spec =
     Inv-loop
     μ-loop
     loop-holds
-    shared-slice-read-put
+    wrapping-add-usize-requires
+    byte-requires
+    wrapping-add-usize-requires-2
     put-requires
     add-i
     loop-less

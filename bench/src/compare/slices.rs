@@ -1,0 +1,91 @@
+//! The slices lent in a case: their lengths and what they hold before.
+
+use crate::files::Problem;
+use crate::generate::Random;
+use crate::lent::Lent;
+use crate::planner::{GuidedSlices, SweepSlices};
+use crate::reference::Judged;
+
+const SWEEP_WORK: usize = 3;
+const GUIDED_WORK: usize = 6;
+const WORK: usize = SWEEP_WORK + GUIDED_WORK;
+
+/// Entries of the work slices, the sweep's first, and of both plan slices.
+struct Lengths {
+    work: [usize; WORK],
+    plans: [usize; 2],
+}
+
+/// The slices of both searches; `enough`: none of them too short.
+pub fn drawn(judged: &Judged, enough: bool, random: &mut Random) -> (SweepSlices, GuidedSlices) {
+    let Lengths { work, plans } = match judged {
+        Ok(facts) => lengths(&facts.problem, enough, random),
+        Err(_) => any_lengths(random),
+    };
+    let [cost, sweep_via, nodes, keys, via, heap, pos, stack, log] =
+        work.map(|length| dirty(random, length));
+    let [sweep_plan, plan] = plans.map(|length| dirty_plan(random, length));
+    let sweep = SweepSlices { cost, via: sweep_via, nodes, plan: sweep_plan };
+    (sweep, GuidedSlices { keys, via, heap, pos, stack, log, plan })
+}
+
+/// In one of four cases each slice has just what it needs; else no two have the same length. Where
+/// not `enough`, at times a search is lent too little.
+fn lengths(problem: &Problem, enough: bool, random: &mut Random) -> Lengths {
+    let (pairs, steps) = (problem.pairs(), problem.longest_plan());
+    let mut lengths = Lengths { work: [pairs; WORK], plans: [steps; 2] };
+    if !random.percent(25) {
+        let more: [usize; WORK] = shuffled(random);
+        lengths.work.iter_mut().zip(more).for_each(|(length, more)| *length += more);
+        let more: [usize; 2] = shuffled(random);
+        lengths.plans.iter_mut().zip(more).for_each(|(length, more)| *length += 3 * more);
+    }
+    if enough {
+        return lengths;
+    }
+    let (sweep, guided) = lengths.work.split_at_mut(SWEEP_WORK);
+    let [sweep_plan, plan] = &mut lengths.plans;
+    shorten(random, problem, sweep, sweep_plan);
+    shorten(random, problem, guided, plan);
+    lengths
+}
+
+/// Takes entries from the slices of one search in one of five cases.
+fn shorten(random: &mut Random, problem: &Problem, work: &mut [usize], plan: &mut usize) {
+    let one = random.below(work.len());
+    match random.below(20) {
+        0 => work[one] = problem.pairs() - 1,
+        1 => work[one] = random.below(problem.pairs()),
+        2 => *plan = problem.longest_plan().saturating_sub(1),
+        3 => work.fill(random.below(2)),
+        _ => {}
+    }
+}
+
+/// Lengths for a call that refuses its files: no two the same.
+fn any_lengths(random: &mut Random) -> Lengths {
+    Lengths { work: shuffled(random), plans: shuffled(random) }
+}
+
+/// The numbers from 0 in any order.
+fn shuffled<const COUNT: usize>(random: &mut Random) -> [usize; COUNT] {
+    let mut numbers = std::array::from_fn(|at| at);
+    for at in 1..COUNT {
+        numbers.swap(at, random.between(0, at));
+    }
+    numbers
+}
+
+/// Any content; small numbers and the mark for "none" are common in it.
+pub fn dirty(random: &mut Random, length: usize) -> Lent<u32> {
+    let entry = |word: u64| match word & 3 {
+        0 => (word >> 32) as u32 & 0x3f,
+        1 => u32::MAX,
+        _ => (word >> 32) as u32,
+    };
+    (0..length).map(|_| entry(random.word())).collect::<Vec<_>>().into()
+}
+
+pub fn dirty_plan(random: &mut Random, length: usize) -> Lent<u16> {
+    (0..length).map(|_| (random.word() >> 40) as u16).collect::<Vec<_>>().into()
+}

@@ -1,0 +1,187 @@
+//! How far a case goes: its figures, and those that a whole run must reach.
+
+use crate::cases::Case;
+use crate::files::{Chart, Diagram, Problem, CHART_FILE, MAX_COST, MAX_NODES, MAX_STAGES};
+use crate::reference::{Facts, Judged};
+
+/// What a chart and a diagram have, and how far the searches go on them; 0 or false where it makes no
+/// sense.
+#[derive(Clone, Copy, Debug, Default, PartialEq, Eq)]
+pub struct Figures {
+    /// Both files pass.
+    pub sound: bool,
+    pub stages: usize,
+    pub nodes: usize,
+    /// Equal sums leave the guided count open.
+    pub tie: bool,
+    pub zero_cost: bool,
+    /// A reached stage from which no way leads to the end.
+    pub dead_end: bool,
+    pub start_above_end: bool,
+    /// At least ten steps, all of the largest cost.
+    pub all_dear: bool,
+    /// As many stages and nodes as there may be.
+    pub full: bool,
+    pub plan_cost: usize,
+    pub plan_length: usize,
+    /// The largest sum of a reached pair.
+    pub sum: usize,
+    pub reached: usize,
+    /// The fewest settled pairs with a plan.
+    pub settled: usize,
+    /// The settled pairs under 8.
+    pub settled_without_plan: usize,
+    /// Inner nodes passed from the root by lo alone.
+    pub lo_chain: usize,
+    /// Inner nodes on a longest path from the root.
+    pub chain: usize,
+    /// Length and faulty place of a refused chart.
+    pub refused_chart: (usize, usize),
+    /// Length and faulty place of a refused diagram.
+    pub refused_rules: (usize, usize),
+}
+
+impl Figures {
+    /// `enough`: both searches are lent what they need, and so run.
+    pub fn of(case: &Case, judged: &Judged, enough: bool) -> Figures {
+        match judged {
+            Ok(facts) if enough => Figures::of_searches(facts),
+            Ok(facts) => Figures::of_files(facts),
+            Err(fault) if fault.file == CHART_FILE => {
+                Figures { refused_chart: (case.chart.len(), fault.place), ..Figures::default() }
+            }
+            Err(fault) => {
+                Figures { refused_rules: (case.rules.len(), fault.place), ..Figures::default() }
+            }
+        }
+    }
+
+    /// Of sound files alone.
+    fn of_files(facts: &Facts) -> Figures {
+        let Problem { chart, diagram } = &facts.problem;
+        Figures {
+            sound: true,
+            stages: usize::from(chart.stages),
+            nodes: diagram.nodes.len(),
+            zero_cost: chart.steps.iter().any(|step| step.cost == 0),
+            dead_end: has_dead_end(facts),
+            start_above_end: chart.start > chart.end,
+            ..Figures::default()
+        }
+    }
+
+    /// Of searches that run.
+    fn of_searches(facts: &Facts) -> Figures {
+        let Problem { chart, diagram } = &facts.problem;
+        let (fewest, most) = facts.settled_range();
+        let settled = fewest as usize;
+        let has_plan = facts.cheapest.is_some();
+        let sums = (0..facts.least.len()).filter_map(|pair| facts.sum(pair));
+        Figures {
+            tie: fewest < most,
+            all_dear: is_all_dear(chart),
+            full: chart.stages == MAX_STAGES && diagram.nodes.len() == MAX_NODES,
+            plan_cost: facts.cheapest.map_or(0, |plan| plan.cost as usize),
+            plan_length: facts.cheapest.map_or(0, |plan| plan.lengths.0 as usize),
+            sum: sums.max().unwrap_or(0) as usize,
+            reached: facts.reached() as usize,
+            settled: if has_plan { settled } else { 0 },
+            settled_without_plan: if has_plan { 0 } else { settled },
+            lo_chain: lo_chain(diagram),
+            chain: chain(diagram),
+            ..Figures::of_files(facts)
+        }
+    }
+}
+
+fn has_dead_end(facts: &Facts) -> bool {
+    let is_dead_end = |(row, estimate): (&[Option<u32>], &Option<u32>)| {
+        estimate.is_none() && row.iter().any(Option::is_some)
+    };
+    facts.least.chunks(facts.references()).zip(&facts.chart_estimate).any(is_dead_end)
+}
+
+fn is_all_dear(chart: &Chart) -> bool {
+    chart.steps.len() >= 10 && chart.steps.iter().all(|step| step.cost == MAX_COST)
+}
+
+fn lo_chain(diagram: &Diagram) -> usize {
+    let mut passed = 0;
+    let mut at = diagram.root;
+    while let Some(node) = diagram.inner(at) {
+        passed += 1;
+        at = node.lo;
+    }
+    passed
+}
+
+fn chain(diagram: &Diagram) -> usize {
+    let mut longest = vec![0, 0];
+    for node in &diagram.nodes {
+        let below = longest[usize::from(node.lo)].max(longest[usize::from(node.hi)]);
+        longest.push(below + 1);
+    }
+    longest[usize::from(diagram.root)]
+}
+
+/// Of a run's figures: how one is taken from a case, how it is kept over cases, and what a whole run
+/// must reach.
+pub struct Corner {
+    pub name: &'static str,
+    pub wanted: usize,
+    of: fn(&Figures) -> usize,
+    kept: Kept,
+}
+
+enum Kept {
+    Largest,
+    Count,
+}
+
+impl Corner {
+    const fn largest(name: &'static str, wanted: usize, of: fn(&Figures) -> usize) -> Corner {
+        Corner { name, wanted, of, kept: Kept::Largest }
+    }
+
+    const fn count(name: &'static str, wanted: usize, of: fn(&Figures) -> usize) -> Corner {
+        Corner { name, wanted, of, kept: Kept::Count }
+    }
+
+    /// The figure with one case more.
+    pub fn with(&self, so_far: usize, figures: &Figures) -> usize {
+        let found = (self.of)(figures);
+        match self.kept {
+            Kept::Largest => so_far.max(found),
+            Kept::Count => so_far + found,
+        }
+    }
+}
+
+/// Most of the largest ones are what the limits allow.
+pub const CORNERS: [Corner; 21] = [
+    Corner::largest("plan cost", 255_000_000, |f| f.plan_cost),
+    Corner::largest("plan length", 255, |f| f.plan_length),
+    Corner::largest("sum of a reached pair", 765_000_000, |f| f.sum),
+    Corner::largest("reached pairs", 65_027, |f| f.reached),
+    Corner::largest("settled pairs", 64_517, |f| f.settled),
+    Corner::largest("settled pairs under 8", 64_517, |f| f.settled_without_plan),
+    Corner::largest("nodes in a row by lo", MAX_NODES, |f| f.lo_chain),
+    Corner::largest("nodes in a row", MAX_NODES, |f| f.chain),
+    Corner::largest("stages", MAX_STAGES as usize, |f| f.stages),
+    Corner::largest("nodes", MAX_NODES, |f| f.nodes),
+    Corner::largest("place in a refused chart", 11_273, |f| f.refused_chart.1),
+    Corner::largest("place in a refused diagram", 4_595, |f| f.refused_rules.1),
+    Corner::count("refused charts above 1,000 bytes", 1_000, |f| {
+        (f.refused_chart.0 > 1_000).into()
+    }),
+    Corner::count("refused diagrams above 1,000 bytes", 500, |f| {
+        (f.refused_rules.0 > 1_000).into()
+    }),
+    Corner::count("sound files", 100_000, |f| f.sound.into()),
+    Corner::count("with 256 stages and 510 nodes", 50, |f| f.full.into()),
+    Corner::count("with ten and more steps, all at 1,000,000", 500, |f| f.all_dear.into()),
+    Corner::count("with ties", 5_000, |f| f.tie.into()),
+    Corner::count("with zero costs", 5_000, |f| f.zero_cost.into()),
+    Corner::count("with dead ends", 5_000, |f| f.dead_end.into()),
+    Corner::count("with the start above the end", 5_000, |f| f.start_above_end.into()),
+];

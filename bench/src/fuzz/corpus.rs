@@ -1,0 +1,76 @@
+//! The sound files that fuzzing spoils, and the cases made of them.
+
+use crate::cases::Case;
+use crate::files::{write_chart, write_diagram};
+use crate::generate::broken::Files;
+use crate::generate::charts::random_chart;
+use crate::generate::diagrams::random_diagram;
+use crate::generate::mutate::mutated;
+use crate::generate::Random;
+
+/// Sound files of one size, and how many of a thousand cases begin with one of them.
+struct OfSize {
+    files: Vec<Files>,
+    share: usize,
+}
+
+/// The sound files that are spoiled, small ones first.
+pub struct Corpus {
+    pub seed: u64,
+    sizes: Vec<OfSize>,
+}
+
+impl Corpus {
+    pub fn new(seed: u64) -> Corpus {
+        let mut random = Random::of(seed, u64::MAX);
+        let mut sized = |count: usize, share: usize, limits: [usize; 3]| {
+            let files = (0..count).map(|_| sound(&mut random, limits)).collect();
+            OfSize { files, share }
+        };
+        let sizes = vec![
+            sized(4_000, 930, [8, 14, 12]),
+            sized(400, 60, [40, 120, 100]),
+            sized(60, 9, [120, 500, 300]),
+            sized(20, 1, [256, 1_024, 510]),
+        ];
+        Corpus { seed, sizes }
+    }
+
+    /// The case with a number.
+    pub fn case(&self, number: u64) -> Case {
+        let mut random = Random::of(self.seed, number);
+        let files = self.pick(&mut random);
+        let (chart, rules) = &files[random.below(files.len())];
+        let (other_chart, other_rules) = &files[random.below(files.len())];
+        let which = random.below(10);
+        let mut spoil = |is_spoiled: bool, file: &[u8], other: &[u8]| {
+            if is_spoiled {
+                mutated(&mut random, file, other)
+            } else {
+                file.to_vec()
+            }
+        };
+        // At times the fields of the other kind of file come in.
+        let odd = number % 16 == 0;
+        let chart = spoil(which < 5, chart, if odd { rules } else { other_chart });
+        let rules = spoil(which > 3, rules, if odd { other_chart } else { other_rules });
+        Case { kind: "fuzzed", chart, rules, dirt: random.word() }
+    }
+
+    fn pick(&self, random: &mut Random) -> &[Files] {
+        let mut left = random.below(1_000);
+        for OfSize { files, share } in &self.sizes {
+            if left < *share {
+                return files;
+            }
+            left -= share;
+        }
+        &self.sizes[0].files
+    }
+}
+
+fn sound(random: &mut Random, [stages, steps, nodes]: [usize; 3]) -> Files {
+    let chart = random_chart(random, stages, steps);
+    let diagram = random_diagram(random, &chart, nodes);
+    (write_chart(&chart), write_diagram(&diagram))
+}

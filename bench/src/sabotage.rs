@@ -1,0 +1,232 @@
+//! Planners that are spoiled in one corner: the differential test must find each of them.
+
+use crate::planner::{self, Answer, GuidedSlices, Planner, Space, SweepSlices};
+
+/// One way to spoil a planner.
+pub struct Sabotage {
+    pub name: &'static str,
+    spoil: Spoil,
+}
+
+/// What is spoiled, after the call where there is one.
+enum Spoil {
+    /// Every answer of a search.
+    Answer(fn(&mut Answer)),
+    Sweep(fn(&mut Answer, &mut SweepSlices)),
+    Guided(fn(&mut Answer, &mut GuidedSlices)),
+    Space(fn(&mut Space)),
+    /// The length of a refused field at a place.
+    Field(fn(&mut usize, usize)),
+    /// Both files, before every call.
+    Files(fn(&[u8], &[u8])),
+}
+
+/// A planner that is sound but for one sabotage.
+pub struct Spoiled {
+    pub planner: Box<dyn Planner>,
+    pub sabotage: &'static Sabotage,
+}
+
+/// The first implementation of this build, spoiled where a sabotage is named.
+pub fn first_planner(name: Option<&str>) -> Result<Box<dyn Planner>, String> {
+    let planner = planner::all().remove(0);
+    let Some(name) = name else { return Ok(planner) };
+    let sabotage = ALL.iter().find(|sabotage| sabotage.name == name).ok_or_else(|| {
+        let names: Vec<&str> = ALL.iter().map(|sabotage| sabotage.name).collect();
+        format!("no sabotage {name}; there are {}", names.join(", "))
+    })?;
+    Ok(Box::new(Spoiled { planner, sabotage }))
+}
+
+const fn new(name: &'static str, spoil: Spoil) -> Sabotage {
+    Sabotage { name, spoil }
+}
+
+pub static ALL: [Sabotage; 24] = [
+    new("cost-above-70000000", Spoil::Answer(|a| a.cost += u32::from(a.cost > 70_000_000))),
+    new("cost-at-255000000", Spoil::Answer(|a| a.cost -= u32::from(a.cost == 255_000_000))),
+    new("reached-above-8000", Spoil::Sweep(|a, _| a.count += u32::from(a.count > 8_000))),
+    new("reached-above-65000", Spoil::Sweep(|a, _| a.count -= u32::from(a.count > 65_000))),
+    new("settled-above-60000", Spoil::Guided(|a, _| a.count -= u32::from(a.count > 60_000))),
+    new(
+        "settled-under-8",
+        Spoil::Guided(|a, _| {
+            a.count -= u32::from(a.number == 8 && a.count > 4_000);
+        }),
+    ),
+    new(
+        "log-above-4000",
+        Spoil::Guided(|a, s| {
+            if a.count > 4_000 {
+                s.log.swap(2_000, 2_001);
+            }
+        }),
+    ),
+    new("log-past-count", Spoil::Guided(|a, s| change_at(&mut s.log, a.count as usize, 4_000))),
+    new(
+        "cost-slice-above-200000000",
+        Spoil::Sweep(|_, s| {
+            let large = s.cost.iter_mut().find(|cost| (200_000_000..1 << 30).contains(*cost));
+            large.into_iter().for_each(|cost| *cost += 1);
+        }),
+    ),
+    new("cost-slice-last-entry", Spoil::Sweep(|_, s| change_last(&mut s.cost))),
+    new("keys-last-entry", Spoil::Guided(|_, s| change_last(&mut s.keys))),
+    new(
+        "plan-past-length",
+        Spoil::Guided(|a, s| {
+            let spare = s.plan.get_mut(a.length as usize).filter(|_| a.length > 200);
+            spare.into_iter().for_each(|step| *step ^= 1);
+        }),
+    ),
+    new(
+        "plan-of-255-steps",
+        Spoil::Sweep(|a, s| {
+            if a.length == 255 {
+                s.plan[254] ^= 1;
+            }
+        }),
+    ),
+    new("place-above-4000", Spoil::Answer(|a| a.place += usize::from(a.place > 4_000))),
+    new("number-above-4000", Spoil::Answer(|a| a.number -= u32::from(a.place > 4_000))),
+    new("space-above-100000", Spoil::Space(|s| s.work -= usize::from(s.work > 100_000))),
+    new(
+        "field-above-4000",
+        Spoil::Field(|length, place| {
+            *length += usize::from((4_001..1 << 20).contains(&place));
+        }),
+    ),
+    new(
+        "lengths-taken-as-equal",
+        Spoil::Guided(|a, s| {
+            if s.keys.len() > s.via.len() && a.number != 7 {
+                s.keys.last_mut().into_iter().for_each(|entry| *entry ^= 1);
+            }
+        }),
+    ),
+    new("read-past-chart", Spoil::Files(|chart, _| read(chart.as_ptr_range().end, chart.len()))),
+    new("read-past-rules", Spoil::Files(|_, rules| read(rules.as_ptr_range().end, rules.len()))),
+    new(
+        "read-before-keys",
+        Spoil::Guided(|_, s| {
+            read(s.keys.as_ptr().wrapping_sub(1), s.keys.len());
+        }),
+    ),
+    new("read-past-log", Spoil::Guided(|_, s| read(s.log.as_ptr_range().end, s.log.len()))),
+    new(
+        "write-before-heap",
+        Spoil::Guided(|_, s| {
+            write(s.heap.as_mut_ptr().wrapping_sub(1), s.heap.len());
+        }),
+    ),
+    new("write-past-plan", Spoil::Sweep(|_, s| write(s.plan.as_mut_ptr_range().end, s.plan.len()))),
+];
+
+/// Changes an entry that should stay, where it is there and lies above a bound.
+fn change_at(slice: &mut [u32], at: usize, bound: usize) {
+    let entry = slice.get_mut(at).filter(|_| at > bound);
+    entry.into_iter().for_each(|entry| *entry ^= 1);
+}
+
+/// Changes the last entry of a large slice, which is past what is needed where it is lent more.
+fn change_last(slice: &mut [u32]) {
+    change_at(slice, slice.len().wrapping_sub(1), 10_000);
+}
+
+/// Only one in so many lengths is touched outside.
+const SELDOM: usize = 7;
+
+/// Reads an entry beside a slice of a length.
+fn read<T: Copy>(entry: *const T, length: usize) {
+    if length % SELDOM == 1 {
+        // SAFETY: none; the entry lies outside. It is in a page beside that of the slice, which the
+        // test has taken for itself, or the program ends, which is what is wanted.
+        std::hint::black_box(unsafe { entry.read_volatile() });
+    }
+}
+
+/// Changes an entry beside a slice of a length.
+fn write<T: Copy>(entry: *mut T, length: usize) {
+    if length % SELDOM == 1 {
+        // SAFETY: as for `read`.
+        unsafe { entry.cast::<u8>().write_volatile(0) };
+    }
+}
+
+impl Spoiled {
+    fn files(&self, chart: &[u8], rules: &[u8]) {
+        if let Spoil::Files(spoil) = self.sabotage.spoil {
+            spoil(chart, rules);
+        }
+    }
+
+    fn spoil_sweep(&self, mut answer: Answer, lent: &mut SweepSlices) -> Answer {
+        match self.sabotage.spoil {
+            Spoil::Answer(spoil) => spoil(&mut answer),
+            Spoil::Sweep(spoil) => spoil(&mut answer, lent),
+            _ => {}
+        }
+        answer
+    }
+
+    fn spoil_guided(&self, mut answer: Answer, lent: &mut GuidedSlices) -> Answer {
+        match self.sabotage.spoil {
+            Spoil::Answer(spoil) => spoil(&mut answer),
+            Spoil::Guided(spoil) => spoil(&mut answer, lent),
+            _ => {}
+        }
+        answer
+    }
+}
+
+impl Planner for Spoiled {
+    fn name(&self) -> &'static str {
+        "spoiled"
+    }
+
+    fn sweep(&self, chart: &[u8], rules: &[u8], lent: &mut SweepSlices) -> Answer {
+        self.files(chart, rules);
+        let answer = self.planner.sweep(chart, rules, lent);
+        self.spoil_sweep(answer, lent)
+    }
+
+    fn guided(&self, chart: &[u8], rules: &[u8], lent: &mut GuidedSlices) -> Answer {
+        self.files(chart, rules);
+        let answer = self.planner.guided(chart, rules, lent);
+        self.spoil_guided(answer, lent)
+    }
+
+    fn both(
+        &self,
+        chart: &[u8],
+        rules: &[u8],
+        sweep: &mut SweepSlices,
+        guided: &mut GuidedSlices,
+    ) -> Option<(Answer, Answer)> {
+        let (swept, found) = self.planner.both(chart, rules, sweep, guided)?;
+        Some((self.spoil_sweep(swept, sweep), self.spoil_guided(found, guided)))
+    }
+
+    fn space_needed(&self, chart: &[u8], rules: &[u8]) -> Option<Space> {
+        let mut space = self.planner.space_needed(chart, rules)?;
+        if let Spoil::Space(spoil) = self.sabotage.spoil {
+            spoil(&mut space);
+        }
+        Some(space)
+    }
+
+    fn refused_field(
+        &self,
+        chart: &[u8],
+        rules: &[u8],
+        file: u32,
+        place: usize,
+        field: &mut [u8],
+    ) -> Option<usize> {
+        let mut length = self.planner.refused_field(chart, rules, file, place, field)?;
+        if let Spoil::Field(spoil) = self.sabotage.spoil {
+            spoil(&mut length, place);
+        }
+        Some(length)
+    }
+}

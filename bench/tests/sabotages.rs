@@ -1,0 +1,64 @@
+//! Tests of the tests: each sabotage must be found, a crash told with its case, and a saved case must
+//! fail again. The programs run as children, since some sabotages end them.
+
+use std::path::PathBuf;
+use std::process::{Command, Output};
+
+const DIFFTEST: &str = env!("CARGO_BIN_EXE_difftest");
+const FUZZ: &str = env!("CARGO_BIN_EXE_fuzz");
+
+/// Runs a program that saves in a folder of its own; the folder is left behind empty-handed.
+fn run(program: &str, name: &str, arguments: &[&str]) -> (Output, PathBuf) {
+    let folder = std::env::temp_dir().join(format!("sabotages-{}-{name}", std::process::id()));
+    let run = Command::new(program).args(arguments).arg("--save").arg(&folder).output();
+    (run.expect("the program runs"), folder)
+}
+
+fn shown(output: &Output) -> String {
+    String::from_utf8_lossy(&output.stdout).into_owned()
+}
+
+#[test]
+fn the_differential_test_finds_every_sabotage() {
+    let all = Command::new(DIFFTEST).args(["--sabotage", "all"]).output().expect("it runs");
+    let text = shown(&all);
+    assert_eq!(all.status.code(), Some(0), "{text}");
+    assert!(text.ends_with(" sabotages, 0 not found\n"), "{text}");
+}
+
+#[test]
+fn a_crash_is_told_and_its_case_fails_again() {
+    for (name, slice) in [("read-past-chart", "end of chart"), ("read-before-keys", "slice keys")] {
+        let (first, folder) = run(DIFFTEST, name, &["--sabotage", name]);
+        let text = shown(&first);
+        assert_eq!(first.status.code(), Some(1), "{text}");
+        assert!(text.contains("SIGSEGV") && text.contains(slice), "{text}");
+        let replay = ["--sabotage", name, "--replay", folder.to_str().expect("a path")];
+        let again = Command::new(DIFFTEST).args(replay).output().expect("it runs");
+        assert_eq!(again.status.code(), Some(1), "{}", shown(&again));
+        assert!(shown(&again).contains(slice), "{}", shown(&again));
+        let sound = Command::new(DIFFTEST).args(&replay[2..]).output().expect("it runs");
+        assert_eq!(sound.status.code(), Some(0), "{}", shown(&sound));
+        std::fs::remove_dir_all(folder).expect("the case was saved");
+    }
+}
+
+#[test]
+fn fuzzing_finds_wrong_places_and_touches_outside() {
+    for name in ["place-above-4000", "number-above-4000", "read-past-rules", "write-before-heap"] {
+        let (found, folder) = run(FUZZ, name, &["--sabotage", name, "--seconds", "60"]);
+        assert_eq!(found.status.code(), Some(1), "{}", shown(&found));
+        let replay = ["--sabotage", name, "--replay", folder.to_str().expect("a path")];
+        let again = Command::new(DIFFTEST).args(replay).output().expect("it runs");
+        assert_eq!(again.status.code(), Some(1), "{}", shown(&again));
+        std::fs::remove_dir_all(folder).expect("the case was saved");
+    }
+}
+
+#[test]
+fn fuzzing_ends_after_its_cases() {
+    let (done, _) = run(FUZZ, "none", &["--cases", "3000", "--seed", "5"]);
+    let text = shown(&done);
+    assert_eq!(done.status.code(), Some(0), "{text}");
+    assert!(text.lines().last().is_some_and(|line| line.starts_with("3000 pairs")), "{text}");
+}

@@ -1,0 +1,3 @@
+pub mod FirstSteps
+pub mod HeldGraph
+pub mod Estimates

@@ -1,0 +1,6 @@
+// What the searches need of each stage of a chart that stands in tables: its first step and its estimate.
+mod estimates;
+mod first;
+
+pub use estimates::chart_estimates;
+pub use first::first_steps;

@@ -1,0 +1,61 @@
+-- Small files, computed: the chart and the diagram of document 01, and that what they must not be is refuted.
+-- Assumes nothing.
+use Prim.Native.Nat.{ℕ}
+use mathlib.Core.Path.{_≡_, refl}
+use mathlib.Core.List.{List, [], _∷_, _++_}
+use native.Mathlib.Omega.{arith}
+use lib.ListN.{take, replicate}
+use Rattle.definitions.specs.Answers.{refusal, accepted}
+use Rattle.definitions.specs.Basics.{pick}
+use Rattle.definitions.specs.Marked.{chart, rules}
+use Rattle.definitions.specs.Bytes.{le2, le4, field, chartBytes, diagramBytes}
+use Rattle.field_writer.specs.Files.{fileAnswer, fileBuffer}
+
+low-byte-first : le2 513 ++ le4 67305985 ≡ 1 ∷ 2 ∷ 1 ∷ 2 ∷ 3 ∷ 4 ∷ []
+low-byte-first = refl
+
+not-high-byte-first : le2 513 ≡ 2 ∷ 1 ∷ [] → ⊥
+not-high-byte-first e = let z : _≡_ {A = ℕ} 1 2 = cc in omega arith
+
+-- the length is that of the body alone, and has two bytes
+empty-field : field 128 [] ≡ 128 ∷ 0 ∷ 0 ∷ []
+empty-field = refl
+
+long-field : take 4 (field 128 (replicate 258 7)) ≡ 128 ∷ 2 ∷ 1 ∷ 7 ∷ []
+long-field = refl
+
+not-with-header : field 128 (7 ∷ []) ≡ 128 ∷ 4 ∷ 0 ∷ 7 ∷ [] → ⊥
+not-with-header e = let z : _≡_ {A = ℕ} 1 4 = cc in omega arith
+
+-- document 01's chart and diagram
+chart-file : chartBytes chart
+    ≡ 1 ∷ 6 ∷ 0 ∷ 5 ∷ 0 ∷ 0 ∷ 0 ∷ 4 ∷ 0
+    ∷ 2 ∷ 8 ∷ 0 ∷ 0 ∷ 0 ∷ 1 ∷ 0 ∷ 40 ∷ 0 ∷ 0 ∷ 0
+    ∷ 2 ∷ 8 ∷ 0 ∷ 0 ∷ 0 ∷ 1 ∷ 0 ∷ 90 ∷ 0 ∷ 0 ∷ 0
+    ∷ 2 ∷ 8 ∷ 0 ∷ 1 ∷ 0 ∷ 2 ∷ 0 ∷ 200 ∷ 0 ∷ 0 ∷ 0
+    ∷ 2 ∷ 8 ∷ 0 ∷ 1 ∷ 0 ∷ 3 ∷ 0 ∷ 30 ∷ 0 ∷ 0 ∷ 0
+    ∷ 2 ∷ 8 ∷ 0 ∷ 2 ∷ 0 ∷ 3 ∷ 0 ∷ 20 ∷ 0 ∷ 0 ∷ 0
+    ∷ 2 ∷ 8 ∷ 0 ∷ 3 ∷ 0 ∷ 4 ∷ 0 ∷ 50 ∷ 0 ∷ 0 ∷ 0 ∷ []
+chart-file = refl
+
+diagram-file : diagramBytes rules
+    ≡ 17 ∷ 2 ∷ 0 ∷ 3 ∷ 0
+    ∷ 18 ∷ 6 ∷ 0 ∷ 2 ∷ 0 ∷ 0 ∷ 0 ∷ 1 ∷ 0
+    ∷ 18 ∷ 6 ∷ 0 ∷ 0 ∷ 0 ∷ 1 ∷ 0 ∷ 2 ∷ 0 ∷ []
+diagram-file = refl
+
+-- a file of three bytes in a buffer of four, of three and of two
+buffers : List (List ℕ)
+buffers =
+    fileBuffer (1 ∷ 2 ∷ 3 ∷ []) (9 ∷ 8 ∷ 7 ∷ 6 ∷ [])
+    ∷ fileBuffer (1 ∷ 2 ∷ 3 ∷ []) (9 ∷ 8 ∷ 7 ∷ [])
+    ∷ fileBuffer (1 ∷ 2 ∷ 3 ∷ []) (9 ∷ 8 ∷ [])
+    ∷ []
+
+buffers-hold : buffers ≡ (1 ∷ 2 ∷ 3 ∷ 6 ∷ []) ∷ (1 ∷ 2 ∷ 3 ∷ []) ∷ (9 ∷ 8 ∷ []) ∷ []
+unfolding buffers fileBuffer pick
+buffers-hold = refl
+
+answers-hold : fileAnswer 3 4 ∷ fileAnswer 3 3 ∷ fileAnswer 3 2 ∷ [] ≡ accepted 0 3 0 ∷ accepted 0 3 0 ∷ refusal 7 0 0 0 ∷ []
+unfolding fileAnswer pick
+answers-hold = refl

@@ -1,0 +1,64 @@
+-- What a call answers that writes a file into a lent buffer, after every other check, and what the buffer then holds.
+-- Assumes nothing.
+use Prim.Native.Nat.{ℕ, _≤_, _<_}
+use mathlib.Core.Path.{_≡_, sym, _∙_, ap, ap₂}
+use mathlib.Core.List.{List, _++_}
+use native.Mathlib.Omega.{arith}
+use lib.Dec.{ltb}
+use lib.ListN.{length, take, drop}
+use lib.Seq.{take-append-seam}
+use borrow.Author.Tests.{lt-ltb, le-ltb}
+use Rattle.definitions.specs.Answers.{refusal, accepted}
+use Rattle.definitions.specs.Basics.{pick}
+use Rattle.definitions.specs.declared.Answer.{Answer}
+use Rattle.theory.specs.Basics.{pick-true, pick-false, either, lt-or-le}
+use Rattle.field_writer.specs.Written.{Written, written-front}
+
+-- the length is the file's bytes; a buffer of fewer is 7
+unfoldable pub fileAnswer : ℕ → ℕ → Answer
+fileAnswer bytes room = pick (ltb room bytes) (refusal 7 0 0 0) (accepted 0 bytes 0)
+
+-- the file stands at the buffer's front, and the rest stays; a buffer that is too short stays as it was
+unfoldable pub fileBuffer : List ℕ → List ℕ → List ℕ
+fileBuffer file out = pick (ltb (length out) (length file)) out (file ++ drop (length file) out)
+
+-- the buffer before and after (out′), and the answer
+pub record Filed (file out out′ : List ℕ) (r : Answer) : Type 0 where
+  pub answer : r ≡ fileAnswer (length file) (length out)
+  pub buffer : out′ ≡ fileBuffer file out
+
+module _ (bytes room : ℕ) where
+  pub answer-short : room < bytes → refusal 7 0 0 0 ≡ fileAnswer bytes room
+  unfolding fileAnswer
+  answer-short h = sym (pick-true _ _ _ (lt-ltb room bytes h))
+
+  pub answer-whole : bytes ≤ room → accepted 0 bytes 0 ≡ fileAnswer bytes room
+  unfolding fileAnswer
+  answer-whole h = sym (pick-false _ _ _ (le-ltb room bytes h))
+
+-- a call with this answer, for a file of so many bytes: it leaves a buffer that is too short as it was, or writes the file to the buffer's front
+module _ (file out : List ℕ) (r : Answer) (bytes : ℕ) (long : length file ≡ bytes) (given : r ≡ fileAnswer bytes (length out)) where
+  answer-is : r ≡ fileAnswer (length file) (length out)
+  answer-is = given ∙ ap (λ (n : ℕ). fileAnswer n (length out)) (sym long)
+
+  pub filed-short : length out < bytes → Filed file out out r
+  unfolding fileBuffer
+  filed-short h = record { answer = answer-is; buffer = sym (pick-true _ _ _ (lt-ltb (length out) (length file) (omega arith))) }
+
+  pub filed-whole : (out′ : List ℕ) (end : ℕ) → Written out 0 file out′ end → Filed file out out′ r
+  unfolding fileBuffer
+  filed-whole out′ end w = record {
+    answer = answer-is;
+    buffer = written-front w ∙ sym (pick-false _ _ _ (le-ltb (length out) (length file) (omega (arith, w .end, w .room))));
+  }
+
+-- where such a call is accepted, the file stands in the buffer's first bytes, as many as the answer's length
+pub filed-back : (file out out′ : List ℕ) (r : Answer) → Filed file out out′ r → r .number ≡ 0 → take (r .length) out′ ≡ file
+unfolding fileBuffer
+filed-back file out out′ r p e =
+    either (lt-or-le (length out) (length file))
+    (λ h. let short = p .answer ∙ sym (answer-short (length file) (length out) h) in absurd (omega (arith, ap (λ (a : Answer). a .number) short)))
+    (λ h.
+    let whole = p .answer ∙ sym (answer-whole (length file) (length out) h) in
+    let there : out′ ≡ file ++ drop (length file) out = p .buffer ∙ pick-false _ _ _ (le-ltb (length out) (length file) h) in
+    ap₂ take (ap (λ (a : Answer). a .length) whole) there ∙ take-append-seam file (drop (length file) out))

@@ -1,0 +1,7 @@
+pub mod Written
+pub mod Members
+pub mod Files
+pub mod Scanned
+pub mod RoundTrip
+pub mod Sizes
+pub mod Examples

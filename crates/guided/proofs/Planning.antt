@@ -1,0 +1,70 @@
+-- From the trail of a settled goal pair to the plan.
+-- Assumes nothing.
+use Prim.Native.Nat.{ℕ, _+_, _≤_}
+use mathlib.Core.Path.{_≡_, refl, sym, _∙_, ap, subst}
+use mathlib.Core.Bool.{true, false}
+use mathlib.Core.List.{List, [], _∷_, _++_}
+use mathlib.Core.Option.{Option, none, some}
+use native.Mathlib.Omega.{arith}
+use lib.ListN.{length, take, drop, length-append}
+use lib.Seq.{take-append-seam, drop-append-seam}
+use Rattle.definitions.specs.Charts.{Chart}
+use Rattle.definitions.specs.Diagrams.{Diagram}
+use Rattle.definitions.specs.Ways.{wayCost}
+use Rattle.definitions.specs.Plans.{graph, Legal, cheapest}
+use Rattle.definitions.specs.Answers.{refusal, accepted}
+use Rattle.definitions.specs.Promises.{Outcome}
+use Rattle.definitions.specs.declared.Answer.{Answer}
+use Rattle.definitions.specs.declared.Shape.{Shape}
+use Rattle.theory.specs.Basics.{true-not-false}
+use Rattle.trace.specs.Trails.{Trail, begin, more}
+use Rattle.chart.specs.Tables.{Steps}
+use Rattle.guided_loop.specs.declared.turns.Ended.{Ended}
+use Rattle.guided.specs.Runs.{Trails, Ending, Concludes}
+
+-- a trail climbs from stage to stage
+pub trail-short : {via from : List ℕ} {width start s n : ℕ} {w : List ℕ} → Trail via from width start s n w → start + length w ≤ s
+trail-short begin = omega arith
+trail-short (more {s} {n} {e} {m} {w} a b c d f t) = omega (arith, trail-short t, length-append w (e ∷ []))
+
+-- ---- `conclude`
+
+module _ {z : Shape} {via : List ℕ} {steps : Steps} {row : List ℕ} {e : Ended} {plan : List ℕ} (t : Ending z via steps row e plan) where
+  pub trail-fits : (f : e .found ≡ true) {l : ℕ} → ((x : Trails z via steps row e) → l ≡ length (x .steps)) → l ≤ length plan
+  trail-fits f long = omega (arith, long (t .traceable f), t .fits (t .traceable f))
+
+  pub concludes-found : e .found ≡ true → {l : ℕ} → ((x : Trails z via steps row e) → l ≡ length (x .steps)) → {plan′ : List ℕ}
+      → ((x : Trails z via steps row e) → plan′ ≡ x .steps ++ drop l plan) → {r : Answer} → r ≡ accepted (e .cost) l (e .count) → Concludes z via steps row e plan plan′ r
+  concludes-found f long written er = record {
+    found = λ q x. (er ∙ ap (λ (k : ℕ). accepted (e .cost) k (e .count)) (long x), written x ∙ ap (λ (k : ℕ). x .steps ++ drop k plan) (long x));
+    not-found = λ q. absurd (true-not-false (sym f ∙ q));
+  }
+
+  pub concludes-none : e .found ≡ false → {r : Answer} → r ≡ refusal 8 0 0 (e .count) → Concludes z via steps row e plan plan r
+  concludes-none f er = record { found = λ q. absurd (true-not-false (sym q ∙ f)); not-found = λ q. (er, refl) }
+
+-- ---- the answer with a plan, and without one
+
+module _ (c : Chart) (d : Diagram) (count : ℕ) (plan : List ℕ) where
+  pub outcome-some : (m : ℕ) (w plan′ : List ℕ) (r : Answer) → cheapest c d ≡ some m → Legal c d w → wayCost (graph c) w ≡ m → length w ≤ length plan
+      → r ≡ accepted m (length w) count → plan′ ≡ w ++ drop (length w) plan → length plan′ ≡ length plan → Outcome (cheapest c d) c d (r .count) plan plan′ r
+  outcome-some m w plan′ r best legal costs fits er ep long =
+      subst (λ (a : Answer). Outcome (cheapest c d) c d (a .count) plan plan′ a) (sym er)
+      (subst (λ (o : Option ℕ). Outcome o c d count plan plan′ (accepted m (length w) count)) (sym best) (
+        refl,
+        record {
+          fits = fits;
+          legal = subst (Legal c d) (sym front) legal;
+          costs = ap (wayCost (graph c)) front ∙ costs;
+          long = long;
+          rest = ap (drop (length w)) ep ∙ drop-append-seam w (drop (length w) plan);
+        },
+      ))
+    where
+      front : take (length w) plan′ ≡ w
+      front = ap (take (length w)) ep ∙ take-append-seam w (drop (length w) plan)
+
+  pub outcome-none : (plan′ : List ℕ) (r : Answer) → cheapest c d ≡ none → r ≡ refusal 8 0 0 count → plan′ ≡ plan → Outcome (cheapest c d) c d (r .count) plan plan′ r
+  outcome-none plan′ r best er ep =
+      subst (λ (a : Answer). Outcome (cheapest c d) c d (a .count) plan plan′ a) (sym er)
+      (subst (λ (o : Option ℕ). Outcome o c d count plan plan′ (refusal 8 0 0 count)) (sym best) (refl, ep))

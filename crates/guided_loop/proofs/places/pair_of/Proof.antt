@@ -1,0 +1,79 @@
+-- `guided_loop::pair_of` meets its contract.
+use mathlib.Core.Path.{sym, _∙_}
+use native.Mathlib.Omega.{arith}
+use Rattle.guided_loop.proofs.Placing.{at-begin, placed-begin, placed-step, placed-stage}
+use borrow.Author.Needs.{needs}
+use Rattle.guided_loop.proofs.places.pair_of.Statement.{statement}
+use Rattle.guided_loop.proofs.places.pair_of.Tie as tie
+
+pair-in-requires : tie.Need-pair-in-requires
+pair-in-requires c κs =
+    let start : tie.Start = search in
+    placed-begin (start .pre) (c .if1 .taken)
+
+returns : tie.Need-returns
+returns c =
+    let first : tie.Then1 = search in
+    (c .pair-in .ensures .0 ∙ sym (at-begin _ _ _ _ _ (first .if1 .taken)), c .pair-in .ensures .1)
+
+mul-step-in : tie.Need-mul-step-in
+mul-step-in c = search needs
+
+shared-slice-read-step-in : tie.Need-shared-slice-read-step-in
+shared-slice-read-step-in c = search needs
+
+step-in-requires : tie.Need-step-in-requires
+step-in-requires c κs =
+    let later : tie.Else1 = search in
+    let start : tie.Start = search in
+    start .pre .by-step (later .if1 .left)
+
+cast-e : tie.Need-cast-e
+cast-e c = search needs
+
+mul-entered : tie.Need-mul-entered
+mul-entered c = search needs
+
+element-copy-out-entered : tie.Need-element-copy-out-entered
+element-copy-out-entered c =
+    let step : tie.After-step-in = search in
+    let later : tie.Else1 = search in
+    let start : tie.Start = search in
+    omega (arith, step .step-in .ensures, start .pre .by-step (later .if1 .left))
+
+cast-entered : tie.Need-cast-entered
+cast-entered c =
+    let step : tie.After-step-in = search in
+    let later : tie.Else1 = search in
+    let start : tie.Start = search in
+    omega (arith, placed-step (start .pre) _ (later .if1 .left) (step .step-in .ensures) .0)
+
+pair-in-requires-2 : tie.Need-pair-in-requires-2
+pair-in-requires-2 c κs =
+    let step : tie.After-step-in = search in
+    let later : tie.Else1 = search in
+    let start : tie.Start = search in
+    placed-step (start .pre) _ (later .if1 .left) (step .step-in .ensures)
+
+returns-2 : tie.Need-returns-2
+returns-2 c =
+    let step : tie.After-step-in = search in
+    let later : tie.Else1 = search in
+    let start : tie.Start = search in
+    (c .pair-in2 .ensures .0 ∙ placed-stage (start .pre) _ (later .if1 .left) (step .step-in .ensures), c .pair-in2 .ensures .1)
+
+pub pair-of-spec : {M : Type 1} → statement M
+pair-of-spec =
+    tie.close
+    (tie.spec
+    pair-in-requires
+    returns
+    mul-step-in
+    shared-slice-read-step-in
+    step-in-requires
+    cast-e
+    mul-entered
+    element-copy-out-entered
+    cast-entered
+    pair-in-requires-2
+    returns-2)

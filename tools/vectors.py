@@ -1,0 +1,383 @@
+#!/usr/bin/env python3
+"""Computes what the program `vectors` must write when it plays the scripts of crates/vectors/data.
+
+    tools/vectors.py           writes crates/vectors/stdout
+    tools/vectors.py --check   writes nothing; says where the file in the repository differs (exit status 1)
+
+crates/vectors/data/readers.txt says how a case is written. The answers are computed here from document 01 alone: the readers
+field by field, the sweep's costs stage by stage, the guided search as it is told there. Where all ways can be enumerated they
+are, and must give the same. A case in which document 01 leaves free what would be written is an error, and so is a case that is
+marked as free and is not.
+"""
+import re
+import sys
+from typing import NamedTuple
+
+sys.dont_write_bytecode = True  # of the module beside this one
+from run_files import ROOT, Chart, Diagram, Planned
+
+CRATE = ROOT / "crates/vectors"
+BUFFER = 12288  # the bytes of a file in the program
+SCRIPT = 65536  # the bytes of a script
+MOST_WAYS = 20000  # charts with more ways are not enumerated
+NONE = 4294967295
+sys.setrecursionlimit(10000)
+
+
+class Faulty(Exception):
+    """What a case's author must mend."""
+
+
+# ---- the readers
+
+class Refused(Exception):
+    def __init__(self, number, file, place):
+        self.number, self.file, self.place = number, file, place
+
+
+def two(body, at):
+    return int.from_bytes(body[at:at + 2], "little")
+
+
+def bodies(content, file, kinds):
+    """The fields of a file as (place, body); `kinds` has tag and length of the head and of every later field."""
+    if not content:
+        raise Refused(2, file, 0)
+    place = 0
+    while place < len(content):
+        tag, length = kinds[place > 0]
+        header = content[place:place + 3]
+        if len(header) < 3:
+            raise Refused(1, file, place)
+        if header[0] != tag:
+            raise Refused(2, file, place)
+        if two(header, 1) != length:
+            raise Refused(3, file, place)
+        body = content[place + 3:place + 3 + length]
+        if len(body) < length:
+            raise Refused(1, file, place)
+        yield place, body
+        place += 3 + length
+
+
+def read_chart(content):
+    stages, start, end, steps = 0, 0, 0, []
+    for place, body in bodies(content, 1, ((0x01, 6), (0x02, 8))):
+        if place == 0:
+            stages, start, end = two(body, 0), two(body, 2), two(body, 4)
+            if not 1 <= stages <= 256 or start >= stages or end >= stages:
+                raise Refused(4, 1, 0)
+            continue
+        source, target, cost = two(body, 0), two(body, 2), int.from_bytes(body[4:8], "little")
+        if len(steps) == 1024 or not source < target < stages or cost > 1000000 or steps and source < steps[-1][0]:
+            raise Refused(5, 1, place)
+        steps.append((source, target, cost))
+    return Chart(stages, start, end, tuple(steps))
+
+
+def read_diagram(content, steps):
+    root, nodes = 0, []
+    for place, body in bodies(content, 2, ((0x11, 2), (0x12, 6))):
+        if place == 0:
+            root = two(body, 0)
+            continue
+        at_step, children = two(body, 0), (two(body, 2), two(body, 4))
+        own = len(nodes) + 2
+        sound = all(c < own and (c < 2 or nodes[c - 2][0] > at_step) for c in children)
+        if len(nodes) == 510 or at_step >= steps or not sound:
+            raise Refused(6, 2, place)
+        nodes.append((at_step, *children))
+    if root >= len(nodes) + 2:
+        raise Refused(6, 2, 0)
+    return Diagram(root, tuple(nodes))
+
+
+def refused_field(chart, rules, mark, place):
+    content = {1: chart, 2: rules}.get(mark, b"")[place:]
+    return content[:3 + two(content, 1)] if len(content) >= 3 else content
+
+
+# ---- the searches
+
+class Searched(Planned):
+    """The reached pairs with their least costs, and the course of the guided search."""
+
+    def __init__(self, chart, diagram):
+        super().__init__(chart, diagram)
+        first = (chart.start, diagram.root)
+        self.least, self.least_ways = ({first: 0}, {first: 1}) if diagram.root else ({}, {})
+        for stage in range(chart.start, chart.stages):
+            for pair in [p for p in self.least if p[0] == stage]:
+                self.relax(pair)
+        ends = {p: c for p, c in self.least.items() if self.goal(p)}
+        self.best = min(ends.values(), default=None)
+        self.plans = sum(self.least_ways[p] for p, c in ends.items() if c == self.best)
+        self.compare_with_all_ways()
+
+    def goal(self, pair):
+        return pair[0] == self.chart.end and self.finish(pair[1]) == 1
+
+    def follow(self, pair):
+        """The pairs that follow from a pair by one step, with the step."""
+        return [(e, (self.chart.steps[e][1], self.advance(pair[1], e))) for e in self.leaving[pair[0]]]
+
+    def relax(self, pair):
+        for e, after in self.follow(pair):
+            cost = self.least[pair] + self.chart.steps[e][2]
+            if after[1] == 0 or self.least.get(after, cost) < cost:
+                continue
+            ways = self.least_ways[after] if self.least.get(after) == cost else 0
+            self.least[after], self.least_ways[after] = cost, ways + self.least_ways[pair]
+
+    def way_count(self):
+        counts = [0] * self.chart.stages
+        counts[self.chart.start] = 1
+        for source, target, _ in self.chart.steps:
+            counts[target] += counts[source]
+        return sum(counts)
+
+    def compare_with_all_ways(self):
+        """The enumeration of all ways, where they are few, must find the same."""
+        if self.way_count() > MOST_WAYS:
+            return
+        legal = [self.cost(way) for stage, way in self.ways() if self.legal(stage, way)]
+        assert self.reached() == self.least
+        assert min(legal, default=None) == self.best and legal.count(self.best) == self.plans
+
+    def plan(self):
+        """The steps of the one cheapest plan, from its end."""
+        if self.plans != 1:
+            raise Faulty("the plan is free")
+        [pair] = [p for p, c in self.least.items() if self.goal(p) and c == self.best]
+        steps = []
+        while pair != (self.chart.start, self.diagram.root):
+            [(pair, step)] = [(p, e) for p in self.least for e, after in self.follow(p)
+                              if after == pair and self.least[p] + self.chart.steps[e][2] == self.least[after]]
+            steps.append(step)
+        return steps[::-1]
+
+    def estimate(self, pair):
+        both = self.chart_estimate(pair[0]), self.diagram_estimate(pair[1])
+        return None if None in both else max(both)
+
+    def log(self):
+        """The settled pairs in order."""
+        first = (self.chart.start, self.diagram.root)
+        opened = {} if self.estimate(first) is None else {first: 0}
+        settled = []
+        while opened:
+            sums = {p: c + self.estimate(p) for p, c in opened.items()}
+            pair = min(sums, key=sums.get)
+            if list(sums.values()).count(sums[pair]) > 1:
+                raise Faulty("the order of the log is free")
+            cost = opened.pop(pair)
+            assert cost == self.least[pair]
+            settled.append(pair)
+            if self.goal(pair):
+                break
+            for e, after in self.follow(pair):
+                if after not in settled and self.estimate(after) is not None:
+                    opened[after] = min(opened.get(after, NONE), cost + self.chart.steps[e][2])
+        return settled
+
+    def number(self, pair):
+        return pair[0] * self.size + pair[1]
+
+
+def load(chart, rules, work, plan):
+    """Both files, after all checks; `work` has the lengths of the work slices."""
+    a = read_chart(chart)
+    b = read_diagram(rules, len(a.steps))
+    if min(work) < a.stages * (len(b.nodes) + 2) or plan < a.stages - 1:
+        raise Refused(7, 0, 0)
+    return Searched(a, b)
+
+
+def words(name, values):
+    return " ".join([name, *map(str, values)])
+
+
+class Call(NamedTuple):
+    """The numbers of W and G."""
+    work: int
+    plan: int
+    fill: int
+    free: int
+    other: int
+    size: int
+
+    def lengths(self, slices):
+        return [self.size if self.other == i else self.work for i in range(1, slices + 1)]
+
+
+def verdict(number, file, place, cost):
+    return f"number {number} file {file} place {place} cost {cost}"
+
+
+def answered(found, call):
+    """The first words of an answer: with the plan, unless that is free."""
+    number = 8 if found.best is None else 0
+    start = verdict(number, 0, 0, found.best or 0)
+    if call.free:
+        if found.plans <= 1:
+            raise Faulty("the plan is not free")
+        return start
+    plan = [] if number else found.plan()
+    return " ".join([start, f"length {len(plan)}", words("steps", plan)])
+
+
+def sweep(chart, rules, call):
+    try:
+        found = load(chart, rules, call.lengths(3), call.plan)
+    except Refused as r:
+        return f"{verdict(r.number, r.file, r.place, 0)} length 0 steps count 0 costs changed"
+    costs = sorted((found.number(p), c) for p, c in found.least.items())
+    return f"{answered(found, call)} count {len(costs)} {words('costs', [f'{p}={c}' for p, c in costs])} changed"
+
+
+def guided(chart, rules, call):
+    try:
+        found = load(chart, rules, call.lengths(6), call.plan)
+    except Refused as r:
+        return f"{verdict(r.number, r.file, r.place, 0)} length 0 steps count 0 log changed"
+    if call.free:
+        return f"{answered(found, call)} changed"
+    log = found.log()
+    return f"{answered(found, call)} count {len(log)} {words('log', map(found.number, log))} changed"
+
+
+SEARCHES = {"W": sweep, "G": guided}
+
+
+# ---- the scripts
+
+def put(buffer, at, content):
+    if at + len(content) > BUFFER:
+        raise Faulty("the file is too long")
+    buffer[at:at + len(content)] = content
+    return at + len(content)
+
+
+def field(letter, a, b, c):
+    tag, length = {"h": (1, 6), "s": (2, 8), "r": (17, 2), "n": (18, 6)}[letter]
+    body = (a % 65536).to_bytes(2, "little") + (b % 65536).to_bytes(2, "little") + (c % 2**32).to_bytes(4, "little")
+    return bytes([tag]) + length.to_bytes(2, "little") + body[:length]
+
+
+def many(letter, count, b, c, d, e, f):
+    for i in range(count):
+        if letter == "t":
+            start = min(i // b, 254)
+            yield field("s", start, min(start + c + d * (i % b), 255), (e + f * i) % 1000001)
+        else:
+            back = e + f * (i % b)
+            yield field("n", max(1023 - c * (i // b), 0), max(i + 2 - d, 0), max(i + 2 - back, 0))
+
+
+class Player:
+    """The state of a script: three buffers and how many bytes of each count."""
+
+    def __init__(self):
+        self.buffers = {name: bytearray(BUFFER) for name in ("file", "chart", "rules")}
+        self.sizes = dict.fromkeys(self.buffers, 0)
+
+    def content(self, name):
+        return bytes(self.buffers[name][:self.sizes[name]])
+
+    def copy(self, source, target):
+        self.buffers[target][:] = self.buffers[source]
+        self.sizes[target] = self.sizes[source]
+
+    def make(self, letter, numbers):
+        """A command without a label."""
+        file, size = self.buffers["file"], self.sizes["file"]
+        if letter == "b":
+            put(file, numbers[0], bytes([numbers[1]]))
+        elif letter == "k":
+            put(file, numbers[0], b"")
+            self.sizes["file"] = numbers[0]
+        elif letter == "o":
+            self.copy("chart", "file")
+        elif letter in "wv":
+            self.copy("file", {"w": "chart", "v": "rules"}[letter])
+            self.sizes["file"] = 0
+        elif letter in "tm":
+            self.sizes["file"] = put(file, size, b"".join(many(letter, *numbers)))
+        elif letter in "hsrn":
+            self.sizes["file"] = put(file, size, field(letter, *numbers[:3]))
+        elif letter not in " \n":
+            raise Faulty(f"no command {letter}")
+
+    def show(self, letter, numbers):
+        """What a call answers."""
+        file, chart, rules = map(self.content, ("file", "chart", "rules"))
+        self.sizes["file"] = 0
+        try:
+            if letter == "C":
+                c = read_chart(file)
+                return f"stages {c.stages} start {c.start} end {c.end} steps {len(c.steps)}"
+            if letter == "D":
+                d = read_diagram(file, numbers[0])
+                return f"root {d.root} nodes {len(d.nodes)}"
+        except Refused as r:
+            return f"refused {r.number} place {r.place}"
+        if letter == "F":
+            found = refused_field(chart, rules, *numbers[:2])
+            return words(f"bytes {len(found)}", [f"{x:02x}" for x in found])
+        if letter not in SEARCHES:
+            raise Faulty(f"no call {letter}")
+        return SEARCHES[letter](chart, rules, Call(*numbers))
+
+
+def play(text):
+    """The lines that a script's cases write."""
+    player, at = Player(), 0
+    while at < len(text):
+        letter, start = text[at], at
+        at += 1
+        numbers = []
+        for _ in range(6):
+            found = re.compile(r"(\d*)[, ]?").match(text, at)
+            numbers.append(int(found[1] or 0))
+            at = found.end()
+        end = (text + "\n").index("\n", at)
+        try:
+            if letter.isupper():
+                yield f"{text[at:end]} {player.show(letter, numbers)}"
+            elif letter != "#":
+                player.make(letter, numbers)
+        except Faulty as fault:
+            sys.exit(f"{text[start:end]}: {fault}")
+        if letter.isupper() or letter == "#":
+            at = end
+
+
+def scripts():
+    """The scripts in the order in which the program plays them; all of data/."""
+    names = re.findall(r'play\(b"(.*)"\)', (CRATE / "src/main.rt").read_text())
+    if sorted(names) != sorted(f.name for f in (CRATE / "data").iterdir()):
+        sys.exit("crates/vectors/src/main.rt does not play the files of crates/vectors/data")
+    for name in names:
+        text = (CRATE / "data" / name).read_text()
+        if len(text.encode()) > SCRIPT:
+            sys.exit(f"crates/vectors/data/{name} has more than {SCRIPT} bytes")
+        yield text
+
+
+def main():
+    if sys.argv[1:] not in ([], ["--check"]):
+        sys.exit(__doc__)
+    lines = [line for text in scripts() for line in play(text)]
+    stored = CRATE / "stdout"
+    if not sys.argv[1:]:
+        stored.write_text("\n".join(lines) + "\n")
+    old = stored.read_text().splitlines()
+    wrong = [f"line {i}: {b!r} instead of {a!r}" for i, (a, b) in enumerate(zip(lines, old), 1) if a != b]
+    if len(old) != len(lines):
+        wrong.append(f"{len(old)} lines instead of {len(lines)}")
+    print("\n".join(wrong) if wrong else f"{len(lines)} cases: the expected output is as it should be")
+    sys.exit(1 if wrong else 0)
+
+
+if __name__ == "__main__":
+    main()
