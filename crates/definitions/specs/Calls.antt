@@ -7,7 +7,7 @@ use mathlib.Core.List.{List, [], _∷_}
 use mathlib.Core.Option.{some}
 use native.Mathlib.Omega.{arith}
 use lib.Dec.{eqb}
-use lib.ListN.{length, getD}
+use lib.ListN.{getD}
 use Rattle.definitions.specs.Basics.{pick, smaller, larger, sumOf}
 use Rattle.definitions.specs.Fields.{only, fieldAt, onField, scan}
 use Rattle.definitions.specs.Charts.{headFault, readChart}
@@ -15,12 +15,12 @@ use Rattle.definitions.specs.Diagrams.{readDiagram, descend, descendIn, 
 use Rattle.definitions.specs.Ways.{Graph, waysIn, ways, leastWay}
 use Rattle.definitions.specs.Pairs.{Automaton, Estimate, stands, leastCost, reached, goal, reachedPairs, toEnd, sum}
 use Rattle.definitions.specs.Plans.{graph, variable, variableCost, automaton, saysYes, cheapest, chartEstimate, diagramEstimate, estimate}
-use Rattle.definitions.specs.Answers.{ready, readFiles, load, accepted}
-use Rattle.definitions.specs.Promises.{leastCosts, leastCostAt, sumAt, goalAt, Settled, Found, SweepSlices, sweepSlices, sweepLoad, SweepCall, GuidedSlices, guidedSlices, guidedLoad, GuidedCall}
+use Rattle.definitions.specs.Answers.{readFiles, load, accepted}
+use Rattle.definitions.specs.Promises.{leastCosts, leastCostAt, sumAt, goalAt, Settled, Found, sweepSlices, sweepLoad, SweepCall, guidedSlices, guidedLoad, GuidedCall}
 use Rattle.definitions.specs.Marked.{single, leaf}
 use Rattle.definitions.specs.Bytes.{chartBytes, diagramBytes}
 use Rattle.definitions.specs.Examples.{loadRefusal}
-use Rattle.definitions.specs.Logs.{Each, _also_, each, some-same}
+use Rattle.definitions.specs.Logs.{_also_, each, some-same}
 use Rattle.definitions.specs.Slices.{differ}
 
 abbrev chartFile : List ℕ

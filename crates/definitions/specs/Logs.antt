@@ -8,7 +8,7 @@ use mathlib.Core.Logic.{_⊎_, inl, inr}
 use mathlib.Core.Option.{Option, none, some}
 use native.Mathlib.Omega.{arith}
 use lib.Dec.{eqb}
-use lib.ListN.{length, getD}
+use lib.ListN.{getD}
 use Rattle.definitions.specs.Basics.{pick, smaller, larger, sumOf, upto}
 use Rattle.definitions.specs.Diagrams.{descend, descendIn, advance, finish}
 use Rattle.definitions.specs.Ways.{Graph, waysIn, ways, leastWay}

@@ -1,14 +1,13 @@
 -- Answers and lent slices that meet the promises of the searches, and some that do not: a changed slice, a changed entry past what is written, another answer.
 -- Assumes nothing.
 use Prim.Native.Nat.{ℕ}
-use mathlib.Core.Path.{_≡_, refl, sym, _∙_, ap}
-use mathlib.Core.Bool.{Bool, true, false}
+use mathlib.Core.Path.{_≡_, refl, ap}
 use mathlib.Core.List.{List, [], _∷_}
-use mathlib.Core.Option.{Option, none, some}
+use mathlib.Core.Option.{none}
 use native.Mathlib.Omega.{arith}
 use lib.ListN.{length, getD}
 use Rattle.definitions.specs.Basics.{pick, smaller}
-use Rattle.definitions.specs.Diagrams.{descend, descendIn, advance, finish, verdict}
+use Rattle.definitions.specs.Diagrams.{descend, descendIn, advance, verdict}
 use Rattle.definitions.specs.Ways.{waysIn, ways, leastWay}
 use Rattle.definitions.specs.Pairs.{stands, leastCost, reached, reachedPairs}
 use Rattle.definitions.specs.Plans.{variable, saysYes, cheapest}
