@@ -13,3 +13,4 @@ pub mod Marked
 pub mod Logs
 pub mod Slices
 pub mod Corners
+pub mod Calls

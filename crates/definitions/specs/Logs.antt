@@ -8,7 +8,7 @@ use mathlib.Core.Logic.{_⊎_, inl, inr}
 use mathlib.Core.Option.{Option, none, some}
 use native.Mathlib.Omega.{arith}
 use lib.Dec.{eqb}
-use lib.ListN.{length, getD}
+use lib.ListN.{getD}
 use Rattle.definitions.specs.Basics.{pick, smaller, larger, sumOf, upto}
 use Rattle.definitions.specs.Diagrams.{descend, descendIn, advance, finish}
 use Rattle.definitions.specs.Ways.{Graph, waysIn, ways, leastWay}
@@ -80,15 +80,15 @@ goals-hold = refl
 
 -- ---- small laws: each of the first n numbers; options
 
-abbrev Each : ℕ → (ℕ → Type 0) → Type 0
+abbrev pub Each : ℕ → (ℕ → Type 0) → Type 0
 Each zero P = Unit {0}
 Each (suc n) P = P 0 × Each n (λ i. P (suc i))
 
 infixr 4 _also_
-_also_ : {A B : Type 0} → A → B → A × B
+pub _also_ : {A B : Type 0} → A → B → A × B
 x also y = (x, y)
 
-each : (n : ℕ) (P : ℕ → Type 0) → Each n P → (i : ℕ) → i < n → P i
+pub each : (n : ℕ) (P : ℕ → Type 0) → Each n P → (i : ℕ) → i < n → P i
 each zero P t i l = absurd (omega arith)
 each (suc n) P t zero l = t .0
 each (suc n) P t (suc i) l = each n (λ i. P (suc i)) (t .1) i (omega arith)
@@ -96,7 +96,7 @@ each (suc n) P t (suc i) l = each n (λ i. P (suc i)) (t .1) i (omega arith)
 none-some : {x : ℕ} → none ≡ some x → ⊥
 none-some e = let z : _≡_ {A = ℕ} 0 1 = cc in omega arith
 
-some-same : {x y : ℕ} → some x ≡ some y → x ≡ y
+pub some-same : {x y : ℕ} → some x ≡ some y → x ≡ y
 some-same e = cc
 
 pub false-true : false ≡ true → ⊥
@@ -276,3 +276,6 @@ writes-past l = let e = ap (λ (r : List ℕ). getD r 0 0) (l .rest) in omega ar
 
 pub cuts : Logged g a h (some 170) 4 (0 ∷ 0 ∷ 0 ∷ 0 ∷ 9 ∷ []) (3 ∷ 5 ∷ 13 ∷ 17 ∷ []) → ⊥
 cuts l = omega (arith, l .long)
+
+pub no-space : Logged g a h (some 170) 5 (0 ∷ 0 ∷ 0 ∷ 0 ∷ []) good → ⊥
+no-space l = omega (arith, l .fits)

@@ -1,14 +1,13 @@
 -- Answers and lent slices that meet the promises of the searches, and some that do not: a changed slice, a changed entry past what is written, another answer.
 -- Assumes nothing.
 use Prim.Native.Nat.{ℕ}
-use mathlib.Core.Path.{_≡_, refl, sym, _∙_, ap}
-use mathlib.Core.Bool.{Bool, true, false}
+use mathlib.Core.Path.{_≡_, refl, ap}
 use mathlib.Core.List.{List, [], _∷_}
-use mathlib.Core.Option.{Option, none, some}
+use mathlib.Core.Option.{none}
 use native.Mathlib.Omega.{arith}
 use lib.ListN.{length, getD}
 use Rattle.definitions.specs.Basics.{pick, smaller}
-use Rattle.definitions.specs.Diagrams.{descend, descendIn, advance, finish, verdict}
+use Rattle.definitions.specs.Diagrams.{descend, descendIn, advance, verdict}
 use Rattle.definitions.specs.Ways.{waysIn, ways, leastWay}
 use Rattle.definitions.specs.Pairs.{stands, leastCost, reached, reachedPairs}
 use Rattle.definitions.specs.Plans.{variable, saysYes, cheapest}
@@ -19,7 +18,7 @@ use Rattle.definitions.specs.Marked.{chart, rules, single, leaf}
 use Rattle.definitions.specs.Logs.{false-true, good-logged}
 
 -- two lists that differ at a place
-differ : {x y : List ℕ} → x ≡ y → (i : ℕ) → getD x i 0 ≡ getD y i 0
+pub differ : {x y : List ℕ} → x ≡ y → (i : ℕ) → getD x i 0 ≡ getD y i 0
 differ e i = ap (λ (l : List ℕ). getD l i 0) e
 
 -- ---- the answers' fields
@@ -43,7 +42,7 @@ good-planned = record {
 }
 
 -- it does not fit, is not legal, costs another sum, loses an entry, changes a further entry
-pub no-room : Planned chart rules 170 3 (7 ∷ 7 ∷ []) (1 ∷ 3 ∷ 5 ∷ []) → ⊥
+pub no-room : Planned single (leaf 1) 0 1 [] [] → ⊥
 no-room p = omega (arith, p .fits)
 
 pub not-legal : Planned chart rules 120 3 (7 ∷ 7 ∷ 7 ∷ []) (0 ∷ 3 ∷ 5 ∷ []) → ⊥
@@ -97,11 +96,17 @@ sweep-plan-changed s = let e = differ (s .1) 0 in omega arith
 pub sweep-costs-changed : Swept (refused 6 2 14) (7 ∷ []) (7 ∷ []) (5 ∷ []) (6 ∷ []) (refusal 6 2 14 0) → ⊥
 sweep-costs-changed s = let e = differ (s .2) 0 in omega arith
 
-pub sweep-other-place : Swept (refused 6 2 14) (7 ∷ []) (7 ∷ []) (5 ∷ []) (5 ∷ []) (record { number = 6; file = 14; place = 2; cost = 0; length = 0; count = 0 }) → ⊥
-sweep-other-place s = let e = ap (λ (r : Answer). r .file) (s .0) in omega arith
+pub sweep-other-place : Swept (refused 6 2 14) (7 ∷ []) (7 ∷ []) (5 ∷ []) (5 ∷ []) (refusal 6 2 5 0) → ⊥
+sweep-other-place s = let e = ap (λ (r : Answer). r .place) (s .0) in omega arith
+
+pub sweep-exchanged : Swept (refused 6 2 14) (7 ∷ []) (7 ∷ []) (5 ∷ []) (5 ∷ []) (record { number = 6; file = 14; place = 2; cost = 0; length = 0; count = 0 }) → ⊥
+sweep-exchanged s = let e = ap (λ (r : Answer). r .file) (s .0) in omega arith
 
 pub guided-refused : Guided (refused 6 2 14) (7 ∷ []) (7 ∷ []) (5 ∷ []) (5 ∷ []) (record { number = 6; file = 2; place = 14; cost = 0; length = 0; count = 0 })
 guided-refused = (refl, refl, refl)
+
+pub guided-other-number : Guided (refused 6 2 14) (7 ∷ []) (7 ∷ []) (5 ∷ []) (5 ∷ []) (refusal 5 2 14 0) → ⊥
+guided-other-number s = let e = ap (λ (r : Answer). r .number) (s .0) in omega arith
 
 pub guided-plan-changed : Guided (refused 6 2 14) (7 ∷ []) (8 ∷ []) (5 ∷ []) (5 ∷ []) (refusal 6 2 14 0) → ⊥
 guided-plan-changed s = let e = differ (s .1) 0 in omega arith
@@ -127,6 +132,6 @@ pub guided-holds : Guided (ready chart rules) (7 ∷ 7 ∷ 7 ∷ 7 ∷ []) (1 �
 unfolding pick smaller descend descendIn verdict saysYes waysIn ways leastWay cheapest variable
 guided-holds = ((refl, good-planned), good-logged)
 
-pub guided-cost : Guided (ready chart rules) (7 ∷ 7 ∷ 7 ∷ 7 ∷ []) (0 ∷ 2 ∷ 4 ∷ 5 ∷ []) (0 ∷ 0 ∷ 0 ∷ 0 ∷ 9 ∷ []) (3 ∷ 5 ∷ 13 ∷ 17 ∷ 9 ∷ []) (accepted 310 4 4) → ⊥
+pub guided-cost : Guided (ready chart rules) (7 ∷ 7 ∷ 7 ∷ 7 ∷ []) (1 ∷ 3 ∷ 5 ∷ 7 ∷ []) (0 ∷ 0 ∷ 0 ∷ 0 ∷ 9 ∷ []) (3 ∷ 5 ∷ 13 ∷ 17 ∷ 9 ∷ []) (accepted 171 3 4) → ⊥
 unfolding pick smaller descend descendIn verdict saysYes waysIn ways leastWay cheapest variable
 guided-cost s = let e = ap (λ (r : Answer). r .cost) (s .0 .0) in omega arith

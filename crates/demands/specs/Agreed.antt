@@ -7,7 +7,6 @@ use mathlib.Core.Logic.{_⊎_, inl, inr}
 use native.Mathlib.Omega.{arith}
 use Rattle.definitions.specs.Charts.{Chart}
 use Rattle.definitions.specs.Diagrams.{Diagram}
-use Rattle.definitions.specs.declared.Answer.{Answer}
 use Rattle.demands.specs.Demands.{Call, Files, Passes, Refusal, Searched, Agree}
 use Rattle.demands.specs.Checked.{loadOf, Judged, chart-bad, rules-bad, too-short, all-pass, judged, chart-load, rules-load}
 use Rattle.demands.specs.Results.{Promised, Found, Lacks, ends, searched-passes, answer-is, demand-1}

@@ -1,6 +1,6 @@
 -- The list of reached pairs has each reached pair once and nothing else; the cost slice, entry by entry.
 -- Assumes nothing.
-use Prim.Native.Nat.{ℕ, zero, suc, _+_, _/_, _%_, _≤_, _<_}
+use Prim.Native.Nat.{ℕ, zero, suc, _/_, _%_, _≤_, _<_}
 use mathlib.Core.Path.{_≡_, refl, sym, _∙_, ap}
 use mathlib.Core.Bool.{Bool, true, false, cond}
 use mathlib.Core.List.{List, [], _∷_, _++_}
@@ -14,7 +14,7 @@ use Rattle.definitions.specs.Diagrams.{Diagram, size}
 use Rattle.definitions.specs.Pairs.{leastCost, reached, reachedPairs}
 use Rattle.definitions.specs.Plans.{graph, automaton}
 use Rattle.definitions.specs.Promises.{shown, leastCosts}
-use Rattle.theory.specs.Basics.{either, Order, less, same, more, order, in-keep, member-at, at-member, length-map-run, getD-map-upto}
+use Rattle.theory.specs.Basics.{Order, less, same, more, order, in-keep, member-at, at-member, length-map-run, getD-map-upto}
 use Rattle.theory.specs.Limits.{Valid}
 use Rattle.theory.specs.Ways.{Rising}
 use Rattle.theory.specs.Pairs.{cost-reached, reachedPairs-in}

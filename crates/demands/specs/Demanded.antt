@@ -1,7 +1,7 @@
 -- The demands follow from what the two calls promise, and from nothing else.
 -- Assumes nothing.
 use Prim.Native.Nat.{ℕ, zero, suc, _≤_}
-use mathlib.Core.Path.{_≡_, refl, sym, _∙_, ap, ap₂, subst}
+use mathlib.Core.Path.{_≡_, refl, _∙_, ap, ap₂, subst}
 use mathlib.Core.List.{List, [], _∷_}
 use mathlib.Core.Option.{Option, none, some}
 use native.Mathlib.Omega.{arith}
@@ -10,11 +10,11 @@ use Rattle.definitions.specs.Charts.{Chart}
 use Rattle.definitions.specs.Diagrams.{Diagram}
 use Rattle.definitions.specs.Pairs.{reachedPairs}
 use Rattle.definitions.specs.Plans.{graph, automaton, cheapest}
-use Rattle.definitions.specs.Answers.{Load, ready, refused, workNeed}
+use Rattle.definitions.specs.Answers.{Load, ready, refused}
 use Rattle.definitions.specs.Promises.{Outcome, Scratch, Swept, Guided, SweepSlices, GuidedSlices, sweepLoad, guidedLoad, SweepCall, GuidedCall}
 use Rattle.definitions.specs.declared.Answer.{Answer}
 use Rattle.theory.specs.Limits.{Valid}
-use Rattle.demands.specs.Demands.{Call, sweepCall, guidedCall, need, Passes, StaysFrom, Searched, Sweeps, Settles, Demand3, Demands}
+use Rattle.demands.specs.Demands.{Call, sweepCall, guidedCall, need, Passes, StaysFrom, Searched, Sweeps, Settles, Demands}
 use Rattle.demands.specs.Checked.{loadOf, passes-ready, ready-passes, valid}
 use Rattle.demands.specs.Counted.{pairs-all, pairs-only, pairs-once, cost-least, cost-unreached, cost-past}
 use Rattle.demands.specs.Results.{Promised, demand-1, demand-2, is-cheapest}

@@ -63,7 +63,7 @@ pub record Passes (chart rules : List ℕ) (x : Call) (c : Chart) (d : Diagram) 
   pub files : Files chart rules c d
   pub space : Space x c d
 
--- ---- demand 1: whoever hands in a chart, a diagram and work space, sound or broken, gets a plan (0) or the one refusal; a refused call leaves the plan slice
+-- ---- demand 1: every call answers with a plan (0) or with the one refusal that its files and slices call for, and a refusal leaves the plan slice
 
 -- the answer of a refusal, with its number, file and place and its count
 pub record Refusal (n f p k : ℕ) (r : Answer) : Type 0 where
@@ -82,7 +82,8 @@ pub record StaysFrom (n : ℕ) (slice slice′ : List ℕ) : Type 0 where
 pub record Demand1 (chart rules : List ℕ) (x : Call) : Type 0 where
   -- the chart before the diagram, both before the space
   pub chart-refused : (readChart chart .number ≡ 0 → ⊥) → Refusal (readChart chart .number) 1 (readChart chart .place) 0 (x .answer)
-  pub rules-refused : readChart chart .number ≡ 0 → (rulesRead chart rules .number ≡ 0 → ⊥) → Refusal (rulesRead chart rules .number) 2 (rulesRead chart rules .place) 0 (x .answer)
+  pub rules-refused : readChart chart .number ≡ 0 → (rulesRead chart rules .number ≡ 0 → ⊥)
+      → Refusal (rulesRead chart rules .number) 2 (rulesRead chart rules .place) 0 (x .answer)
   pub space-refused : (c : Chart) (d : Diagram) → Files chart rules c d → (Space x c d → ⊥) → Refusal 7 0 0 0 (x .answer)
   -- where all checks pass: a plan, or 8
   pub passed : (c : Chart) (d : Diagram) → Passes chart rules x c d → (x .answer .number ≡ 0) ⊎ (x .answer .number ≡ 8)
@@ -91,7 +92,7 @@ pub record Demand1 (chart rules : List ℕ) (x : Call) : Type 0 where
   pub works-stay : (x .answer .number ≡ 0 → ⊥) → (x .answer .number ≡ 8 → ⊥) → x .works′ ≡ x .works
   pub past-stays : (c : Chart) (d : Diagram) → Passes chart rules x c d → (i : ℕ) → StaysFrom (need c d) (getD (x .works) i []) (getD (x .works′) i [])
 
--- ---- demand 2: a plan given back is a legal plan of that chart and its cost is the sum of its steps; 8 exactly where all checks pass and there is none
+-- ---- demand 2: what stands in the plan slice is a legal plan that costs the sum of its steps; 8 comes exactly where all checks pass and no plan is legal
 
 -- the plan slice holds the steps of a legal plan in order, its further entries stay
 pub record Given (x : Call) (c : Chart) (d : Diagram) : Type 0 where
@@ -112,7 +113,7 @@ pub record Demand2 (chart rules : List ℕ) (x : Call) : Type 0 where
   pub exactly : (x .answer .number ≡ 8) ↔ ((c : Chart) × (d : Diagram) × Passes chart rules x c d × NoPlan c d)
   pub eight : x .answer .number ≡ 8 → Refusal 8 0 0 (x .answer .count) (x .answer)
 
--- ---- demand 3: sweep and guided search agree
+-- ---- demand 3: both searches agree, on a cheapest plan; what the sweep's cost slice and the guided search's log hold, and what they count
 
 -- a legal plan is given where one exists, and none costs less
 abbrev pub Cheapest : Chart → Diagram → Answer → Type 0

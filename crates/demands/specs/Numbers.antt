@@ -1,16 +1,15 @@
 -- The numbers that the readers refuse a file with are 1 to 6: never 7 or 8.
 -- Assumes nothing.
 use Prim.Native.Nat.{ℕ, zero, suc, _+_, _-_, _≤_}
-use mathlib.Core.Path.{_≡_}
 use mathlib.Core.Bool.{not}
 use mathlib.Core.List.{List, [], _∷_, _++_}
 use native.Mathlib.Omega.{arith}
-use lib.Dec.{leb, ltb, eqb}
+use lib.Dec.{leb, eqb}
 use lib.ListN.{length, getD}
 use Rattle.definitions.specs.Basics.{pick}
 use Rattle.definitions.specs.Fields.{two, part, Kind, isPassedOver, only, fieldAt, onField, Grammar, Scan, stopped, scan}
 use Rattle.definitions.specs.Charts.{ChartRead, headFault, stepFault, lastFrom, badHead, withSteps, stepGrammar, scanSteps, readChart}
-use Rattle.definitions.specs.Diagrams.{InnerNode, noNode, childFits, nodeFault, DiagramRead, diagramRead, withNodes, nodeGrammar, scanNodes, readDiagram}
+use Rattle.definitions.specs.Diagrams.{InnerNode, noNode, nodeFault, DiagramRead, diagramRead, withNodes, nodeGrammar, scanNodes, readDiagram}
 use Rattle.definitions.specs.declared.Field.{Field}
 use Rattle.definitions.specs.declared.Field.the-variants.{Absent, Faulty, Whole}
 use Rattle.fields.specs.Choices.{both}

@@ -1,13 +1,12 @@
 -- Reached pairs, sums, goal pairs and steps between them: what the promises compute (`leastCost`, `sum`, `goal`) says what the demands say over ways.
 -- Assumes nothing.
-use Prim.Native.Nat.{ℕ, suc, _+_, _*_, _/_, _%_, _≤_, _<_}
+use Prim.Native.Nat.{ℕ, _+_, _/_, _%_, _<_}
 use mathlib.Core.Path.{_≡_, refl, sym, _∙_, ap}
-use mathlib.Core.Bool.{true, false}
+use mathlib.Core.Bool.{true}
 use mathlib.Core.List.{List}
 use mathlib.Core.Option.{Option, none, some}
 use native.Mathlib.Omega.{arith}
 use native.Mathlib.Nat.{div-lt-iff-lt-mul}
-use lib.Dec.{eqb}
 use borrow.Author.Tests.{eqb-true, eq-eqb}
 use Rattle.definitions.specs.Basics.{isSome}
 use Rattle.definitions.specs.Charts.{Chart}
@@ -16,7 +15,7 @@ use Rattle.definitions.specs.Ways.{wayCost}
 use Rattle.definitions.specs.Pairs.{leastCost, reached, goal}
 use Rattle.definitions.specs.Plans.{graph, automaton, estimate}
 use Rattle.definitions.specs.Promises as promises
-use Rattle.definitions.specs.Promises.{leastCostAt, sumAt, goalAt}
+use Rattle.definitions.specs.Promises.{sumAt, goalAt}
 use Rattle.theory.specs.Basics.{at-most, true-not-false}
 use Rattle.theory.specs.Least.{least-unique}
 use Rattle.theory.specs.Limits.{Valid}

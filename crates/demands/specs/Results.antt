@@ -2,7 +2,7 @@
 -- Assumes nothing.
 use Prim.Native.Nat.{ℕ, _≤_}
 use mathlib.Core.Path.{_≡_, refl, sym, _∙_, ap, subst}
-use mathlib.Core.List.{List, [], _∷_, _++_}
+use mathlib.Core.List.{List, [], _++_}
 use mathlib.Core.Logic.{_⊎_, inl, inr}
 use mathlib.Core.Option.{Option, none, some}
 use native.Mathlib.Omega.{arith}
@@ -16,9 +16,8 @@ use Rattle.definitions.specs.Promises.{Planned, Outcome}
 use Rattle.definitions.specs.declared.Answer.{Answer}
 use Rattle.theory.specs.Basics.{either}
 use Rattle.theory.specs.Least.{IsLeast}
-use Rattle.theory.specs.Limits.{Valid}
 use Rattle.theory.specs.Plans.{LegalCost, cheapest-least}
-use Rattle.demands.specs.Demands.{Call, rulesRead, Files, need, Passes, Refusal, StaysFrom, Demand1, Given, NoPlan, Demand2, Cheapest, Searched}
+use Rattle.demands.specs.Demands.{Call, need, Passes, Refusal, StaysFrom, Demand1, Given, NoPlan, Demand2, Cheapest, Searched}
 use Rattle.demands.specs.Numbers.{chart-few, rules-few}
 use Rattle.demands.specs.Checked.{loadOf, Judged, chart-bad, rules-bad, too-short, all-pass, judged, chart-load, rules-load, space-load, passes-ready, valid}
 

@@ -2,7 +2,6 @@
 -- Assumes nothing.
 use Prim.Native.Nat.{ℕ, suc, _+_, _-_, _≤_, _<_}
 use mathlib.Core.Path.{_≡_, refl, sym, _∙_, ap, subst}
-use mathlib.Core.Bool.{Bool}
 use mathlib.Core.List.{List}
 use mathlib.Core.Option.{Option, none, some}
 use native.Mathlib.Omega.{arith}
@@ -14,7 +13,7 @@ use Rattle.definitions.specs.Charts.{Chart}
 use Rattle.definitions.specs.Diagrams.{Diagram}
 use Rattle.definitions.specs.Plans.{graph, automaton, estimate, cheapest}
 use Rattle.definitions.specs.Promises as promises
-use Rattle.definitions.specs.Promises.{Outcome, leastCostAt, sumAt, goalAt, Settled, Complete, Ended, Logged}
+use Rattle.definitions.specs.Promises.{Outcome, leastCostAt, sumAt, goalAt, Complete, Ended, Logged}
 use Rattle.definitions.specs.declared.Answer.{Answer}
 use Rattle.theory.specs.Basics.{Order, less, same, more, order, member-at}
 use Rattle.theory.specs.Limits.{Valid}
