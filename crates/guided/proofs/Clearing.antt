@@ -61,7 +61,7 @@ module _ {z : Shape} {on : Walk} (ready : Ready z on) {last : ℕ} (inside : las
   row-first : getD (on .row) (z .start .0) 0 ≡ z .start .0 * (z .nodes + 2)
   row-first = row-start z on ready (z .start .0) (ready .tables .valid .start-inside)
 
-  pub rows-ordered : z .start .0 ≤ last → getD (on .row) (z .start .0) 0 ≤ getD (on .row) last 0 + (z .nodes + 2)
+  pub rows-ordered : z .start .0 ≤ last → getD (on .row) (z .start .0) 0 ≤ getD (on .row) last 0
   rows-ordered h = let x = mul-le-mul-right (z .nodes + 2) h in omega (arith, row-first, row-last)
 
   pub rows-inside : getD (on .row) last 0 + (z .nodes + 2) ≤ pairsIn z

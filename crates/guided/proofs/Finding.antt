@@ -77,7 +77,7 @@ module _ {z : Shape} {t : Read} (in-tables : Tables z t) {byStage byNode : List 
 
     -- what clearing asks
     pub clears : ((z .start .0 < 256) × (z .end .0 < 256))
-        × ((getD row (z .start .0) 0 ≤ getD row (z .end .0) 0 + (z .nodes + 2)) × (getD row (z .end .0) 0 + (z .nodes + 2) ≤ length (x .keys)))
+        × ((getD row (z .start .0) 0 ≤ getD row (z .end .0) 0) × (getD row (z .end .0) 0 + (z .nodes + 2) ≤ length (x .keys)))
     clears = (
       (run-root in-tables .0, omega (arith, in-tables .valid .end-inside, run-narrow in-tables)),
       (

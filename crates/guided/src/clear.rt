@@ -23,8 +23,8 @@ fn clear_keys(keys: &mut [u32], first: usize, until: usize)
 pub fn clear_rows(keys: &mut [u32], row: &[u32; 256], width: usize, first: Stage, last: Stage)
     requires { ⌜ (first .0 < 256) × (last .0 < 256) ⌝ }
     requires { ⌜
-        (let until = getD (now row) (last .0) 0 + width in
-        (getD (now row) (first .0) 0 ≤ until) × (until ≤ length (now keys)))
+        (let end = getD (now row) (last .0) 0 in
+        (getD (now row) (first .0) 0 ≤ end) × (end + width ≤ length (now keys)))
         ⌝ }
     ensures { λ _. ⌜
         (let starts = now (row .entry) in

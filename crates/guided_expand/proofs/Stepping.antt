@@ -24,7 +24,7 @@ use Rattle.guided_expand.specs.Estimates.{Estimates, paired}
 use Rattle.guided_expand.specs.Work.{Work, marksIn, kept-same, Offering, Relaxes}
 use Rattle.guided_expand.specs.Opening.{Opened, tablesOf, Leading}
 
-module _ {steps : Steps} {row : List ℕ} {t : Estimates} {n base p e to : ℕ} {x : Work} {c : Counts} (l : Leading steps row t n base p e to x c) where
+module _ {steps : Steps} {row : List ℕ} {t : Estimates} {n spent p e to : ℕ} {x : Work} {c : Counts} (l : Leading steps row t n spent p e to x c) where
   abbrev z : Shape
   z = l .z
 
@@ -80,9 +80,9 @@ module _ {steps : Steps} {row : List ℕ} {t : Estimates} {n base p e to : ℕ} 
     shown-is : rest ≡ shown (h (g .to e) (a .next e n))
     shown-is = er ∙ l .by .holds (getD (steps .to) e 0) to stage-small (omega (arith, l .enters, next-inside, width)) ∙ ap shown (ap₂ h to-stage (l .enters))
 
-    pub leads-none : rest ≡ unopened → Opened (l .by) (l .s) n base p e (e + 1) x c x c
+    pub leads-none : rest ≡ unopened → Opened (l .by) (l .s) n spent p e (e + 1) x c x c
     leads-none q = record {
-      expanded = step-none g a h (l .s) n base e (marksIn x c) (estimate-none (l .by .guide) (g .to e) (a .next e n) rest next-inside shown-is q);
+      expanded = step-none g a h (l .s) n spent e (marksIn x c) (estimate-none (l .by .guide) (g .to e) (a .next e n) rest next-inside shown-is q);
       kept = kept-same (l .opens .queue);
     }
 
@@ -90,14 +90,14 @@ module _ {steps : Steps} {row : List ℕ} {t : Estimates} {n base p e to : ℕ} 
       has : h (g .to e) (a .next e n) ≡ some rest
       has = estimate-some (l .by .guide) (g .to e) (a .next e n) rest shown-is q
 
-      pub leads-fit : base + getD (steps .cost) e 0 + rest ≤ 2820000000
+      pub leads-fit : spent + getD (steps .cost) e 0 + rest ≤ 2820000000
       leads-fit =
           omega (arith, l .opens .settling .cheap, cost-is, step-cheap g (tables .valid) e exists, l .by .guide .bounded (g .to e) (a .next e n) rest next-inside has)
 
-      leads : Target (l .by .guide) (c .floor) (pair a (g .to e) (a .next e n)) (base + g .cost e + rest)
-      leads = target (l .by .guide) (l .s) n base (c .floor) e rest (l .opens .settling) exists (l .leaves) has
+      leads : Target (l .by .guide) (c .floor) (pair a (g .to e) (a .next e n)) (spent + g .cost e + rest)
+      leads = target (l .by .guide) (l .s) n spent (c .floor) e rest (l .opens .settling) exists (l .leaves) has
 
-      module _ (y v : ℕ) (ey : y ≡ getD row (getD (steps .to) e 0) 0 + to) (ev : v ≡ base + getD (steps .cost) e 0 + rest) where
+      module _ (y v : ℕ) (ey : y ≡ getD row (getD (steps .to) e 0) 0 + to) (ev : v ≡ spent + getD (steps .cost) e 0 + rest) where
         row-is : getD row (getD (steps .to) e 0) 0 ≡ g .to e * a .size
         row-is =
             ap (λ (k : ℕ). getD row k 0) to-stage ∙ row-start z on (l .by .ready) (g .to e) stage-inside
@@ -106,7 +106,7 @@ module _ {steps : Steps} {row : List ℕ} {t : Estimates} {n base p e to : ℕ} 
         pair-is : y ≡ pair a (g .to e) (a .next e n)
         pair-is = omega (arith, row-is, l .enters)
 
-        key-is : v ≡ base + g .cost e + rest
+        key-is : v ≡ spent + g .cost e + rest
         key-is = omega (arith, cost-is)
 
         pub leads-ask : Offering p y v x c
@@ -122,8 +122,8 @@ module _ {steps : Steps} {row : List ℕ} {t : Estimates} {n base p e to : ℕ} 
               offerable = offerable g a h (marksIn x c) (c .floor) y v (l .opens .frontier) (rw pair-is (leads .may-open)) above;
             }
 
-        pub leads-some : {mark : ℕ} {x′ : Work} {c′ : Counts} → mark ≡ packed e n → Relaxes p y v mark x c x′ c′ → Opened (l .by) (l .s) n base p e (e + 1) x c x′ c′
+        pub leads-some : {mark : ℕ} {x′ : Work} {c′ : Counts} → mark ≡ packed e n → Relaxes p y v mark x c x′ c′ → Opened (l .by) (l .s) n spent p e (e + 1) x c x′ c′
         leads-some {mark} {x′} {c′} em r = record {
-          expanded = step-relaxed g a h (l .s) n base e rest y v mark (marksIn x c) (marksIn x′ c′) exists (l .leaves) has pair-is key-is em (r .relaxed);
+          expanded = step-relaxed g a h (l .s) n spent e rest y v mark (marksIn x c) (marksIn x′ c′) exists (l .leaves) has pair-is key-is em (r .relaxed);
           kept = r .kept;
         }

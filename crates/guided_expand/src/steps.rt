@@ -30,7 +30,7 @@ pub struct Pair {
     pub node: Node,
 }
 
-// Offers step e, which leaves a pair of node n and the cost `base` and leads to node t.
+// Offers step e, which leaves a pair of node n and the cost `spent` and leads to node t.
 fn offer<'a>(
     keys: &mut [u32],
     via: &mut [u32],
@@ -44,21 +44,21 @@ fn offer<'a>(
     by_stage: &'a [u32; 256],
     by_node: &'a [u32; 512],
     n: Node,
-    base: u32,
+    spent: u32,
     e: Step,
     t: Node,
 ) -> Counts
     requires { ⌜
         (let before = work (now keys) (now via) (now heap) (now pos) (now stack) in
         let estimated = estimates (now «by_stage») (now «by_node») in
-        Leading (stepsIn (now steps)) (now row) estimated (n .0) base p (e .0) (t .0) before counts)
+        Leading (stepsIn (now steps)) (now row) estimated (n .0) spent p (e .0) (t .0) before counts)
         ⌝ }
     ensures { λ r. ⌜
         (let before = work (now (keys .entry)) (now (via .entry)) (now (heap .entry)) (now (pos .entry)) (now (stack .entry)) in
         let after = work (now (keys .exit)) (now (via .exit)) (now (heap .exit)) (now (pos .exit)) (now (stack .exit)) in
         let estimated = estimates (now («by_stage» .entry)) (now («by_node» .entry)) in
-        (x : Leading (stepsIn (now (steps .entry))) (now (row .entry)) estimated (n .0) base p (e .0) (t .0) before counts)
-        → Opened (x .by) (x .s) (n .0) base p (e .0) (e .0 + 1) before counts after r)
+        (x : Leading (stepsIn (now (steps .entry))) (now (row .entry)) estimated (n .0) spent p (e .0) (t .0) before counts)
+        → Opened (x .by) (x .s) (n .0) spent p (e .0) (e .0 + 1) before counts after r)
         ⌝ }
 {
     let i = e.0 as usize;
@@ -69,11 +69,11 @@ fn offer<'a>(
         return counts;
     }
     let y = pair_at(row, stage, t);
-    let v = base + steps[COST][i] + rest;
+    let v = spent + steps[COST][i] + rest;
     relax(keys, via, heap, pos, stack, p, counts, y, v, packed(e, n))
 }
 
-// Offers the steps that leave the pair `at`, of the cost `base`. Its node is lowered from one step to the next; once it is
+// Offers the steps that leave the pair `at`, of the cost `spent`. Its node is lowered from one step to the next; once it is
 // 0, no further step leads to a pair.
 pub fn settle<'a>(
     keys: &mut [u32],
@@ -90,13 +90,13 @@ pub fn settle<'a>(
     by_stage: &'a [u32; 256],
     by_node: &'a [u32; 512],
     at: Pair,
-    base: u32,
+    spent: u32,
 ) -> Counts
     requires { ⌜
         (let before = work (now keys) (now via) (now heap) (now pos) (now stack) in
         let on = walk (read (now steps) (now inner)) (now first) (now row) in
         let estimated = estimates (now «by_stage») (now «by_node») in
-        Opening on estimated (at .stage .0) (at .node .0) base p before counts)
+        Opening on estimated (at .stage .0) (at .node .0) spent p before counts)
         ⌝ }
     ensures { λ r. ⌜
         (let before = work (now (keys .entry)) (now (via .entry)) (now (heap .entry)) (now (pos .entry)) (now (stack .entry)) in
@@ -104,8 +104,8 @@ pub fn settle<'a>(
         let on = walk (read (now (steps .entry)) (now (inner .entry))) (now (first .entry)) (now (row .entry)) in
         let estimated = estimates (now («by_stage» .entry)) (now («by_node» .entry)) in
         let s = at .stage .0 in
-        (x : Opening on estimated s (at .node .0) base p before counts)
-        → Opened (x .by) s (at .node .0) base p (getD (on .first) s 0) (getD (on .first) (s + 1) 0) before counts after r)
+        (x : Opening on estimated s (at .node .0) spent p before counts)
+        → Opened (x .by) s (at .node .0) spent p (getD (on .first) s 0) (getD (on .first) (s + 1) 0) before counts after r)
         ⌝ }
 {
     let s = at.stage.0 as usize;
@@ -134,7 +134,7 @@ pub fn settle<'a>(
             by_stage,
             by_node,
             n,
-            base,
+            spent,
             key,
             t,
         );

@@ -142,8 +142,8 @@ module _ {z : Shape} {on : Walk} {t : Estimates} {yes-at : List Bool} (prepared 
         pub turn-estimate : r ≤ c′ .floor
         turn-estimate = omega (arith, settles .0, k .new-floor)
 
-        base-is : c′ .floor - r ≡ costSoFar (g by) (a by) h (x .keys) y
-        base-is = ap (λ (i : ℕ). i - r) (k .new-floor) ∙ settles .1
+        spent-is : c′ .floor - r ≡ costSoFar (g by) (a by) h (x .keys) y
+        spent-is = ap (λ (i : ℕ). i - r) (k .new-floor) ∙ settles .1
 
         -- the steps from it can be offered
         pub turn-opens : Opens (prepared .by) s n (c′ .floor - r) (pairsIn z) x′ c′
@@ -169,7 +169,7 @@ module _ {z : Shape} {on : Walk} {t : Estimates} {yes-at : List Bool} (prepared 
                 goal = λ i. rw (nn, ec, ek)
                     (running-goal C D (sound by) (by .guide) (w .running) smallest s n (c′ .floor - r) (on .read .steps .from)
                     (λ f j. from-at z (on .read) (tables by) f (omega (arith, count-is z (on .read) (tables by))))
-                    turn-located (eqb-true s (z .end .0) (v .0)) (sym (prepared .accepts n (turn-located .node)) ∙ v .1) base-is);
+                    turn-located (eqb-true s (z .end .0) (v .0)) (sym (prepared .accepts n (turn-located .node)) ∙ v .1) spent-is);
                 no-goal = λ i. absurd (true-not-false (sym ef ∙ i));
                 past = past-more (w .past) taken-past;
               }
@@ -194,7 +194,7 @@ module _ {z : Shape} {on : Walk} {t : Estimates} {yes-at : List Bool} (prepared 
             fits = omega (arith, w .fits);
             running = subst (λ (f : ℕ). Running C D h (marksIn x″ c″) log₀ (set log count y) (count + 1) f) (sym (o .kept .same-floor ∙ k .new-floor))
                 (running-turn C D (sound by) (by .guide) (w .running) smallest others s n (c′ .floor - r) (getD (on .first) s 0) (getD (on .first) (s + 1) 0)
-                turn-located base-is (λ e i f. first-all z on (by .ready) s e (turn-located .stage) i f) (o .expanded) (no-goal q));
+                turn-located spent-is (λ e i f. first-all z on (by .ready) s e (turn-located .stage) i f) (o .expanded) (no-goal q));
             past = past-more (w .past) (record {
               keys-past = o .kept .past .keys-past;
               via-past = o .kept .past .via-past;

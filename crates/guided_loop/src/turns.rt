@@ -69,11 +69,11 @@ fn settle_open<'a>(
         count += 1;
         let at = pair_of(via, &steps[TO], row, begin, z.start, x);
         let sum = next.counts.floor;
-        let base = sum - pair_estimate(by_stage, by_node, at.stage, at.node);
+        let spent = sum - pair_estimate(by_stage, by_node, at.stage, at.node);
         if is_goal(yes, z.end, at) {
             found = true;
             node = at.node;
-            cost = base;
+            cost = spent;
             break 'search;
         }
         counts = settle(
@@ -91,7 +91,7 @@ fn settle_open<'a>(
             by_stage,
             by_node,
             at,
-            base,
+            spent,
         );
     }
     Ended {

@@ -131,13 +131,13 @@ module _ (c : Chart) (d : Diagram) (s : Sound (length (c .steps)) d) {h : Estima
     next-log = take-next log count x (omega (arith, running-room, r .fits))
 
     -- a turn
-    pub running-turn : {rest : ℕ → Type 0} → Without now x rest → (t n base first until : ℕ) → Located g a x t n → base ≡ costSoFar g a h (now .keys) x
+    pub running-turn : {rest : ℕ → Type 0} → Without now x rest → (t n spent first until : ℕ) → Located g a x t n → spent ≡ costSoFar g a h (now .keys) x
         → ((e : ℕ) → e < g .count → g .from e ≡ t → (first ≤ e) × (e < until))
-        → {after : Marks} → Expanded g a h t n base first until (without now rest) after
+        → {after : Marks} → Expanded g a h t n spent first until (without now rest) after
         → goalAt g a h x ≡ false → Running c d h after log₀ (set log count x) (count + 1) (getD (now .keys) x 0)
-    running-turn others t n base first until p b all {after} m q = record {
+    running-turn others t n spent first until p b all {after} m q = record {
       searching = subst (λ (z : List ℕ). Searching g a h after z (getD (now .keys) x 0)) (sym next-log)
-          (search-turn u (r .searching) o others t n base (p .node) (p .is) b (m .moved) (λ e i f. let w = all e i f in m .offered e (w .0) (w .1)) q);
+          (search-turn u (r .searching) o others t n spent (p .node) (p .is) b (m .moved) (λ e i f. let w = all e i f in m .offered e (w .0) (w .1)) q);
       few = omega (arith, running-room);
       fits = omega (arith, r .fits, length-set log count x);
       long = length-set log count x ∙ r .long;

@@ -93,8 +93,8 @@ module _ (g : Graph) (a : Automaton) (h : Estimate) where
     inside = λ l i. either (f .covered y r i) (λ o. o) (λ c. absurd (omega arith));
   }
 
-  -- from the pair of stage s and node n, of cost so far `base`
-  module _ (s n base : ℕ) where
+  -- from the pair of stage s and node n, of cost so far `spent`
+  module _ (s n spent : ℕ) where
     -- pair k fell by a step
     pub record FellBy (now after : Marks) (k : ℕ) : Type 0 where
       pub step : ℕ
@@ -103,14 +103,14 @@ module _ (g : Graph) (a : Automaton) (h : Estimate) where
       pub leaves : g .from step ≡ s
       pub enters : k ≡ pair a (g .to step) (a .next step n)
       pub has : h (g .to step) (a .next step n) ≡ some rest
-      pub fell : Fell (base + g .cost step + rest) (packed step n) now after k
+      pub fell : Fell (spent + g .cost step + rest) (packed step n) now after k
 
     abbrev pub Moved : Marks → Marks → Type 0
     Moved now after = (k : ℕ) → Stayed now after k ⊎ FellBy now after k
 
     -- the step e has been offered: what it leads to, if it has an estimate, has at most the key that the step offers
     abbrev pub Offered : List ℕ → ℕ → Type 0
-    Offered keys e = (rest : ℕ) → h (g .to e) (a .next e n) ≡ some rest → getD keys (pair a (g .to e) (a .next e n)) 0 ≤ base + g .cost e + rest
+    Offered keys e = (rest : ℕ) → h (g .to e) (a .next e n) ≡ some rest → getD keys (pair a (g .to e) (a .next e n)) 0 ≤ spent + g .cost e + rest
 
     -- what relaxing the steps from `first` to before `until` leaves
     pub record Expanded (first until : ℕ) (now after : Marks) : Type 0 where
@@ -135,7 +135,7 @@ module _ (g : Graph) (a : Automaton) (h : Estimate) where
           leaves = f .leaves;
           enters = f .enters;
           has = f .has;
-          fell = deeper (base + g .cost (f .step) + f .rest) (packed (f .step) n) le (f .fell);
+          fell = deeper (spent + g .cost (f .step) + f .rest) (packed (f .step) n) le (f .fell);
         }
 
         go : Stayed now after k ⊎ FellBy now after k → Stayed after later k ⊎ FellBy after later k
@@ -181,7 +181,7 @@ module _ (g : Graph) (a : Automaton) (h : Estimate) where
 
     -- an edge is a step
     moved-step : (e rest y v mark : ℕ) (now after : Marks)
-        → e < g .count → g .from e ≡ s → h (g .to e) (a .next e n) ≡ some rest → y ≡ pair a (g .to e) (a .next e n) → v ≡ base + g .cost e + rest → mark ≡ packed e n
+        → e < g .count → g .from e ≡ s → h (g .to e) (a .next e n) ≡ some rest → y ≡ pair a (g .to e) (a .next e n) → v ≡ spent + g .cost e + rest → mark ≡ packed e n
         → Relaxed y v mark now after → Moved now after
     moved-step e rest y v mark now after i l has ey ev em x k =
         either (same-or-not k y) (λ q. rw q (either (x .at-target) (λ t. inl t) (λ t. inr (by t)))) (λ q. inl (x .at-others k q))
@@ -207,7 +207,7 @@ module _ (g : Graph) (a : Automaton) (h : Estimate) where
 
     -- or it has one
     pub step-relaxed : (e rest y v mark : ℕ) (now after : Marks)
-        → e < g .count → g .from e ≡ s → h (g .to e) (a .next e n) ≡ some rest → y ≡ pair a (g .to e) (a .next e n) → v ≡ base + g .cost e + rest → mark ≡ packed e n
+        → e < g .count → g .from e ≡ s → h (g .to e) (a .next e n) ≡ some rest → y ≡ pair a (g .to e) (a .next e n) → v ≡ spent + g .cost e + rest → mark ≡ packed e n
         → Relaxed y v mark now after → Expanded e (e + 1) now after
     step-relaxed e rest y v mark now after i l has ey ev em r = record {
       moved = moved-step e rest y v mark now after i l has ey ev em r;

@@ -27,15 +27,15 @@ pub record Located (g : Graph) (a : Automaton) (x t n : ℕ) : Type 0 where
   pub node : n < a .size
   pub is : x ≡ pair a t n
 
--- what settling the pair of stage t and node n, of the cost `base` and the key `floor`, rests on
-pub record Settling (g : Graph) (a : Automaton) (h : Estimate) (t n base floor : ℕ) : Type 0 where
+-- what settling the pair of stage t and node n, of the cost `spent` and the key `floor`, rests on
+pub record Settling (g : Graph) (a : Automaton) (h : Estimate) (t n spent floor : ℕ) : Type 0 where
   pub stage : t < g .stages
   pub late : g .start ≤ t
   pub node : n < a .size
   pub rest : ℕ
   pub has : h t n ≡ some rest
-  pub sums : floor ≡ base + rest
-  pub cheap : base ≤ 510000000
+  pub sums : floor ≡ spent + rest
+  pub cheap : spent ≤ 510000000
 
 -- a pair of another stage than the end, or of a node that does not accept, is no goal pair
 module _ (g : Graph) (a : Automaton) (h : Estimate) (x t n : ℕ) (p : Located g a x t n) where
@@ -61,9 +61,9 @@ module _ {g : Graph} {a : Automaton} {h : Estimate} (u : Guide g a h) where
     pub above : floor ≤ k
     pub low : k < unopened
 
-  pub target : (t n base floor e rest : ℕ) → Settling g a h t n base floor → e < g .count → g .from e ≡ t → h (g .to e) (a .next e n) ≡ some rest
-      → Target floor (pair a (g .to e) (a .next e n)) (base + g .cost e + rest)
-  target t n base floor e rest s i f q =
+  pub target : (t n spent floor e rest : ℕ) → Settling g a h t n spent floor → e < g .count → g .from e ≡ t → h (g .to e) (a .next e n) ≡ some rest
+      → Target floor (pair a (g .to e) (a .next e n)) (spent + g .cost e + rest)
+  target t n spent floor e rest s i f q =
       let j = u .lawful .next-inside e n i (s .node) in
       record {
         pair-inside = pair-inside g a (g .to e) (a .next e n) (u .valid .inside e i) j;

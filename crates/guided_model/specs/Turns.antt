@@ -61,9 +61,9 @@ module _ {g : Graph} {a : Automaton} {h : Estimate} (u : Guide g a h) where
   module _ {now : Marks} {log : List ℕ} {floor : ℕ} (s : Searching g a h now log floor)
       {x : ℕ} (o : Smallest now x)
       {rest : ℕ → Type 0} (others : Without now x rest)
-      (t n base : ℕ) (inside : n < a .size) (is : x ≡ pair a t n) (costs : base ≡ costSoFar g a h (now .keys) x)
-      {after : Marks} (moved : Moved g a h t n base (without now rest) after)
-      (offered : (e : ℕ) → e < g .count → g .from e ≡ t → Offered g a h t n base (after .keys) e) where
+      (t n spent : ℕ) (inside : n < a .size) (is : x ≡ pair a t n) (costs : spent ≡ costSoFar g a h (now .keys) x)
+      {after : Marks} (moved : Moved g a h t n spent (without now rest) after)
+      (offered : (e : ℕ) → e < g .count → g .from e ≡ t → Offered g a h t n spent (after .keys) e) where
     abbrev cost : ℕ → ℕ
     cost p = costSoFar g a h (now .keys) p
 
@@ -83,7 +83,7 @@ module _ {g : Graph} {a : Automaton} {h : Estimate} (u : Guide g a h) where
     estimate-x = ap₂ h (sym (stage-is a t n x inside is)) (sym (node-is a t n x inside is)) ∙ key-x .has
 
     -- what falls gets a key no smaller than that of x
-    fell-rises : (k : ℕ) → (f : FellBy g a h t n base (without now rest) after k) → getD (now .keys) x 0 ≤ getD (after .keys) k 0
+    fell-rises : (k : ℕ) → (f : FellBy g a h t n spent (without now rest) after k) → getD (now .keys) x 0 ≤ getD (after .keys) k 0
     fell-rises k f =
         omega (
           arith,
@@ -104,13 +104,13 @@ module _ {g : Graph} {a : Automaton} {h : Estimate} (u : Guide g a h) where
     settled-cost : (k : ℕ) → In (longer log x) k → cost′ k ≡ cost k
     settled-cost k i = cost-same g a h (now .keys) (after .keys) k (settled-stays k i .same-key)
 
-    fell-key : (k : ℕ) (f : FellBy g a h t n base (without now rest) after k) → estimateAt a h k ≡ some (f .rest)
+    fell-key : (k : ℕ) (f : FellBy g a h t n spent (without now rest) after k) → estimateAt a h k ≡ some (f .rest)
     fell-key k f = ap (λ (z : ℕ). estimateAt a h z) (f .enters) ∙ there (f .step) (f .rest) (f .exists) (f .has)
 
-    fell-cost : (k : ℕ) (f : FellBy g a h t n base (without now rest) after k) → cost′ k ≡ cost x + g .cost (f .step)
+    fell-cost : (k : ℕ) (f : FellBy g a h t n spent (without now rest) after k) → cost′ k ≡ cost x + g .cost (f .step)
     fell-cost k f = cost-is g a h (after .keys) k (cost x + g .cost (f .step)) (f .rest) (fell-key k f) (omega (arith, f .fell .new-key, costs))
 
-    fell-edge : (k : ℕ) (f : FellBy g a h t n base (without now rest) after k) → Edge g a x k (g .cost (f .step))
+    fell-edge : (k : ℕ) (f : FellBy g a h t n spent (without now rest) after k) → Edge g a x k (g .cost (f .step))
     fell-edge k f =
         subst (λ (z : ℕ). Edge g a z k (g .cost (f .step))) (sym is)
         (subst (λ (z : ℕ). Edge g a (pair a t n) z (g .cost (f .step))) (sym (f .enters)) (edge-to g a t n (f .step) inside (f .exists) (f .leaves)))
@@ -125,7 +125,7 @@ module _ {g : Graph} {a : Automaton} {h : Estimate} (u : Guide g a h) where
         (either (in-cases log x k i) (λ j. s .has-key k (inl j)) (λ q. rw q key-x))
     has-key′ k (inr p) =
         either (moved k) (λ y. keyed-same g a h (now .keys) (after .keys) k (y .same-key) (s .has-key k (inr (others .only k (y .only p)))))
-        (λ f. keyed g a h (after .keys) k (base + g .cost (f .step)) (f .rest) (fell-key k f) (f .fell .new-key))
+        (λ f. keyed g a h (after .keys) k (spent + g .cost (f .step)) (f .rest) (fell-key k f) (f .fell .new-key))
 
     -- a pair that may be opened and has a key is opened
     opened′ : (k : ℕ) → Openable g a h k → getD (after .keys) k 0 < unopened → In (longer log x) k ⊎ after .Open k
@@ -165,7 +165,7 @@ module _ {g : Graph} {a : Automaton} {h : Estimate} (u : Guide g a h) where
             let j = u .lawful .next-inside (w .0) n (w .1) inside in
             let q : h (g .to (w .0)) (a .next (w .0) n) ≡ some r
             = ap₂ h (sym (stage-is a (g .to (w .0)) (a .next (w .0) n) y j (w .3))) (sym (node-is a (g .to (w .0)) (a .next (w .0) n) y j (w .3))) ∙ e in
-            let b : getD (after .keys) y 0 ≤ base + c + r = omega (arith, offered (w .0) (w .1) (w .2) r q, ap (λ (z : ℕ). getD (after .keys) z 0) (w .3), w .4) in
+            let b : getD (after .keys) y 0 ≤ spent + c + r = omega (arith, offered (w .0) (w .1) (w .2) r q, ap (λ (z : ℕ). getD (after .keys) z 0) (w .3), w .4) in
             let may-open : Openable g a h y = subst (Openable g a h) (sym (w .3)) (openable u (g .to (w .0)) (a .next (w .0) n) r
             (omega (arith, u .valid .forward (w .0) (w .1), w .2, stage-is a t n x inside is, chosen-stage u s o)) j q) in
             let low : getD (after .keys) y 0 < unopened = omega (

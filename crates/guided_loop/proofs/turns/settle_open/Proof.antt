@@ -151,8 +151,8 @@ pair-estimate-requires c κs =
     let begin = begin-is (start .pre .prepared .by) (first .pair-at .ensures) in
     turn-inside (start .pre .prepared) w begin (taken .take .ensures) (at .pair-of .result) (at .pair-of .ensures)
 
-sub-base : tie.Need-sub-base Inv-search μ-search
-sub-base c =
+sub-spent : tie.Need-sub-spent Inv-search μ-search
+sub-spent c =
     let rest : tie.After-pair-estimate Inv-search μ-search = search in
     let at = pair-of rest in
     let taken = taken-of at in
@@ -327,7 +327,7 @@ settle-open-spec =
     index-1-pair-of
     pair-of-requires
     pair-estimate-requires
-    sub-base
+    sub-spent
     is-goal-requires
     settle-requires
     search-less
