@@ -1,3 +1,2 @@
-mod Offering
 mod Walking
 mod Rowing

@@ -6,13 +6,13 @@ use mathlib.Core.List.{List}
 use native.Mathlib.Omega.{arith}
 use lib.Dec.{eqb}
 use lib.ListN.{getD}
-use borrow.Author.Tests.{eq-eqb, ne-eqb}
+use borrow.Author.Tests.{eq-eqb}
 use Rattle.theory.specs.Ways.{step-cheap}
 use Rattle.definitions.specs.Basics.{pick}
 use Rattle.definitions.specs.Diagrams.{Diagram, size, advance}
 use Rattle.definitions.specs.Ways.{Graph}
 use Rattle.definitions.specs.Pairs.{Automaton}
-use Rattle.theory.specs.Basics.{pick-true, pick-false, either}
+use Rattle.theory.specs.Basics.{pick-true, either}
 use Rattle.theory.specs.Diagrams.{advance-leaf}
 use Rattle.theory.specs.Variables.{next-is}
 use Rattle.trace.specs.Trails.{packed}
@@ -28,24 +28,8 @@ use Rattle.checks.specs.Ready.{Walk, walk, graphIn, automatonIn, count-is, widt
 use Rattle.chart.specs.Tables.{Steps}
 use Rattle.checks.specs.Tables.{Read, Tables, chartIn, diagramIn}
 use Rattle.definitions.specs.declared.Shape.{Shape}
-use Rattle.sweep_rows.specs.Standing.{Open, Offering, stepped, Standing, Stands}
-
--- what `relax_step` asks is what `offer` asks
-pub offers : {c : Steps} {row : List ℕ} {e n v t : ℕ} {r : Rows} → Offering c row e n v t r → (t ≡ 0 → ⊥)
-    → (base : ℕ) → base ≡ getD row (getD (c .to) e 0) 0 → Open base (getD (c .to) e 0) t r
-offers {c} {row} {e} {n} {v} {t} {r} o h base q = subst (λ (b : ℕ). Open b (getD (c .to) e 0) t r) (sym q) (o .takes h)
-
--- the ways out of `relax_step`
-module _ (c : Steps) (row : List ℕ) (e n v t : ℕ) (r : Rows) where
-  pub stepped-none : t ≡ 0 → r ≡ stepped c row e n v t r
-  unfolding stepped
-  stepped-none h = sym (pick-true _ _ _ (eq-eqb t 0 h))
-
-  pub stepped-offer : (base mark : ℕ) (r′ : Rows) → (t ≡ 0 → ⊥) → base ≡ getD row (getD (c .to) e 0) 0 → mark ≡ packed e n
-      → r′ ≡ offer base (getD (c .to) e 0) t (v + getD (c .cost) e 0) mark r → r′ ≡ stepped c row e n v t r
-  unfolding stepped
-  stepped-offer base mark r′ h b m q =
-      q ∙ ap₂ (λ (i j : ℕ). offer i (getD (c .to) e 0) t (v + getD (c .cost) e 0) j r) b m ∙ sym (pick-false _ _ _ (ne-eqb t 0 h))
+use Rattle.sweep_offers.specs.Offers.{Open, Offering, stepped}
+use Rattle.sweep_rows.specs.Standing.{Standing, Stands}
 
 -- The loop of `relax_node` before step e, with the node carried down to m: what is left to do comes to the same as the whole
 pub record Walking (z : Shape) (on : Walk) (s n v begin until : ℕ) (r₀ r : Rows) (e m : ℕ) : Type 0 where

@@ -1,15 +1,11 @@
 // The rows of the sweep, relaxed in turn: from each reached pair every step offers its cost to the pair that it leads to.
 ghost use mathlib.Core.Path.{_≡_};
 ghost use Prim.Native.Nat.{_-_};
-ghost use Rattle.sweep_model.specs.Model.{rows, offer as offered, relaxSteps, relaxNodes, relaxRows};
-ghost use Rattle.chart.specs.Tables.{stepsIn};
+ghost use Rattle.sweep_model.specs.Model.{rows, relaxSteps, relaxNodes, relaxRows};
 ghost use Rattle.checks.specs.Tables.{read};
 ghost use Rattle.checks.specs.Ready.{walk, graphIn, automatonIn};
-ghost use Rattle.sweep_rows.specs.Standing.{Open, Offering, stepped, Stands, Row, InRow, at};
-use chart::COST;
-use chart::TO;
+ghost use Rattle.sweep_rows.specs.Standing.{Stands, Row, InRow, at};
 use convert::wide;
-use definitions::NONE;
 use definitions::Node;
 use definitions::Shape;
 use definitions::Stage;
@@ -19,83 +15,12 @@ use diagram::LO;
 use diagram::STEP;
 use nodes::branch;
 use nodes::descend_to;
-use trace::packed;
+use sweep_offers::relax_step;
 
 // The steps from `begin` to before `until`.
 struct Span {
     begin: Step,
     until: Step,
-}
-
-// The pair of stage s, whose row starts at `base`, and node t is offered the cost v. `mark` has the step and the node
-// that offer it.
-fn offer(
-    costs: &mut [u32],
-    via: &mut [u32],
-    nodes: &mut [u32],
-    counts: &mut [u32; 256],
-    base: usize,
-    s: Stage,
-    t: Node,
-    v: u32,
-    mark: u32,
-)
-    requires { ⌜ Open base (s .0) (t .0) (rows (now costs) (now via) (now nodes) (now counts)) ⌝ }
-    ensures { λ _. ⌜
-        (let before = rows (now (costs .entry)) (now (via .entry)) (now (nodes .entry)) (now (counts .entry)) in
-        let after = rows (now (costs .exit)) (now (via .exit)) (now (nodes .exit)) (now (counts .exit)) in
-        after ≡ offered base (s .0) (t .0) v mark before)
-        ⌝ }
-{
-    let pair = base + t.0 as usize;
-    let old = costs[pair];
-    if old <= v {
-        return;
-    }
-    if old == NONE {
-        let stage = s.0 as usize;
-        let k = counts[stage];
-        nodes[base + wide(k)] = t.0 as u32;
-        counts[stage] = k + 1;
-        costs[pair] = v;
-        via[pair] = mark;
-        return;
-    }
-    costs[pair] = v;
-    via[pair] = mark;
-}
-
-// Node n at cost v offers by step e, which leads to node t; to node 0 it offers nothing.
-fn relax_step<'a>(
-    costs: &mut [u32],
-    via: &mut [u32],
-    nodes: &mut [u32],
-    counts: &mut [u32; 256],
-    steps: &'a [[u32; 1024]; 3],
-    row: &'a [u32; 256],
-    e: Step,
-    n: Node,
-    v: u32,
-    t: Node,
-)
-    requires { ⌜
-        Offering (stepsIn (now steps)) (now row) (e .0) (n .0) v (t .0) (rows (now costs) (now via) (now nodes) (now counts))
-        ⌝ }
-    ensures { λ _. ⌜
-        (let before = rows (now (costs .entry)) (now (via .entry)) (now (nodes .entry)) (now (counts .entry)) in
-        let after = rows (now (costs .exit)) (now (via .exit)) (now (nodes .exit)) (now (counts .exit)) in
-        after ≡ stepped (stepsIn (now (steps .entry))) (now (row .entry)) (e .0) (n .0) v (t .0) before)
-        ⌝ }
-{
-    if t.0 == 0 {
-        return;
-    }
-    let step = e.0 as usize;
-    let s = Stage(steps[TO][step] as u16);
-    let base = wide(row[s.0 as usize]);
-    let mark = packed(e, n);
-    let total = v + steps[COST][step];
-    offer(costs, via, nodes, counts, base, s, t, total, mark);
 }
 
 // Node n, at cost v, offers by the steps that leave its stage.

@@ -1,11 +1,11 @@
--- `sweep_rows::offer` meets its contract: one law for each way out.
+-- `sweep_offers::offer` meets its contract: one law for each way out.
 use Prim.Native.Nat.{_+_}
 use mathlib.Core.Path.{refl, ap}
 use native.Mathlib.Omega.{arith}
-use Rattle.sweep_rows.proofs.Offering.{offer-kept, offer-new, offer-lower}
+use Rattle.sweep_offers.proofs.Offering.{offer-kept, offer-new, offer-lower}
 use borrow.Author.Needs.{needs}
-use Rattle.sweep_rows.proofs.offer.Statement.{statement}
-use Rattle.sweep_rows.proofs.offer.Tie as tie
+use Rattle.sweep_offers.proofs.offer.Statement.{statement}
+use Rattle.sweep_offers.proofs.offer.Tie as tie
 
 cast-pair : tie.Need-cast-pair
 cast-pair c = search needs

@@ -1,8 +1,8 @@
--- `sweep_rows::relax_step` meets its contract: to node 0 nothing is offered, else the pair is.
-use Rattle.sweep_rows.proofs.Walking.{offers, stepped-none, stepped-offer}
+-- `sweep_offers::relax_step` meets its contract: to node 0 nothing is offered, else the pair is.
+use Rattle.sweep_offers.proofs.Stepping.{offers, stepped-none, stepped-offer}
 use borrow.Author.Needs.{needs}
-use Rattle.sweep_rows.proofs.relax_step.Statement.{statement}
-use Rattle.sweep_rows.proofs.relax_step.Tie as tie
+use Rattle.sweep_offers.proofs.relax_step.Statement.{statement}
+use Rattle.sweep_offers.proofs.relax_step.Tie as tie
 
 returns : tie.Need-returns
 returns c = stepped-none _ _ _ _ _ _ _ (c .if1 .taken)

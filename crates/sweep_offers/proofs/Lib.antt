@@ -1,0 +1,2 @@
+mod Offering
+mod Stepping
