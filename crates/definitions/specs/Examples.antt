@@ -1,6 +1,6 @@
 -- Some files, and what reading them gives, computed from the definitions: the document's chart and diagram, and refusals in their order.
 -- Assumes nothing.
-use Prim.Native.Nat.{ℕ, _/_, _%_}
+use Prim.Native.Nat.{ℕ, _%_}
 use mathlib.Core.Path.{_≡_, refl}
 use mathlib.Core.Bool.{Bool, true, false, _&&_}
 use mathlib.Core.List.{List, [], _∷_, _++_, map}
@@ -8,7 +8,7 @@ use lib.Dec.{leb, eqb}
 use lib.ListN.{length, getD, take}
 use Rattle.definitions.specs.Basics.{pick, each}
 use Rattle.definitions.specs.Fields.{Kind, foreign, exactly, atLeast, passedOver, only, fieldAt, onField, Grammar, scan, fieldBytes, refusedField}
-use Rattle.definitions.specs.Charts.{Chart, ChartStep, headFault, stepFault, readChart}
+use Rattle.definitions.specs.Charts.{ChartStep, headFault, stepFault, readChart}
 use Rattle.definitions.specs.Diagrams.{Diagram, InnerNode, nodeFault, readDiagram}
 use Rattle.definitions.specs.Bytes.{headBytes, stepBytes, chartBytes, diagramBytes}
 use Rattle.definitions.specs.Answers.{Load, ready, refused, readFiles, load}

@@ -2,18 +2,10 @@
 -- Assumes nothing.
 use Prim.Native.Nat.{ℕ}
 use mathlib.Core.Path.{_≡_}
-use mathlib.Core.List.{List, [], _∷_}
-use lib.ListN.{length}
+use mathlib.Core.List.{List}
 use Rattle.definitions.specs.declared.Answer.{Answer}
-use Rattle.space.specs.declared.Space.{Space}
+use Rattle.answer_arrays.specs.Numbers.{numbers}
 use Rattle.planner.specs.declared.Answers.{Answers}
-
--- an answer and the space needed as arrays of numbers
-abbrev pub numbers : Answer → List ℕ
-numbers a = a .number ∷ a .file ∷ a .place ∷ a .cost ∷ a .length ∷ a .count ∷ []
-
-abbrev pub spaceNumbers : Space → List ℕ
-spaceNumbers s = s .number ∷ s .file ∷ s .place ∷ s .work ∷ s .plan ∷ []
 
 -- an answer that keeps the promise P stands in the array, and the call returns its number
 pub record Given (P : Answer → Type 0) (array : List ℕ) (r : ℕ) : Type 0 where

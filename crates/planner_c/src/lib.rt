@@ -9,29 +9,10 @@ ghost use Rattle.definitions.specs.Promises.{sweepSlices, SweepCall, guidedSlic
 ghost use Rattle.space.specs.Space.{spaceNeeded};
 ghost use Rattle.planner.specs.Both.{BothCall};
 ghost use Rattle.report.specs.Appending.{Appended};
-ghost use Rattle.planner_c.specs.Exports.{numbers, spaceNumbers, Given, BothGiven};
-use convert::wide;
-use definitions::Answer;
-use space::Space;
-
-// Stores an answer: number, file, place, cost, length, count.
-fn store(a: Answer, array: &mut [usize; 6])
-    ensures { λ _. ⌜ now (array .exit) ≡ numbers a ⌝ }
-{
-    let number = wide(a.number);
-    let file = wide(a.file);
-    let cost = wide(a.cost);
-    *array = [number, file, a.place, cost, a.length, a.count];
-}
-
-// Stores the space needed: number, file, place, work, plan.
-fn store_space(s: Space, array: &mut [usize; 5])
-    ensures { λ _. ⌜ now (array .exit) ≡ spaceNumbers s ⌝ }
-{
-    let number = wide(s.number);
-    let file = wide(s.file);
-    *array = [number, file, s.place, s.work, s.plan];
-}
+ghost use Rattle.answer_arrays.specs.Numbers.{spaceNumbers};
+ghost use Rattle.planner_c.specs.Exports.{Given, BothGiven};
+use answer_arrays::store;
+use answer_arrays::store_space;
 
 // How much space the searches need for two files: the number, file and place of a refusal, or 0; then the entries that
 // each work slice and the plan slice need.

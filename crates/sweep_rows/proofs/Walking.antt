@@ -25,7 +25,6 @@ use Rattle.sweep_model.specs.Rows.{Entry, entry-low}
 use Rattle.sweep_model.specs.Offers.{pair-fits, roomy, place-fits}
 use Rattle.sweep_model.specs.Sweeps.{step-made}
 use Rattle.checks.specs.Ready.{Walk, walk, graphIn, automatonIn, count-is, width-is, lawful-in, few-stages, few-nodes, few-steps, to-at, cost-at, first-leave, row-start}
-use Rattle.chart.specs.Tables.{Steps}
 use Rattle.checks.specs.Tables.{Read, Tables, chartIn, diagramIn}
 use Rattle.definitions.specs.declared.Shape.{Shape}
 use Rattle.sweep_offers.specs.Offers.{Open, Offering, stepped}

@@ -6,7 +6,7 @@ use Rattle.planner_c.proofs.planner_both.Tie as tie
 use Rattle.planner_c.proofs.planner_both.Reads as reads
 use Rattle.planner_c.proofs.planner_both.Lts as lts
 use Rattle.planner.proofs.both.Reads as both-reads
-use Rattle.planner_c.proofs.store.Reads as store-reads
+use Rattle.answer_arrays.proofs.store.Reads as store-reads
 
 both-requires : tie.Need-both-requires
 both-requires c κs = search needs

@@ -6,7 +6,7 @@ use Rattle.planner_c.proofs.planner_guided.Tie as tie
 use Rattle.planner_c.proofs.planner_guided.Reads as reads
 use Rattle.planner_c.proofs.planner_guided.Lts as lts
 use Rattle.guided.proofs.guided.Reads as guided-reads
-use Rattle.planner_c.proofs.store.Reads as store-reads
+use Rattle.answer_arrays.proofs.store.Reads as store-reads
 
 guided-requires : tie.Need-guided-requires
 guided-requires c κs = search needs

@@ -1,14 +1,14 @@
 -- `planner_c::planner_space_needed` meets its contract.
 use mathlib.Core.Path.{_∙_, ap}
 use Rattle.space.specs.declared.Space.{Space}
-use Rattle.planner_c.specs.Exports.{spaceNumbers}
+use Rattle.answer_arrays.specs.Numbers.{spaceNumbers}
 use borrow.Author.Needs.{needs}
 use Rattle.planner_c.proofs.planner_space_needed.Statement.{statement}
 use Rattle.planner_c.proofs.planner_space_needed.Tie as tie
 use Rattle.planner_c.proofs.planner_space_needed.Reads as reads
 use Rattle.planner_c.proofs.planner_space_needed.Lts as lts
 use Rattle.space.proofs.space_needed.Reads as space-needed-reads
-use Rattle.planner_c.proofs.store_space.Reads as store-space-reads
+use Rattle.answer_arrays.proofs.store_space.Reads as store-space-reads
 
 space-needed-requires : tie.Need-space-needed-requires
 space-needed-requires c κs = search needs

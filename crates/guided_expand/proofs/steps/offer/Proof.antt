@@ -1,7 +1,7 @@
 -- `guided_expand::offer` meets its contract.
 use mathlib.Core.Path.{refl}
 use native.Mathlib.Omega.{arith}
-use Rattle.guided_expand.proofs.Stepping.{node-small, step-small, stage-small, target-small, leads-none, leads-fit, leads-ask, leads-some}
+use Rattle.guided_expand.proofs.Stepping.{step-small, stage-small, target-small, leads-none, leads-fit, leads-ask, leads-some}
 use borrow.Author.Needs.{needs}
 use Rattle.guided_expand.proofs.steps.offer.Statement.{statement}
 use Rattle.guided_expand.proofs.steps.offer.Tie as tie
