@@ -1,4 +1,4 @@
--- What every search checks first, in order, and what it answers.
+-- What every search checks first, in order, and what it answers (REFERENCE 3.1 to 3.3, 11).
 -- Assumes nothing.
 use Prim.Native.Nat.{ℕ, _*_, _-_}
 use mathlib.Core.Bool.{Bool, not, _&&_}

@@ -1,4 +1,4 @@
--- The bytes of fields and of files. A file that is written holds the head and the steps or inner nodes, and no other field.
+-- The bytes of fields and of files (REFERENCE 2.5). A file that is written holds the head and the steps or inner nodes, and no other field.
 -- Assumes nothing.
 use Prim.Native.Nat.{ℕ, _/_, _%_}
 use mathlib.Core.List.{List, [], _∷_, _++_}

@@ -1,4 +1,4 @@
--- The chart (a weighted acyclic graph) and its file.
+-- The chart (a weighted acyclic graph) and its file (REFERENCE 2.2, 2.4).
 -- Assumes nothing.
 use Prim.Native.Nat.{ℕ, _-_}
 use mathlib.Core.Bool.{not}

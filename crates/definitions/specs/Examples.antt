@@ -1,4 +1,4 @@
--- Some files, and what reading them gives, computed from the definitions: the document's chart and diagram, and refusals in their order.
+-- Some files, and what reading them gives, computed from the definitions: the chart and the diagram of REFERENCE 14, and refusals in their order.
 -- Assumes nothing.
 use Prim.Native.Nat.{ℕ, _%_}
 use mathlib.Core.Path.{_≡_, refl}

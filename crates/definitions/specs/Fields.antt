@@ -1,4 +1,4 @@
--- Tagged fields: a one-byte tag, a two-byte length, a body (type-length-value). Numbers are unsigned, low byte first.
+-- Tagged fields (REFERENCE 2.1, 3.2, 12): a one-byte tag, a two-byte length, a body (type-length-value). Numbers are unsigned, low byte first.
 -- Assumes nothing.
 use Prim.Native.Nat.{ℕ, zero, suc, _+_, _-_, _*_}
 use mathlib.Core.Bool.{Bool, true, false, not}

@@ -1,4 +1,4 @@
--- The guided search on document 01's chart: a log that meets its promise and, for each clause of the promise, a log that does not; and the sweep's cost slices.
+-- The guided search on the chart of REFERENCE 14: a log that meets its promise and, for each clause of the promise, a log that does not; and the sweep's cost slices.
 -- Assumes nothing.
 use Prim.Native.Nat.{ℕ, zero, suc, _+_, _*_, _≤_, _<_}
 use mathlib.Core.Path.{_≡_, refl, sym, _∙_, ap}

@@ -1,4 +1,4 @@
--- The marked table of document 01, (a) to (j), computed from the definitions.
+-- The marked cases (a) to (j), on the chart of REFERENCE 14 and four smaller ones, computed from the definitions.
 -- Assumes nothing.
 use Prim.Native.Nat.{ℕ}
 use mathlib.Core.Path.{_≡_, refl}
@@ -18,7 +18,7 @@ st from to cost = record { from = from; to = to; cost = cost }
 abbrev pub nd : ℕ → ℕ → ℕ → InnerNode
 nd step lo hi = record { step = step; lo = lo; hi = hi }
 
--- the whole chart of document 01 and its rule: step 0 needs step 2
+-- the chart of REFERENCE 14 and its rule: step 0 needs step 2
 abbrev pub chart : Chart
 chart = record { stages = 5; start = 0; end = 4; steps = st 0 1 40 ∷ st 0 1 90 ∷ st 1 2 200 ∷ st 1 3 30 ∷ st 2 3 20 ∷ st 3 4 50 ∷ [] }
 
@@ -68,7 +68,7 @@ computed =
     ∷ (cheapest backward (leaf 1) ∷ [])
     ∷ []
 
--- document 01's figures
+-- the figures worked by hand
 pub marked : List (List (Option ℕ))
 marked =
     (some 170 ∷ [])

@@ -1,4 +1,4 @@
--- Pairs of a stage and a node (the states of the product), which of them are reached, at what least cost, and which are goals.
+-- Pairs of a stage and a node (the states of the product; REFERENCE 5, 4.8, 6.4), which of them are reached, at what least cost, and which are goals.
 -- Assumes nothing.
 use Prim.Native.Nat.{ℕ, _+_, _*_, _/_, _%_}
 use mathlib.Core.Bool.{Bool, _&&_}

@@ -1,4 +1,4 @@
--- Legal plans of a chart under a diagram, and the estimates of both.
+-- Legal plans of a chart under a diagram (REFERENCE 4), and the estimates of both (6).
 -- Assumes nothing.
 use Prim.Native.Nat.{ℕ, zero, suc}
 use mathlib.Core.Path.{_≡_}

@@ -29,7 +29,7 @@ fields r = r .number ∷ r .file ∷ r .place ∷ r .cost ∷ r .length ∷ r .c
 pub answers-hold : _≡_ {A = List (List ℕ)} (fields (refusal 6 2 14 3) ∷ fields (accepted 170 5 4) ∷ []) ((6 ∷ 2 ∷ 14 ∷ 0 ∷ 0 ∷ 3 ∷ []) ∷ (0 ∷ 0 ∷ 0 ∷ 170 ∷ 5 ∷ 4 ∷ []) ∷ [])
 answers-hold = refl
 
--- ---- the plan slice: steps 1, 3, 5 of document 01's chart cost 170
+-- ---- the plan slice: steps 1, 3, 5 of the chart of REFERENCE 14 cost 170
 
 pub good-planned : Planned chart rules 170 3 (7 ∷ 7 ∷ 7 ∷ 7 ∷ []) (1 ∷ 3 ∷ 5 ∷ 7 ∷ [])
 unfolding pick descend descendIn verdict saysYes variable
@@ -114,7 +114,7 @@ guided-plan-changed s = let e = differ (s .1) 0 in omega arith
 pub guided-log-changed : Guided (refused 6 2 14) (7 ∷ []) (7 ∷ []) (5 ∷ []) (6 ∷ []) (refusal 6 2 14 0) → ⊥
 guided-log-changed s = let e = differ (s .2) 0 in omega arith
 
--- ---- whole searches: the sweep in case (g), the guided search on document 01's chart
+-- ---- whole searches: the sweep in case (g), the guided search on the chart of REFERENCE 14
 
 pub sweep-holds : Swept (ready single (leaf 1)) (7 ∷ []) (7 ∷ []) (5 ∷ 5 ∷ 6 ∷ []) (4294967295 ∷ 0 ∷ 6 ∷ []) (accepted 0 0 1)
 unfolding pick smaller descend descendIn advance verdict saysYes waysIn ways leastWay stands leastCost reached reachedPairs cheapest leastCosts variable

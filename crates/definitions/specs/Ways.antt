@@ -1,4 +1,4 @@
--- Ways (paths) through a graph, their costs, and the least cost over all ways that pass a test.
+-- Ways (paths) through a graph (REFERENCE 4.1), their costs, and the least cost over all ways that pass a test.
 -- Assumes nothing.
 use Prim.Native.Nat.{ℕ, zero, suc, _+_, _<_}
 use mathlib.Core.Path.{_≡_}

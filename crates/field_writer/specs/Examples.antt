@@ -1,4 +1,4 @@
--- Small files, computed: the chart and the diagram of document 01, and that what they must not be is refuted.
+-- Small files, computed: the chart and the diagram of REFERENCE 14, and that what they must not be is refuted.
 -- Assumes nothing.
 use Prim.Native.Nat.{ℕ}
 use mathlib.Core.Path.{_≡_, refl}
@@ -27,7 +27,7 @@ long-field = refl
 not-with-header : field 128 (7 ∷ []) ≡ 128 ∷ 4 ∷ 0 ∷ 7 ∷ [] → ⊥
 not-with-header e = let z : _≡_ {A = ℕ} 1 4 = cc in omega arith
 
--- document 01's chart and diagram
+-- the chart and the diagram of REFERENCE 14
 chart-file : chartBytes chart
     ≡ 1 ∷ 6 ∷ 0 ∷ 5 ∷ 0 ∷ 0 ∷ 0 ∷ 4 ∷ 0
     ∷ 2 ∷ 8 ∷ 0 ∷ 0 ∷ 0 ∷ 1 ∷ 0 ∷ 40 ∷ 0 ∷ 0 ∷ 0

@@ -1,4 +1,4 @@
--- The sweep gives document 01's least costs, counts the reached pairs, and leaves for each reached pair the step by which it was reached at that cost.
+-- The sweep gives the least costs, counts the reached pairs, and leaves for each reached pair the step by which it was reached at that cost.
 -- Assumes nothing.
 use Prim.Native.Nat.{ℕ, zero, suc, _+_, _-_, _≤_, _<_}
 use mathlib.Core.Path.{_≡_, refl, sym, _∙_, ap, ap₂, subst}

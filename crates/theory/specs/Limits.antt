@@ -1,4 +1,4 @@
--- The limits of document 01 as statements. They hold of every chart and diagram that the readers accept.
+-- The limits of both files as statements (REFERENCE 2.4). They hold of every chart and diagram that the readers accept.
 -- Assumes nothing.
 use Prim.Native.Nat.{ℕ, _-_, _*_, _≤_, _<_}
 use lib.ListN.{length}
