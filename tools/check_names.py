@@ -5,8 +5,9 @@
     tools/check_names.py PAGE...     these pages
 
 Looked at, in each page: what stands between backquotes, the paths in blocks of code, the targets of links, and the sections
-of docs/REFERENCE.md that a page or a comment of the code cites as REFERENCE 3.2. README.md and docs/ARCHITECTURE.md must name
-every crate of crates.txt. Each name that is missing is told with its page and line, and the exit status is 1. What is told apart:
+of docs/REFERENCE.md that a page or a comment of the code cites as REFERENCE 3.2, or a row of a table as (3.2) under the
+heading What (REFERENCE). README.md and docs/ARCHITECTURE.md must name every crate of crates.txt. Each name that is missing
+is told with its page and line, and the exit status is 1. What is told apart:
 
     `crates/chart/src/reader.rt:133`    a path, from the root, the page's folder or crates/; the file has that line
     `fields::reader::next`              an item of the code of a crate (or a type or module of rust/)
@@ -222,9 +223,13 @@ def wrong_owned(owner, name):
 
 def look_at(page):
     """(line, name, what is wrong) of a page."""
-    fenced = False
+    fenced = by_section = False
     inside = page.read_text()
     for number, line in enumerate(inside.splitlines(), 1):
+        by_section = line.startswith("|") and (by_section or line.startswith("| What (REFERENCE) |"))
+        for row in re.findall(r"^[^|]*\|[^|]*\(([\d., to]+)\) \|", line) if by_section else []:
+            for section in re.findall(r"\d+(?:\.\d+)*", row):
+                yield number, f"section {section}", None if section in sections() else "no such section"
         if line.startswith("```"):
             fenced = not fenced
             continue
