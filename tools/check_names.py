@@ -5,11 +5,12 @@
     tools/check_names.py PAGE...     these pages
 
 Looked at, in each page: what stands between backquotes, the paths in blocks of code, the targets of links, and the sections
-of docs/REFERENCE.md that a page or a comment of the code cites as REFERENCE 3.2. Each name that is missing is told with
-its page and line, and the exit status is 1. What is told apart:
+of docs/REFERENCE.md that a page or a comment of the code cites as REFERENCE 3.2, or a row of a table as (3.2) under the
+heading What (REFERENCE). README.md and docs/ARCHITECTURE.md must name every crate of crates.txt. Each name that is missing
+is told with its page and line, and the exit status is 1. What is told apart:
 
     `crates/chart/src/reader.rt:133`    a path, from the root, the page's folder or crates/; the file has that line
-    `fields::reader::next`              an item of a crate (or a type or module of rust/)
+    `fields::reader::next`              an item of the code of a crate (or a type or module of rust/)
     `Found.below`                       a field of a record, or a name of a file of specs/
     `Fields`: `two`, `four`             names of a file of specs/ or of a crate, where a colon follows its name
     `scan`, `says-yes-stands`           any item, field, file or crate of the tree
@@ -95,10 +96,22 @@ def crate_files(name):
 
 
 @cache
+def code_files(name):
+    """The files of a crate's code, its contracts included."""
+    return tuple(f for f in crate_files(name) if f.suffix == ".rt")
+
+
+@cache
+def crates():
+    """What each crate of crates.txt uses, by its name."""
+    lines = [line.partition(":") for line in (ROOT / "crates.txt").read_text().splitlines() if ":" in line and not line.startswith("#")]
+    return {name.strip(): deps.split() for name, _, deps in lines}
+
+
+@cache
 def kit_crates():
     """The crates of the toolchain that crates.txt names."""
-    lines = [line.partition(":") for line in (ROOT / "crates.txt").read_text().splitlines() if ":" in line and not line.startswith("#")]
-    return {dep for _, _, deps in lines for dep in deps.split()} - {name.strip() for name, _, _ in lines}
+    return {dep for deps in crates().values() for dep in deps} - set(crates())
 
 
 @cache
@@ -138,7 +151,7 @@ def wrong_item(name):
     if first in kit_crates() | {"std"}:
         return None
     rust = [f for f in files() if f.parts[0] == "rust"]
-    places = [list(crate_files(first))] if crate_files(first) else []
+    places = [list(code_files(first))] if crate_files(first) else []
     if first == "planner":
         places.append(rust)
     if not places and first in declared_in(rust):
@@ -210,9 +223,13 @@ def wrong_owned(owner, name):
 
 def look_at(page):
     """(line, name, what is wrong) of a page."""
-    fenced = False
+    fenced = by_section = False
     inside = page.read_text()
     for number, line in enumerate(inside.splitlines(), 1):
+        by_section = line.startswith("|") and (by_section or line.startswith("| What (REFERENCE) |"))
+        for row in re.findall(r"^[^|]*\|[^|]*\(([\d., to]+)\) \|", line) if by_section else []:
+            for section in re.findall(r"\d+(?:\.\d+)*", row):
+                yield number, f"section {section}", None if section in sections() else "no such section"
         if line.startswith("```"):
             fenced = not fenced
             continue
@@ -243,12 +260,21 @@ def cited():
                 yield f, number, f"REFERENCE {section}", None if section in sections() else "no such section"
 
 
+def unnamed_crates(page):
+    """(line, name, what is wrong) of each crate that a page about all of them leaves out."""
+    named = {word for token in re.findall(r"`([^`]+)`", page.read_text()) for word in re.split(r"[\s/]", token)}
+    for name in crates():
+        yield 1, f"crate {name}", None if name in named else "not named in this page"
+
+
 def main():
     if any(arg.startswith("-") for arg in sys.argv[1:]):
         sys.exit(__doc__)
     pages = [Path(arg).resolve() for arg in sys.argv[1:]]
     pages = pages or [ROOT / f for f in files() if f.name == "README.md" or (f.suffix == ".md" and f.parts[0] == "docs")]
     found = [(page.relative_to(ROOT), *entry) for page in sorted(pages) for entry in look_at(page)] + list(cited())
+    of_all = [page for page in (ROOT / "README.md", ROOT / "docs/ARCHITECTURE.md") if page in pages]
+    found += [(page.relative_to(ROOT), *entry) for page in of_all for entry in unnamed_crates(page)]
     missing = [entry for entry in found if entry[3]]
     for page, line, name, why in missing:
         print(f"{page}:{line}: {name}: {why}")
