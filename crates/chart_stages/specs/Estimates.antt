@@ -91,7 +91,7 @@ shows-same : (P Q : ℕ → Type 0) (v : ℕ) → ((m : ℕ) → P m → Q m) �
 shows-same P Q v f h s = (s .0, least-same P Q (s .0) f h (s .1), s .2)
 
 module _ (g : Graph) (v : Valid g) where
-  -- such a way costs at most 255,000,000
+  -- such a way costs at most 510,000,000
   cheap : (k s m : ℕ) → WayFrom g k s m → m ≤ 510000000
   cheap k s m w =
       omega (arith, way-climbs g v (w .steps) s (w .way), way-cheap g v (w .steps) s (w .way), w .ends, w .costs, v .end-inside, v .few-stages)
