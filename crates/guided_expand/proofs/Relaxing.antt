@@ -7,15 +7,15 @@ use native.Mathlib.Omega.{arith}
 use lib.ListN.{length, getD, set, drop}
 use lib.Seq.{drop-set-lt}
 use Rattle.queue.specs.declared.Counts.{Counts}
-use Rattle.queue.specs.Queue.{state, Contains, Inserted, Decreased}
+use Rattle.queue.specs.Queue.{state, Contains, Inserted, Decreasing, Decreased}
 use Rattle.queue.proofs.Facts.{keys-fit}
 use Rattle.guided_model.specs.State.{unopened}
 use Rattle.guided_model.specs.Moves.{relaxed-none, relaxed-falls}
 use Rattle.guided_expand.specs.Work.{Work, work, queueIn, marksIn, kept-same, Offering, Relaxes}
 
-module _ {p y v : ℕ} {x : Work} {c : Counts} (o : Offering p y v x c) where
+module _ {p floor y v : ℕ} {x : Work} {c : Counts} (o : Offering p floor y v x c) where
   -- y has no higher key
-  pub relax-none : {mark : ℕ} → getD (x .keys) y 0 ≤ v → Relaxes p y v mark x c x c
+  pub relax-none : {mark : ℕ} → getD (x .keys) y 0 ≤ v → Relaxes p floor y v mark x c x c
   relax-none {mark} h = record { relaxed = relaxed-none y v mark (marksIn x c) h; kept = kept-same (o .queue) }
 
   pub relax-fits : (y < length (x .keys)) × (y < length (x .via))
@@ -23,14 +23,13 @@ module _ {p y v : ℕ} {x : Work} {c : Counts} (o : Offering p y v x c) where
 
   module _ {mark : ℕ} (less : v < getD (x .keys) y 0) where
     -- y is opened
-    pub relax-inserts : {keys′ heap′ pos′ stack′ : List ℕ} {c′ : Counts} → Inserted p y v (queueIn x c) (state keys′ heap′ pos′ stack′ c′)
-        → Relaxes p y v mark x c (work keys′ (set (x .via) y mark) heap′ pos′ stack′) c′
+    pub relax-inserts : {keys′ heap′ pos′ stack′ : List ℕ} {c′ : Counts} → Inserted p floor y v (queueIn x c) (state keys′ heap′ pos′ stack′ c′)
+        → Relaxes p floor y v mark x c (work keys′ (set (x .via) y mark) heap′ pos′ stack′) c′
     relax-inserts {keys′} {heap′} {pos′} {stack′} {c′} i = record {
       relaxed = relaxed-falls y v mark (marksIn x c) (marksIn (work keys′ (set (x .via) y mark) heap′ pos′ stack′) c′)
           (relax-fits .0) (relax-fits .1) less (o .low) (i .stored) refl (i .here) (i .kept) (i .only);
       kept = record {
         queue = i .queue;
-        same-floor = i .same-floor;
         past = record {
           keys-past = ap (drop p) (i .stored) ∙ drop-set-lt p (x .keys) y v (o .pair);
           via-past = drop-set-lt p (x .via) y mark (o .pair);
@@ -42,14 +41,13 @@ module _ {p y v : ℕ} {x : Work} {c : Counts} (o : Offering p y v x c) where
     }
 
     -- y is moved up
-    pub relax-decreases : {keys′ heap′ pos′ : List ℕ} → Contains (queueIn x c) y → Decreased p y v (queueIn x c) (state keys′ heap′ pos′ (x .stack) c)
-        → Relaxes p y v mark x c (work keys′ (set (x .via) y mark) heap′ pos′ (x .stack)) c
+    pub relax-decreases : {keys′ heap′ pos′ : List ℕ} → Contains (queueIn x c) y → Decreased p floor y v (queueIn x c) (state keys′ heap′ pos′ (x .stack) c)
+        → Relaxes p floor y v mark x c (work keys′ (set (x .via) y mark) heap′ pos′ (x .stack)) c
     relax-decreases {keys′} {heap′} {pos′} w d = record {
       relaxed = relaxed-falls y v mark (marksIn x c) (marksIn (work keys′ (set (x .via) y mark) heap′ pos′ (x .stack)) c)
           (relax-fits .0) (relax-fits .1) less (o .low) (d .stored) refl (d .kept y w) (d .kept) (λ k i n. d .only k i);
       kept = record {
         queue = d .queue;
-        same-floor = refl;
         past = record {
           keys-past = ap (drop p) (d .stored) ∙ drop-set-lt p (x .keys) y v (o .pair);
           via-past = drop-set-lt p (x .via) y mark (o .pair);
@@ -61,5 +59,5 @@ module _ {p y v : ℕ} {x : Work} {c : Counts} (o : Offering p y v x c) where
     }
 
   -- y is open where it has a key
-  pub relax-inside : v < getD (x .keys) y 0 → getD (x .keys) y 0 ≤ unopened → (getD (x .keys) y 0 ≡ unopened → ⊥) → Contains (queueIn x c) y
-  relax-inside less b n = o .offerable .inside less (omega arith)
+  abbrev pub relax-lowers : v < getD (x .keys) y 0 → getD (x .keys) y 0 ≤ unopened → (getD (x .keys) y 0 ≡ unopened → ⊥) → Decreasing p y v (queueIn x c)
+  relax-lowers less b n = record { floor = floor; queue = o .queue; here = o .offerable .inside less (omega arith); above = o .above; lower = less }

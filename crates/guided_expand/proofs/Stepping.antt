@@ -22,9 +22,19 @@ use Rattle.guided_model.specs.Moves.{offerable, step-none, step-relaxed}
 use Rattle.guided_model.specs.Settling.{Target, target}
 use Rattle.guided_expand.specs.Estimates.{Estimates, paired}
 use Rattle.guided_expand.specs.Work.{Work, marksIn, kept-same, Offering, Relaxes}
-use Rattle.guided_expand.specs.Opening.{Opened, tablesOf, Leading}
+use Rattle.guided_expand.specs.Opening.{sourceStage, sourceNode, Opened, tablesOf, Leading}
+use Rattle.guided_expand.specs.declared.steps.Source.{Source}
 
-module _ {steps : Steps} {row : List ℕ} {t : Estimates} {n spent p e to : ℕ} {x : Work} {c : Counts} (l : Leading steps row t n spent p e to x c) where
+module _ {steps : Steps} {row : List ℕ} {t : Estimates} {from : Source} {p e to : ℕ} {x : Work} {c : Counts} (l : Leading steps row t from p e to x c) where
+  abbrev s : ℕ
+  s = sourceStage from
+
+  abbrev n : ℕ
+  n = sourceNode from
+
+  abbrev spent : ℕ
+  spent = from .cost
+
   abbrev z : Shape
   z = l .z
 
@@ -80,9 +90,9 @@ module _ {steps : Steps} {row : List ℕ} {t : Estimates} {n spent p e to : ℕ}
     shown-is : rest ≡ shown (h (g .to e) (a .next e n))
     shown-is = er ∙ l .by .holds (getD (steps .to) e 0) to stage-small (omega (arith, l .enters, next-inside, width)) ∙ ap shown (ap₂ h to-stage (l .enters))
 
-    pub leads-none : rest ≡ unopened → Opened (l .by) (l .s) n spent p e (e + 1) x c x c
+    pub leads-none : rest ≡ unopened → Opened (l .by) from p e (e + 1) x c x c
     leads-none q = record {
-      expanded = step-none g a h (l .s) n spent e (marksIn x c) (estimate-none (l .by .guide) (g .to e) (a .next e n) rest next-inside shown-is q);
+      expanded = step-none g a h s n spent e (marksIn x c) (estimate-none (l .by .guide) (g .to e) (a .next e n) rest next-inside shown-is q);
       kept = kept-same (l .opens .queue);
     }
 
@@ -94,8 +104,8 @@ module _ {steps : Steps} {row : List ℕ} {t : Estimates} {n spent p e to : ℕ}
       leads-fit =
           omega (arith, l .opens .settling .cheap, cost-is, step-cheap g (tables .valid) e exists, l .by .guide .bounded (g .to e) (a .next e n) rest next-inside has)
 
-      leads : Target (l .by .guide) (c .floor) (pair a (g .to e) (a .next e n)) (spent + g .cost e + rest)
-      leads = target (l .by .guide) (l .s) n spent (c .floor) e rest (l .opens .settling) exists (l .leaves) has
+      leads : Target (l .by .guide) (from .key) (pair a (g .to e) (a .next e n)) (spent + g .cost e + rest)
+      leads = target (l .by .guide) s n spent (from .key) e rest (l .opens .settling) exists (l .leaves) has
 
       module _ (y v : ℕ) (ey : y ≡ getD row (getD (steps .to) e 0) 0 + to) (ev : v ≡ spent + getD (steps .cost) e 0 + rest) where
         row-is : getD row (getD (steps .to) e 0) 0 ≡ g .to e * a .size
@@ -109,21 +119,21 @@ module _ {steps : Steps} {row : List ℕ} {t : Estimates} {n spent p e to : ℕ}
         key-is : v ≡ spent + g .cost e + rest
         key-is = omega (arith, cost-is)
 
-        pub leads-ask : Offering p y v x c
+        pub leads-ask : Offering p (from .key) y v x c
         leads-ask =
             let w : z .stages * a .size ≡ p = ap (λ (k : ℕ). z .stages * k) width ∙ sym (l .opens .pairs) in
-            let above : c .floor ≤ v = omega (arith, leads .above, key-is) in
+            let above : from .key ≤ v = omega (arith, leads .above, key-is) in
             record {
               queue = l .opens .queue;
               pair = omega (arith, pair-is, leads .pair-inside);
               fits = l .opens .fits;
               above = above;
               low = omega (arith, key-is, leads .low);
-              offerable = offerable g a h (marksIn x c) (c .floor) y v (l .opens .frontier) (rw pair-is (leads .may-open)) above;
+              offerable = offerable g a h (marksIn x c) (from .key) y v (l .opens .frontier) (rw pair-is (leads .may-open)) above;
             }
 
-        pub leads-some : {mark : ℕ} {x′ : Work} {c′ : Counts} → mark ≡ packed e n → Relaxes p y v mark x c x′ c′ → Opened (l .by) (l .s) n spent p e (e + 1) x c x′ c′
+        pub leads-some : {mark : ℕ} {x′ : Work} {c′ : Counts} → mark ≡ packed e n → Relaxes p (from .key) y v mark x c x′ c′ → Opened (l .by) from p e (e + 1) x c x′ c′
         leads-some {mark} {x′} {c′} em r = record {
-          expanded = step-relaxed g a h (l .s) n spent e rest y v mark (marksIn x c) (marksIn x′ c′) exists (l .leaves) has pair-is key-is em (r .relaxed);
+          expanded = step-relaxed g a h s n spent e rest y v mark (marksIn x c) (marksIn x′ c′) exists (l .leaves) has pair-is key-is em (r .relaxed);
           kept = r .kept;
         }

@@ -21,47 +21,56 @@ use Rattle.guided_model.specs.Moves.{expanded-none}
 use Rattle.guided_expand.specs.Estimates.{Estimates}
 use Rattle.guided_expand.specs.Work.{Work, marksIn, kept-same}
 use Rattle.guided_expand.specs.Guides.{Guides}
-use Rattle.guided_expand.specs.Opening.{Opens, Opened, opens-on, opened-more, Opening, Leading}
+use Rattle.guided_expand.specs.Opening.{sourceStage, sourceNode, Opens, Opened, opens-on, opened-more, Opening, Leading}
+use Rattle.guided_expand.specs.declared.steps.Source.{Source}
 
 -- the steps of stage s, by the table of first steps
 abbrev pub firstOf : Walk → ℕ → ℕ
 firstOf on s = getD (on .first) s 0
 
-module _ {on : Walk} {t : Estimates} {s n spent p : ℕ} {x : Work} {c : Counts} (o : Opening on t s n spent p x c) where
-  pub settles-stage : s < 256
+module _ {on : Walk} {t : Estimates} {from : Source} {p : ℕ} {x : Work} {c : Counts} (o : Opening on t from p x c) where
+  pub settles-stage : sourceStage from < 256
   settles-stage = omega (arith, o .opens .settling .stage, few-stages (o .z) (on .read) (o .by .ready .tables))
 
-  pub settles-order : firstOf on s ≤ firstOf on (s + 1)
-  settles-order = first-order (o .z) on (o .by .ready) s (o .opens .settling .stage) .0
+  pub settles-order : firstOf on (sourceStage from) ≤ firstOf on (sourceStage from + 1)
+  settles-order = first-order (o .z) on (o .by .ready) (sourceStage from) (o .opens .settling .stage) .0
 
-pub record Walking {z : Shape} {on : Walk} {t : Estimates} (by : Guides z on t) (s n spent p : ℕ) (x₀ : Work) (c₀ : Counts) (x : Work) (c : Counts) (m e : ℕ) : Type 0 where
+pub record Walking {z : Shape} {on : Walk} {t : Estimates} (by : Guides z on t) (from : Source) (p : ℕ) (x₀ : Work) (c₀ : Counts) (x : Work) (c : Counts) (m e : ℕ) : Type 0 where
   pub for-step : ℕ
   pub not-later : for-step ≤ e
-  pub lowers : Lowers (on .read .inner .step) (on .read .inner .lo) for-step n m
-  pub begun : firstOf on s ≤ e
-  pub opens : Opens by s n spent p x c
-  pub opened : Opened by s n spent p (firstOf on s) e x₀ c₀ x c
+  pub lowers : Lowers (on .read .inner .step) (on .read .inner .lo) for-step (sourceNode from) m
+  pub begun : firstOf on (sourceStage from) ≤ e
+  pub opens : Opens by from p x c
+  pub opened : Opened by from p (firstOf on (sourceStage from)) e x₀ c₀ x c
 
 -- no step is offered
-opened-none : {z : Shape} {on : Walk} {t : Estimates} {by : Guides z on t} {s n spent p : ℕ} {x : Work} {c : Counts} → Opens by s n spent p x c → (first until : ℕ)
-    → ((e : ℕ) → first ≤ e → e < until → automatonIn z (on .read) .next e n ≡ 0) → Opened by s n spent p first until x c x c
-opened-none {z} {on} {t} {by} {s} {n} {spent} {p} {x} {c} o first until q = record {
-  expanded = expanded-none (graphIn z (on .read)) (automatonIn z (on .read)) (by .h) s n spent first until (marksIn x c) (dead-steps (by .guide) n first until q);
+opened-none : {z : Shape} {on : Walk} {t : Estimates} {by : Guides z on t} {from : Source} {p : ℕ} {x : Work} {c : Counts} → Opens by from p x c → (first until : ℕ)
+    → ((e : ℕ) → first ≤ e → e < until → automatonIn z (on .read) .next e (sourceNode from) ≡ 0) → Opened by from p first until x c x c
+opened-none {z} {on} {t} {by} {from} {p} {x} {c} o first until q = record {
+  expanded = expanded-none (graphIn z (on .read)) (automatonIn z (on .read)) (by .h) (sourceStage from) (sourceNode from) (from .cost) first until (marksIn x c)
+      (dead-steps (by .guide) (sourceNode from) first until q);
   kept = kept-same (o .queue);
 }
 
-pub walk-start : {on : Walk} {t : Estimates} {s n spent p : ℕ} {x : Work} {c : Counts} (o : Opening on t s n spent p x c) → Walking (o .by) s n spent p x c x c n (firstOf on s)
-walk-start {on} {t} {s} {n} o = record {
+pub walk-start : {on : Walk} {t : Estimates} {from : Source} {p : ℕ} {x : Work} {c : Counts} (o : Opening on t from p x c)
+    → Walking (o .by) from p x c x c (sourceNode from) (firstOf on (sourceStage from))
+walk-start {on} {t} {from} o = record {
   for-step = 0;
   not-later = omega arith;
-  lowers = lowers-zero (on .read .inner .step) (on .read .inner .lo) n;
+  lowers = lowers-zero (on .read .inner .step) (on .read .inner .lo) (sourceNode from);
   begun = omega arith;
   opens = o .opens;
-  opened = opened-none (o .opens) (firstOf on s) (firstOf on s) (λ e i j. absurd (omega arith));
+  opened = opened-none (o .opens) (firstOf on (sourceStage from)) (firstOf on (sourceStage from)) (λ e i j. absurd (omega arith));
 }
 
-module _ {z : Shape} {on : Walk} {t : Estimates} {by : Guides z on t} {s n spent p : ℕ} {x₀ : Work} {c₀ : Counts} {x : Work} {c : Counts} {m e : ℕ}
-    (w : Walking by s n spent p x₀ c₀ x c m e) where
+module _ {z : Shape} {on : Walk} {t : Estimates} {by : Guides z on t} {from : Source} {p : ℕ} {x₀ : Work} {c₀ : Counts} {x : Work} {c : Counts} {m e : ℕ}
+    (w : Walking by from p x₀ c₀ x c m e) where
+  abbrev s : ℕ
+  s = sourceStage from
+
+  abbrev n : ℕ
+  n = sourceNode from
+
   abbrev g : Graph
   g = graphIn z (on .read)
 
@@ -99,9 +108,9 @@ module _ {z : Shape} {on : Walk} {t : Estimates} {by : Guides z on t} {s n spent
       )
 
       -- node 0: no further step leads to a pair
-      pub walk-dead : r ≡ 0 → Opened by s n spent p (firstOf on s) (firstOf on (s + 1)) x₀ c₀ x c
+      pub walk-dead : r ≡ 0 → Opened by from p (firstOf on s) (firstOf on (s + 1)) x₀ c₀ x c
       walk-dead q =
-          opened-more by s n spent p (w .opened)
+          opened-more by from p (w .opened)
           (opened-none (w .opens) e (firstOf on (s + 1))
           (λ f i j. next-is (chartIn z (on .read)) (diagramIn z (on .read)) f n
           ∙ sym (advancing-dead (inner .step) (inner .lo) (inner .hi) e f n i (subst (Lowers (inner .step) (inner .lo) e n) q lowered) .is
@@ -109,11 +118,10 @@ module _ {z : Shape} {on : Walk} {t : Estimates} {by : Guides z on t} {s n spent
 
       -- the step leads to node `to`
       module _ {to : ℕ} (b : BranchesTo (inner .step) (inner .hi) e r to) where
-        abbrev pub walk-leading : Leading (on .read .steps) (on .row) t n spent p e to x c
+        abbrev pub walk-leading : Leading (on .read .steps) (on .row) t from p e to x c
         walk-leading = record {
           inner = on .read .inner;
           first = on .first;
-          s = s;
           z = z;
           by = by;
           opens = w .opens;
@@ -125,15 +133,15 @@ module _ {z : Shape} {on : Walk} {t : Estimates} {by : Guides z on t} {s n spent
         }
 
         -- and is offered
-        pub walk-more : {x′ : Work} {c′ : Counts} → length (x′ .via) ≡ length (x .via) → Opened by s n spent p e (e + 1) x c x′ c′ → Walking by s n spent p x₀ c₀ x′ c′ r (e + 1)
+        pub walk-more : {x′ : Work} {c′ : Counts} → length (x′ .via) ≡ length (x .via) → Opened by from p e (e + 1) x c x′ c′ → Walking by from p x₀ c₀ x′ c′ r (e + 1)
         walk-more q o = record {
           for-step = e;
           not-later = omega arith;
           lowers = lowered;
           begun = omega (arith, w .begun);
-          opens = opens-on by s n spent p q (w .opens) o;
-          opened = opened-more by s n spent p (w .opened) o;
+          opens = opens-on by from p q (w .opens) o;
+          opened = opened-more by from p (w .opened) o;
         }
 
-  pub walk-done : e ≡ firstOf on (s + 1) → Opened by s n spent p (firstOf on s) (firstOf on (s + 1)) x₀ c₀ x c
-  walk-done q = subst (λ (k : ℕ). Opened by s n spent p (firstOf on s) k x₀ c₀ x c) q (w .opened)
+  pub walk-done : e ≡ firstOf on (s + 1) → Opened by from p (firstOf on s) (firstOf on (s + 1)) x₀ c₀ x c
+  walk-done q = subst (λ (k : ℕ). Opened by from p (firstOf on s) k x₀ c₀ x c) q (w .opened)

@@ -47,28 +47,27 @@ past-more m n = record {
   stack-past = n .stack-past ∙ m .stack-past;
 }
 
--- the slices hold a queue, whose last key taken is the same, and nothing from p on has changed
-pub record Kept (p : ℕ) (x : Work) (c : Counts) (x′ : Work) (c′ : Counts) : Type 0 where
-  pub queue : Queue p (queueIn x′ c′)
-  pub same-floor : c′ .floor ≡ c .floor
+-- the slices hold a queue above the same floor, and nothing from p on has changed
+pub record Kept (p floor : ℕ) (x x′ : Work) (c′ : Counts) : Type 0 where
+  pub queue : Queue p floor (queueIn x′ c′)
   pub past : Past p x x′
 
-pub kept-same : {p : ℕ} {x : Work} {c : Counts} → Queue p (queueIn x c) → Kept p x c x c
-kept-same q = record { queue = q; same-floor = refl; past = past-same }
+pub kept-same : {p floor : ℕ} {x : Work} {c : Counts} → Queue p floor (queueIn x c) → Kept p floor x x c
+kept-same q = record { queue = q; past = past-same }
 
-pub kept-more : {p : ℕ} {x : Work} {c : Counts} {x′ : Work} {c′ : Counts} {x″ : Work} {c″ : Counts} → Kept p x c x′ c′ → Kept p x′ c′ x″ c″ → Kept p x c x″ c″
-kept-more m n = record { queue = n .queue; same-floor = n .same-floor ∙ m .same-floor; past = past-more (m .past) (n .past) }
+pub kept-more : {p floor : ℕ} {x x′ : Work} {c′ : Counts} {x″ : Work} {c″ : Counts} → Kept p floor x x′ c′ → Kept p floor x′ x″ c″ → Kept p floor x x″ c″
+kept-more m n = record { queue = n .queue; past = past-more (m .past) (n .past) }
 
 -- pair y can be offered the key v
-pub record Offering (p y v : ℕ) (x : Work) (c : Counts) : Type 0 where
-  pub queue : Queue p (queueIn x c)
+pub record Offering (p floor y v : ℕ) (x : Work) (c : Counts) : Type 0 where
+  pub queue : Queue p floor (queueIn x c)
   pub pair : y < p
   pub fits : p ≤ length (x .via)
-  pub above : c .floor ≤ v
+  pub above : floor ≤ v
   pub low : v < unopened
   pub offerable : Offerable (marksIn x c) y v
 
 -- what the offer leaves; `mark` has the step and the node that it came by
-pub record Relaxes (p y v mark : ℕ) (x : Work) (c : Counts) (x′ : Work) (c′ : Counts) : Type 0 where
+pub record Relaxes (p floor y v mark : ℕ) (x : Work) (c : Counts) (x′ : Work) (c′ : Counts) : Type 0 where
   pub relaxed : Relaxed y v mark (marksIn x c) (marksIn x′ c′)
-  pub kept : Kept p x c x′ c′
+  pub kept : Kept p floor x x′ c′

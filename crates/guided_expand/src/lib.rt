@@ -5,4 +5,5 @@ mod steps;
 
 pub use estimate::pair_estimate;
 pub use steps::Pair;
+pub use steps::Source;
 pub use steps::settle;

@@ -30,7 +30,14 @@ pub struct Pair {
     pub node: Node,
 }
 
-// Offers step e, which leaves a pair of node n and the cost `spent` and leads to node t.
+// A pair that is settled, its cost, and its key (cost plus estimate), which is the one last taken from the queue.
+pub struct Source {
+    pub pair: Pair,
+    pub cost: u32,
+    pub key: u32,
+}
+
+// Offers step e, which leaves the settled pair `source` and leads to node t.
 fn offer<'a>(
     keys: &mut [u32],
     via: &mut [u32],
@@ -43,22 +50,21 @@ fn offer<'a>(
     row: &'a [u32; 256],
     by_stage: &'a [u32; 256],
     by_node: &'a [u32; 512],
-    n: Node,
-    spent: u32,
+    source: Source,
     e: Step,
     t: Node,
 ) -> Counts
     requires { ⌜
         (let before = work (now keys) (now via) (now heap) (now pos) (now stack) in
         let estimated = estimates (now «by_stage») (now «by_node») in
-        Leading (stepsIn (now steps)) (now row) estimated (n .0) spent p (e .0) (t .0) before counts)
+        Leading (stepsIn (now steps)) (now row) estimated source p (e .0) (t .0) before counts)
         ⌝ }
     ensures { λ r. ⌜
         (let before = work (now (keys .entry)) (now (via .entry)) (now (heap .entry)) (now (pos .entry)) (now (stack .entry)) in
         let after = work (now (keys .exit)) (now (via .exit)) (now (heap .exit)) (now (pos .exit)) (now (stack .exit)) in
         let estimated = estimates (now («by_stage» .entry)) (now («by_node» .entry)) in
-        (x : Leading (stepsIn (now (steps .entry))) (now (row .entry)) estimated (n .0) spent p (e .0) (t .0) before counts)
-        → Opened (x .by) (x .s) (n .0) spent p (e .0) (e .0 + 1) before counts after r)
+        (x : Leading (stepsIn (now (steps .entry))) (now (row .entry)) estimated source p (e .0) (t .0) before counts)
+        → Opened (x .by) source p (e .0) (e .0 + 1) before counts after r)
         ⌝ }
 {
     let i = e.0 as usize;
@@ -69,12 +75,24 @@ fn offer<'a>(
         return counts;
     }
     let y = pair_at(row, stage, t);
-    let v = spent + steps[COST][i] + rest;
-    relax(keys, via, heap, pos, stack, p, counts, y, v, packed(e, n))
+    let v = source.cost + steps[COST][i] + rest;
+    relax(
+        keys,
+        via,
+        heap,
+        pos,
+        stack,
+        p,
+        counts,
+        source.key,
+        y,
+        v,
+        packed(e, source.pair.node),
+    )
 }
 
-// Offers the steps that leave the pair `at`, of the cost `spent`. Its node is lowered from one step to the next; once it is
-// 0, no further step leads to a pair.
+// Offers the steps that leave the settled pair `source`. Its node is lowered from one step to the next; once it is 0, no
+// further step leads to a pair.
 pub fn settle<'a>(
     keys: &mut [u32],
     via: &mut [u32],
@@ -89,30 +107,28 @@ pub fn settle<'a>(
     inner: &'a [[u16; 512]; 3],
     by_stage: &'a [u32; 256],
     by_node: &'a [u32; 512],
-    at: Pair,
-    spent: u32,
+    source: Source,
 ) -> Counts
     requires { ⌜
         (let before = work (now keys) (now via) (now heap) (now pos) (now stack) in
         let on = walk (read (now steps) (now inner)) (now first) (now row) in
         let estimated = estimates (now «by_stage») (now «by_node») in
-        Opening on estimated (at .stage .0) (at .node .0) spent p before counts)
+        Opening on estimated source p before counts)
         ⌝ }
     ensures { λ r. ⌜
         (let before = work (now (keys .entry)) (now (via .entry)) (now (heap .entry)) (now (pos .entry)) (now (stack .entry)) in
         let after = work (now (keys .exit)) (now (via .exit)) (now (heap .exit)) (now (pos .exit)) (now (stack .exit)) in
         let on = walk (read (now (steps .entry)) (now (inner .entry))) (now (first .entry)) (now (row .entry)) in
         let estimated = estimates (now («by_stage» .entry)) (now («by_node» .entry)) in
-        let s = at .stage .0 in
-        (x : Opening on estimated s (at .node .0) spent p before counts)
-        → Opened (x .by) s (at .node .0) spent p (getD (on .first) s 0) (getD (on .first) (s + 1) 0) before counts after r)
+        let s = source .pair .stage .0 in
+        (x : Opening on estimated source p before counts)
+        → Opened (x .by) source p (getD (on .first) s 0) (getD (on .first) (s + 1) 0) before counts after r)
         ⌝ }
 {
-    let s = at.stage.0 as usize;
-    let n = at.node;
+    let s = source.pair.stage.0 as usize;
     let until = first[s + 1];
     let mut left = counts;
-    let mut m = n;
+    let mut m = source.pair.node;
     let mut e = first[s];
     while e < until {
         let key = Step(e);
@@ -133,8 +149,7 @@ pub fn settle<'a>(
             row,
             by_stage,
             by_node,
-            n,
-            spent,
+            source,
             key,
             t,
         );

@@ -1,7 +1,7 @@
 -- Before the first turn: the pair of start and root is opened.
 -- Assumes nothing.
 use Prim.Native.Nat.{ℕ, _+_, _*_, _≤_, _<_}
-use mathlib.Core.Path.{_≡_, refl, sym, _∙_, ap, subst}
+use mathlib.Core.Path.{_≡_, refl, _∙_, ap, subst}
 use mathlib.Core.Bool.{Bool}
 use mathlib.Core.List.{List}
 use native.Mathlib.Omega.{arith}
@@ -72,26 +72,25 @@ module _ {z : Shape} {on : Walk} {t : Estimates} {yes-at : List Bool} {rest : �
   begin-inside =
       omega (arith, begins, pairs-are by, pair-inside (g by) (a by) (z .start .0) (z .root .0) (tables by .valid .start-inside) (sound by .root-inside))
 
-  begin-queue : Queue (pairsIn z) (queueIn x c)
+  begin-queue : Queue (pairsIn z) 0 (queueIn x c)
   begin-queue = queue-empty no (omega (arith, few-pairs by)) (b .space .keys-fit) (b .space .heap-fits) (b .space .pos-fits) (b .space .stack-fits)
 
-  pub begin-asks : Queue (pairsIn z) (queueIn x c) × ((begin < pairsIn z) × (c .floor ≤ rest) × (Contains (queueIn x c) begin → ⊥))
-  begin-asks = (begin-queue, (begin-inside, omega (arith, no .floor-zero), λ o. contains-none begin-queue (no .none-held) o))
+  pub begin-asks : Queue (pairsIn z) 0 (queueIn x c) × ((begin < pairsIn z) × (0 ≤ rest) × (Contains (queueIn x c) begin → ⊥))
+  begin-asks = (begin-queue, (begin-inside, omega arith, λ o. contains-none begin-queue (no .none-held) o))
 
-  module _ {keys′ heap′ pos′ stack′ : List ℕ} {c′ : Counts} (i : Inserted (pairsIn z) begin rest (queueIn x c) (state keys′ heap′ pos′ stack′ c′)) where
+  module _ {keys′ heap′ pos′ stack′ : List ℕ} {c′ : Counts} (i : Inserted (pairsIn z) 0 begin rest (queueIn x c) (state keys′ heap′ pos′ stack′ c′)) where
     abbrev x′ : Work
     x′ = work keys′ (x .via) heap′ pos′ stack′
 
     only-begin : (k : ℕ) → Contains (queueIn x′ c′) k → k ≡ begin
     only-begin k o = either (same-or-not k begin) (λ q. q) (λ q. absurd (contains-none begin-queue (no .none-held) (i .only k o q)))
 
-    pub begin-running : Running (chartIn z (on .read)) (diagramIn z (on .read)) (by .h) (marksIn x′ c′) log log 0 (c′ .floor)
+    pub begin-running : Running (chartIn z (on .read)) (diagramIn z (on .read)) (by .h) (marksIn x′ c′) log log 0 0
     begin-running =
-        subst (λ (f : ℕ). Running (chartIn z (on .read)) (diagramIn z (on .read)) (by .h) (marksIn x′ c′) log log 0 f) (sym (i .same-floor ∙ no .floor-zero))
-        (running-start (chartIn z (on .read)) (diagramIn z (on .read)) (sound by) (by .guide) (x .keys) log (marksIn x′ c′) rest (b .has) (b .clear)
+        running-start (chartIn z (on .read)) (diagramIn z (on .read)) (sound by) (by .guide) (x .keys) log (marksIn x′ c′) rest (b .has) (b .clear)
         (omega (arith, begins, begin-inside, b .space .keys-fit))
         (i .stored ∙ ap (λ (k : ℕ). set (x .keys) k rest) begins)
-        (subst (Contains (queueIn x′ c′)) begins (i .here)) (λ k o. only-begin k o ∙ begins) (omega (arith, pairs-are by, b .space .log-fits)))
+        (subst (Contains (queueIn x′ c′)) begins (i .here)) (λ k o. only-begin k o ∙ begins) (omega (arith, pairs-are by, b .space .log-fits))
 
     -- the loop may begin
     abbrev pub begin-begun : Begun z on t yes-at x′ c′ log

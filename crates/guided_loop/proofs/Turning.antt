@@ -30,6 +30,7 @@ use Rattle.guided_expand.specs.Estimates.{Estimates, paired}
 use Rattle.guided_expand.specs.Work.{Work, work, queueIn, marksIn, Past, past-more}
 use Rattle.guided_expand.specs.Guides.{Guides, pairsIn}
 use Rattle.guided_expand.specs.declared.steps.Pair.{Pair}
+use Rattle.guided_expand.specs.declared.steps.Source.{Source}
 use Rattle.guided_expand.specs.Opening.{Opens, Opened, Opening}
 use Rattle.guided_loop.specs.Places.{stageAt, Placed}
 use Rattle.guided_loop.specs.Search.{Prepared, Turning, Searched}
@@ -38,7 +39,7 @@ use Rattle.guided_loop.proofs.Placing.{at-begin, at-step}
 use Rattle.guided_loop.proofs.Beginning.{g, a, tables, sound, width, narrow, pairs-are, few-pairs}
 
 module _ {z : Shape} {on : Walk} {t : Estimates} {yes-at : List Bool} (prepared : Prepared z on t yes-at)
-    {x₀ : Work} {log₀ : List ℕ} {x : Work} {log : List ℕ} {c : Counts} {count : ℕ} (w : Turning (prepared .by) x₀ log₀ x log c count) where
+    {x₀ : Work} {log₀ : List ℕ} {x : Work} {log : List ℕ} {c : Counts} {floor count : ℕ} (w : Turning (prepared .by) x₀ log₀ x log c floor count) where
   abbrev by : Guides z on t
   by = prepared .by
 
@@ -59,8 +60,8 @@ module _ {z : Shape} {on : Walk} {t : Estimates} {yes-at : List Bool} (prepared 
     past = w .past;
   }
 
-  module _ {begin y : ℕ} {heap′ pos′ : List ℕ} {c′ : Counts} (eb : begin ≡ startPair (g by) (a by))
-      (k : Taken (pairsIn z) y (queueIn x c) (state (x .keys) heap′ pos′ (x .stack) c′)) where
+  module _ {begin y key : ℕ} {heap′ pos′ : List ℕ} {c′ : Counts} (eb : begin ≡ startPair (g by) (a by))
+      (k : Taken (pairsIn z) floor y key (queueIn x c) (state (x .keys) heap′ pos′ (x .stack) c′)) where
     abbrev x′ : Work
     x′ = work (x .keys) (x .via) heap′ pos′ (x .stack)
 
@@ -139,35 +140,38 @@ module _ {z : Shape} {on : Walk} {t : Estimates} {yes-at : List Bool} (prepared 
             chosen-settling (by .guide) (w .running .searching) smallest s n r turn-located
             (er ∙ by .holds s n (turn-inside .0) (omega (arith, turn-located .node, width by)))
 
-        pub turn-estimate : r ≤ c′ .floor
-        turn-estimate = omega (arith, settles .0, k .new-floor)
+        pub turn-estimate : r ≤ key
+        turn-estimate = omega (arith, settles .0, k .its-key)
 
-        spent-is : c′ .floor - r ≡ costSoFar (g by) (a by) h (x .keys) y
-        spent-is = ap (λ (i : ℕ). i - r) (k .new-floor) ∙ settles .1
+        spent-is : key - r ≡ costSoFar (g by) (a by) h (x .keys) y
+        spent-is = ap (λ (i : ℕ). i - r) (k .its-key) ∙ settles .1
 
         -- the steps from it can be offered
-        pub turn-opens : Opens (prepared .by) s n (c′ .floor - r) (pairsIn z) x′ c′
+        abbrev pub turn-source : Source
+        turn-source = record { pair = pair; cost = key - r; key = key }
+
+        pub turn-opens : Opens (prepared .by) turn-source (pairsIn z) x′ c′
         turn-opens = record {
           pairs = refl;
           fits = w .fits;
           queue = k .queue;
-          frontier = subst (λ (i : ℕ). Frontier (g by) (a by) h (marksIn x′ c′) i) (sym (k .new-floor))
+          frontier = subst (λ (i : ℕ). Frontier (g by) (a by) h (marksIn x′ c′) i) (sym (k .its-key))
               (chosen-frontier (by .guide) (w .running .searching) smallest others);
-          settling = subst (λ (i : ℕ). Settling (g by) (a by) h s n (i - r) i) (sym (k .new-floor)) (settles .2);
+          settling = subst (λ (i : ℕ). Settling (g by) (a by) h s n (i - r) i) (sym (k .its-key)) (settles .2);
         }
 
-        abbrev pub turn-asks : Opening on t s n (c′ .floor - r) (pairsIn z) x′ c′
+        abbrev pub turn-asks : Opening on t turn-source (pairsIn z) x′ c′
         turn-asks = record { z = z; by = prepared .by; opens = turn-opens }
 
         module _ {goal-at : Bool} (eg : goal-at ≡ (eqb s (z .end .0) && getD yes-at n false)) where
           -- a goal pair
-          pub turn-goal : goal-at ≡ true → {e : Ended} → e .node .0 ≡ n → e .cost ≡ c′ .floor - r → e .count ≡ count + 1 → e .found ≡ true
+          pub turn-goal : goal-at ≡ true → {e : Ended} → e .node .0 ≡ n → e .cost ≡ key - r → e .count ≡ count + 1 → e .found ≡ true
               → Searched by x₀ log₀ x′ (set log count y) e
           turn-goal q {e} nn ec ek ef =
               let v = both (eqb s (z .end .0)) (getD yes-at n false) (sym eg ∙ q) in
               record {
                 goal = λ i. rw (nn, ec, ek)
-                    (running-goal C D (sound by) (by .guide) (w .running) smallest s n (c′ .floor - r) (on .read .steps .from)
+                    (running-goal C D (sound by) (by .guide) (w .running) smallest s n (key - r) (on .read .steps .from)
                     (λ f j. from-at z (on .read) (tables by) f (omega (arith, count-is z (on .read) (tables by))))
                     turn-located (eqb-true s (z .end .0) (v .0)) (sym (prepared .accepts n (turn-located .node)) ∙ v .1) spent-is);
                 no-goal = λ i. absurd (true-not-false (sym ef ∙ i));
@@ -187,13 +191,13 @@ module _ {z : Shape} {on : Walk} {t : Estimates} {yes-at : List Bool} (prepared 
 
           -- no goal pair: the steps from it were offered
           pub turn-more : goal-at ≡ false → {x″ : Work} {c″ : Counts} → length (x″ .via) ≡ length (x .via)
-              → Opened (prepared .by) s n (c′ .floor - r) (pairsIn z) (getD (on .first) s 0) (getD (on .first) (s + 1) 0) x′ c′ x″ c″
-              → Turning (prepared .by) x₀ log₀ x″ (set log count y) c″ (count + 1)
+              → Opened (prepared .by) turn-source (pairsIn z) (getD (on .first) s 0) (getD (on .first) (s + 1) 0) x′ c′ x″ c″
+              → Turning (prepared .by) x₀ log₀ x″ (set log count y) c″ key (count + 1)
           turn-more q {x″} {c″} l o = record {
             queue = o .kept .queue;
             fits = omega (arith, w .fits);
-            running = subst (λ (f : ℕ). Running C D h (marksIn x″ c″) log₀ (set log count y) (count + 1) f) (sym (o .kept .same-floor ∙ k .new-floor))
-                (running-turn C D (sound by) (by .guide) (w .running) smallest others s n (c′ .floor - r) (getD (on .first) s 0) (getD (on .first) (s + 1) 0)
+            running = subst (λ (f : ℕ). Running C D h (marksIn x″ c″) log₀ (set log count y) (count + 1) f) (sym (k .its-key))
+                (running-turn C D (sound by) (by .guide) (w .running) smallest others s n (key - r) (getD (on .first) s 0) (getD (on .first) (s + 1) 0)
                 turn-located spent-is (λ e i f. first-all z on (by .ready) s e (turn-located .stage) i f) (o .expanded) (no-goal q));
             past = past-more (w .past) (record {
               keys-past = o .kept .past .keys-past;

@@ -41,11 +41,11 @@ pub record Start (z : Shape) (on : Walk) (t : Estimates) (yes-at : List Bool) (r
   pub clear : (k : ℕ) → Openable (graphIn z (on .read)) (automatonIn z (on .read)) (prepared .by .h) k → getD (x .keys) k 0 ≡ unopened
 
 module _ {z : Shape} {on : Walk} {t : Estimates} (by : Guides z on t) where
-  -- between two turns: from the slices x₀ and log₀ it came to x and log, in which `count` pairs are settled and those of the queue are open
-  pub record Turning (x₀ : Work) (log₀ : List ℕ) (x : Work) (log : List ℕ) (c : Counts) (count : ℕ) : Type 0 where
-    pub queue : Queue (pairsIn z) (queueIn x c)
+  -- between two turns: from the slices x₀ and log₀ it came to x and log, in which `count` pairs are settled, the last one at the key `floor`, and those of the queue are open
+  pub record Turning (x₀ : Work) (log₀ : List ℕ) (x : Work) (log : List ℕ) (c : Counts) (floor count : ℕ) : Type 0 where
+    pub queue : Queue (pairsIn z) floor (queueIn x c)
     pub fits : pairsIn z ≤ length (x .via)
-    pub running : Running (chartIn z (on .read)) (diagramIn z (on .read)) (by .h) (marksIn x c) log₀ log count (c .floor)
+    pub running : Running (chartIn z (on .read)) (diagramIn z (on .read)) (by .h) (marksIn x c) log₀ log count floor
     pub past : Past (pairsIn z) x₀ x
 
   -- what the search leaves
@@ -58,4 +58,4 @@ module _ {z : Shape} {on : Walk} {t : Estimates} (by : Guides z on t) where
 -- nothing is settled yet, and the pairs of the queue are open
 pub record Begun (z : Shape) (on : Walk) (t : Estimates) (yes-at : List Bool) (x : Work) (c : Counts) (log : List ℕ) : Type 0 where
   pub prepared : Prepared z on t yes-at
-  pub turning : Turning (prepared .by) x log x log c 0
+  pub turning : Turning (prepared .by) x log x log c 0 0

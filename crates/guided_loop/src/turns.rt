@@ -9,6 +9,7 @@ use crate::places::pair_of;
 use chart::TO;
 use definitions::Node;
 use definitions::Shape;
+use guided_expand::Source;
 use guided_expand::pair_estimate;
 use guided_expand::settle;
 use queue::Counts;
@@ -58,24 +59,30 @@ fn settle_open<'a>(
     let p = z.stages as usize * (z.nodes + 2);
     let begin = pair_at(row, z.start, z.root);
     let mut counts = opened;
+    let mut floor: u32 = 0;
     let mut count: usize = 0;
     let mut found = false;
     let mut node = Node(0);
     let mut cost: u32 = 0;
     'search: while 0 < counts.held {
-        let next = queue::take(keys, heap, pos, stack, p, counts);
+        let next = queue::take(keys, heap, pos, stack, p, counts, floor);
         let x = next.pair;
+        floor = next.key;
         log[count] = x as u32;
         count += 1;
         let at = pair_of(via, &steps[TO], row, begin, z.start, x);
-        let sum = next.counts.floor;
-        let spent = sum - pair_estimate(by_stage, by_node, at.stage, at.node);
+        let spent = floor - pair_estimate(by_stage, by_node, at.stage, at.node);
         if is_goal(yes, z.end, at) {
             found = true;
             node = at.node;
             cost = spent;
             break 'search;
         }
+        let source = Source {
+            pair: at,
+            cost: spent,
+            key: floor,
+        };
         counts = settle(
             keys,
             via,
@@ -90,8 +97,7 @@ fn settle_open<'a>(
             inner,
             by_stage,
             by_node,
-            at,
-            spent,
+            source,
         );
     }
     Ended {
@@ -138,7 +144,7 @@ pub fn search<'a>(
 {
     let p = z.stages as usize * (z.nodes + 2);
     let begin = pair_at(row, z.start, z.root);
-    let opened = queue::insert(keys, heap, pos, stack, p, queue::empty(), begin, rest);
+    let opened = queue::insert(keys, heap, pos, stack, p, queue::empty(), 0, begin, rest);
     settle_open(
         keys,
         via,

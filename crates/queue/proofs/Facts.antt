@@ -11,11 +11,11 @@ use Rattle.heap.proofs.Calls.{heap-empty}
 use Rattle.queue.specs.declared.Counts.{Counts}
 use Rattle.queue.specs.Queue.{State, state, heaped, Contains, Queue, Empty}
 
--- the empty queue, whatever stands in the slices
-pub queue-empty : {keys heap pos stack : List ℕ} {p : ℕ} {c : Counts} → Empty c
+-- the empty queue, whatever stands in the slices and whatever the floor is
+pub queue-empty : {keys heap pos stack : List ℕ} {p floor : ℕ} {c : Counts} → Empty c
     → p ≤ 4294967296 → p ≤ length keys → p ≤ length heap → p ≤ length pos → p ≤ length stack
-    → Queue p (state keys heap pos stack c)
-queue-empty {keys} {heap} {pos} {stack} {p} {c} x s a b d e = record {
+    → Queue p floor (state keys heap pos stack c)
+queue-empty {keys} {heap} {pos} {stack} {p} {floor} {c} x s a b d e = record {
   ordered = let n : 0 ≡ heaped c = omega (arith, x .none-held) in rw n at h;
   top-held = omega (arith, x .none-stacked);
   stack-fits = e;
@@ -29,7 +29,7 @@ queue-empty {keys} {heap} {pos} {stack} {p} {c} x s a b d e = record {
     h : Heap (slices keys heap pos) p 0
     h = heap-empty s a b d
 
-module _ {p : ℕ} {x : State} (y : Queue p x) where
+module _ {p floor : ℕ} {x : State} (y : Queue p floor x) where
   -- each pair has a key
   pub keys-fit : p ≤ length (x .keys)
   keys-fit = y .ordered .keys-fit
@@ -45,6 +45,6 @@ module _ {p : ℕ} {x : State} (y : Queue p x) where
   contains-pair (Contains.on-stack i l d) = omega (arith, y .pairs i l)
 
   -- and its key is at least the one last taken
-  pub floor-le : {q : ℕ} → Contains x q → x .counts .floor ≤ getD (x .keys) q 0
+  pub floor-le : {q : ℕ} → Contains x q → floor ≤ getD (x .keys) q 0
   floor-le {q} (Contains.in-heap w) = y .above q w
   floor-le (Contains.on-stack i l d) = omega (arith, y .level i l, ap (λ (k : ℕ). getD (x .keys) k 0) d)

@@ -20,7 +20,7 @@ data Entry (stack : List ℕ) (top q i : ℕ) : Type 0 where
   new : i ≡ top → getD (set stack top q) i 0 ≡ q → Entry stack top q i
   old : i < top → getD (set stack top q) i 0 ≡ getD stack i 0 → Entry stack top q i
 
-module _ {keys heap pos stack : List ℕ} {p : ℕ} {c : Counts} {q : ℕ} (x : Queue p (state keys heap pos stack c)) (l : q < p) (out : Contains (state keys heap pos stack c) q → ⊥) where
+module _ {keys heap pos stack : List ℕ} {p floor : ℕ} {c : Counts} {q : ℕ} (x : Queue p floor (state keys heap pos stack c)) (l : q < p) (out : Contains (state keys heap pos stack c) q → ⊥) where
   not-q : (i : ℕ) → i < c .top → getD stack i 0 ≢ q
   not-q i h d = out (Contains.on-stack i h d)
 
@@ -46,7 +46,7 @@ module _ {keys heap pos stack : List ℕ} {p : ℕ} {c : Counts} {q : ℕ} (x : 
 
   -- ---- at the floor: on the stack
   abbrev pushed : Counts
-  pushed = record { held = c .held + 1; top = c .top + 1; floor = c .floor }
+  pushed = record { held = c .held + 1; top = c .top + 1 }
 
   same-heap : heaped pushed ≡ heaped c
   same-heap = omega arith
@@ -64,7 +64,7 @@ module _ {keys heap pos stack : List ℕ} {p : ℕ} {c : Counts} {q : ℕ} (x : 
     old-key : (k : ℕ) → k ≢ q → getD (set keys q v) k 0 ≡ getD keys k 0
     old-key k ne = getD-set-other keys q k v 0 ne
 
-    stack-queue : v ≡ c .floor → Queue p (state (set keys q v) heap pos entries pushed)
+    stack-queue : v ≡ floor → Queue p floor (state (set keys q v) heap pos entries pushed)
     stack-queue e = record {
       ordered = rw same-heap (heap-other (x .ordered) q v (λ w. out (Contains.in-heap w)));
       top-held = omega (arith, x .top-held);
@@ -86,7 +86,7 @@ module _ {keys heap pos stack : List ℕ} {p : ℕ} {c : Counts} {q : ℕ} (x : 
         apart₂ i j d (Entry.old a b) (Entry.new f g) = absurd (not-q i a (sym b ∙ d ∙ g))
         apart₂ i j d (Entry.old a b) (Entry.old f g) = x .distinct i j a f (sym b ∙ d ∙ g)
 
-        level′ : (i : ℕ) → Entry stack (c .top) q i → getD (set keys q v) (getD entries i 0) 0 ≡ c .floor
+        level′ : (i : ℕ) → Entry stack (c .top) q i → getD (set keys q v) (getD entries i 0) 0 ≡ floor
         level′ i (Entry.new a b) = rw b (new-key ∙ e)
         level′ i (Entry.old a b) = rw b (old-key (getD stack i 0) (not-q i a) ∙ x .level i a)
 
@@ -94,12 +94,11 @@ module _ {keys heap pos stack : List ℕ} {p : ℕ} {c : Counts} {q : ℕ} (x : 
         apart′ i w (Entry.new a b) = out (Contains.in-heap (rw b at w))
         apart′ i w (Entry.old a b) = x .apart i a (rw b at w)
 
-    pub insert-stack : v ≡ c .floor → Inserted p q v (state keys heap pos stack c) (state (set keys q v) heap pos entries pushed)
+    pub insert-stack : v ≡ floor → Inserted p floor q v (state keys heap pos stack c) (state (set keys q v) heap pos entries pushed)
     insert-stack e = record {
       stored = refl;
       queue = stack-queue e;
       one-more = refl;
-      same-floor = refl;
       here = Contains.on-stack (c .top) (omega arith) (getD-set-same stack (c .top) q 0 top-fits);
       kept = kept;
       only = only;
@@ -122,9 +121,9 @@ module _ {keys heap pos stack : List ℕ} {p : ℕ} {c : Counts} {q : ℕ} (x : 
 
   -- ---- above the floor: in the heap
   abbrev added : Counts
-  added = record { held = c .held + 1; top = c .top; floor = c .floor }
+  added = record { held = c .held + 1; top = c .top }
 
-  module _ {v : ℕ} {keys′ heap′ pos′ : List ℕ} (g : c .floor ≤ v) (ne : v ≢ c .floor) (u : Pushed p (heaped c) q v (slices keys heap pos) (slices keys′ heap′ pos′)) where
+  module _ {v : ℕ} {keys′ heap′ pos′ : List ℕ} (g : floor ≤ v) (ne : v ≢ floor) (u : Pushed p (heaped c) q v (slices keys heap pos) (slices keys′ heap′ pos′)) where
     one-more : heaped c + 1 ≡ heaped added
     one-more = omega (arith, x .top-held)
 
@@ -134,7 +133,7 @@ module _ {keys heap pos stack : List ℕ} {p : ℕ} {c : Counts} {q : ℕ} (x : 
     in-before : {k : ℕ} → In heap′ pos′ (heaped added) k → In heap′ pos′ (heaped c + 1) k
     in-before w = rw one-more w
 
-    heap-queue : Queue p (state keys′ heap′ pos′ stack added)
+    heap-queue : Queue p floor (state keys′ heap′ pos′ stack added)
     heap-queue = record {
       ordered = rw one-more at (u .ordered);
       top-held = omega (arith, x .top-held);
@@ -146,16 +145,15 @@ module _ {keys heap pos stack : List ℕ} {p : ℕ} {c : Counts} {q : ℕ} (x : 
       above = λ k w. above k (in-before w) (ℕ-discrete k q);
     }
       where
-        above : (k : ℕ) → In heap′ pos′ (heaped c + 1) k → Dec (k ≡ q) → c .floor ≤ getD keys′ k 0
+        above : (k : ℕ) → In heap′ pos′ (heaped c + 1) k → Dec (k ≡ q) → floor ≤ getD keys′ k 0
         above k w (yes d) = rw (u .stored, d) (omega (arith, new-key v))
         above k w (no nd) = rw (u .stored) (omega (arith, old-key v k nd, x .above k (u .only k w nd)))
 
-    pub insert-heap : Inserted p q v (state keys heap pos stack c) (state keys′ heap′ pos′ stack added)
+    pub insert-heap : Inserted p floor q v (state keys heap pos stack c) (state keys′ heap′ pos′ stack added)
     insert-heap = record {
       stored = u .stored;
       queue = heap-queue;
       one-more = refl;
-      same-floor = refl;
       here = Contains.in-heap (now-in (u .here));
       kept = kept;
       only = only;

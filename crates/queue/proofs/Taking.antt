@@ -12,37 +12,43 @@ use Rattle.theory.specs.Counting.{pigeons}
 use Rattle.heap.specs.Heap.{slices, In, Heap, Popped}
 use Rattle.heap.specs.Heap as heap-specs
 use Rattle.queue.specs.declared.Counts.{Counts}
-use Rattle.queue.specs.Queue.{state, heaped, Contains, Queue, recent, Decreased, Taken}
+use Rattle.queue.specs.Queue.{state, heaped, Contains, Queue, recent, Decreasing, Decreased, Taken}
 use Rattle.queue.proofs.Facts.{contains-pair, floor-le}
 use Rattle.queue.proofs.Recent.{recent-last, recent-none}
 
 -- ---- `decrease`: a pair whose key is above the floor is in the heap
-module _ {keys heap pos stack : List ℕ} {p : ℕ} {c : Counts} {q v : ℕ} (x : Queue p (state keys heap pos stack c)) (w : Contains (state keys heap pos stack c) q) (g : c .floor ≤ v) (less : v < getD keys q 0) where
+module _ {keys heap pos stack : List ℕ} {p : ℕ} {c : Counts} {q v : ℕ} (d : Decreasing p q v (state keys heap pos stack c)) where
+  abbrev floor : ℕ
+  floor = d .floor
+
+  abbrev x : Queue p floor (state keys heap pos stack c)
+  x = d .queue
+
   pub in-the-heap : In heap pos (heaped c) q
-  in-the-heap = go w
+  in-the-heap = go (d .here)
     where
       go : Contains (state keys heap pos stack c) q → In heap pos (heaped c) q
       go (Contains.in-heap i) = i
-      go (Contains.on-stack i h d) = absurd (omega (arith, x .level i h, ap (λ (k : ℕ). getD keys k 0) d))
+      go (Contains.on-stack i h e) = absurd (omega (arith, x .level i h, ap (λ (k : ℕ). getD keys k 0) e, d .above, d .lower))
 
   module _ {keys′ heap′ pos′ : List ℕ} (u : heap-specs.Decreased p (heaped c) q v (slices keys heap pos) (slices keys′ heap′ pos′)) where
-    lower-queue : Queue p (state keys′ heap′ pos′ stack c)
+    lower-queue : Queue p floor (state keys′ heap′ pos′ stack c)
     lower-queue = record {
       ordered = u .ordered;
       top-held = x .top-held;
       stack-fits = x .stack-fits;
       pairs = x .pairs;
       distinct = x .distinct;
-      level = λ i h. rw (u .stored) (getD-set-other keys q (getD stack i 0) v 0 (λ d. x .apart i h (rw d in-the-heap)) ∙ x .level i h);
+      level = λ i h. rw (u .stored) (getD-set-other keys q (getD stack i 0) v 0 (λ e. x .apart i h (rw e in-the-heap)) ∙ x .level i h);
       apart = λ i h a. x .apart i h (u .only (getD stack i 0) a);
       above = λ k a. above k a (ℕ-discrete k q);
     }
       where
-        above : (k : ℕ) → In heap′ pos′ (heaped c) k → Dec (k ≡ q) → c .floor ≤ getD keys′ k 0
-        above k a (yes d) = rw (u .stored, d) (omega (arith, getD-set-same keys q v 0 (omega (arith, contains-pair x w, x .ordered .keys-fit))))
+        above : (k : ℕ) → In heap′ pos′ (heaped c) k → Dec (k ≡ q) → floor ≤ getD keys′ k 0
+        above k a (yes e) = rw (u .stored, e) (omega (arith, d .above, getD-set-same keys q v 0 (omega (arith, contains-pair x (d .here), x .ordered .keys-fit))))
         above k a (no nd) = rw (u .stored) (omega (arith, getD-set-other keys q k v 0 nd, x .above k (u .only k a)))
 
-    pub decrease-done : Decreased p q v (state keys heap pos stack c) (state keys′ heap′ pos′ stack c)
+    pub decrease-done : Decreased p floor q v (state keys heap pos stack c) (state keys′ heap′ pos′ stack c)
     decrease-done = record {
       stored = u .stored;
       queue = lower-queue;
@@ -53,20 +59,20 @@ module _ {keys heap pos stack : List ℕ} {p : ℕ} {c : Counts} {q v : ℕ} (x 
       where
         kept : (k : ℕ) → Contains (state keys heap pos stack c) k → Contains (state keys′ heap′ pos′ stack c) k
         kept k (Contains.in-heap i) = Contains.in-heap (u .kept k i)
-        kept k (Contains.on-stack i h d) = Contains.on-stack i h d
+        kept k (Contains.on-stack i h e) = Contains.on-stack i h e
 
         only : (k : ℕ) → Contains (state keys′ heap′ pos′ stack c) k → Contains (state keys heap pos stack c) k
         only k (Contains.in-heap i) = Contains.in-heap (u .only k i)
-        only k (Contains.on-stack i h d) = Contains.on-stack i h d
+        only k (Contains.on-stack i h e) = Contains.on-stack i h e
 
-module _ {keys heap pos stack : List ℕ} {p : ℕ} {c : Counts} (x : Queue p (state keys heap pos stack c)) where
+module _ {keys heap pos stack : List ℕ} {p floor : ℕ} {c : Counts} (x : Queue p floor (state keys heap pos stack c)) where
   -- the stack is within its slice
   pub stack-within : c .top ≤ length stack
   stack-within = omega (arith, pigeons p (c .top) (λ (i : ℕ). getD stack i 0) (x .pairs) (x .distinct), x .stack-fits)
 
   -- ---- `take` from the stack
   abbrev popped : Counts
-  popped = record { held = c .held - 1; top = c .top - 1; floor = c .floor }
+  popped = record { held = c .held - 1; top = c .top - 1 }
 
   module _ {r : ℕ} (z : 0 < c .top) (e : r ≡ getD stack (c .top - 1) 0) where
     same-heap : heaped popped ≡ heaped c
@@ -75,7 +81,7 @@ module _ {keys heap pos stack : List ℕ} {p : ℕ} {c : Counts} (x : Queue p (s
     was-in : {k : ℕ} → In heap pos (heaped popped) k → In heap pos (heaped c) k
     was-in w = rw same-heap at w
 
-    level : getD keys r 0 ≡ c .floor
+    level : getD keys r 0 ≡ floor
     level = ap (λ (k : ℕ). getD keys k 0) e ∙ x .level (c .top - 1) (omega arith)
 
     was : Contains (state keys heap pos stack c) r
@@ -100,7 +106,7 @@ module _ {keys heap pos stack : List ℕ} {p : ℕ} {c : Counts} (x : Queue p (s
     list : recent stack c ≡ r ∷ recent stack popped
     list = rw e (recent-last stack c popped (omega arith))
 
-    pub take-stack : Taken p r (state keys heap pos stack c) (state keys heap pos stack popped)
+    pub take-stack : Taken p floor r floor (state keys heap pos stack c) (state keys heap pos stack popped)
     take-stack = record {
       was = was;
       pair = contains-pair x was;
@@ -116,7 +122,7 @@ module _ {keys heap pos stack : List ℕ} {p : ℕ} {c : Counts} (x : Queue p (s
         above = λ k w. x .above k (was-in w);
       };
       one-fewer = omega (arith, x .top-held);
-      new-floor = sym level;
+      its-key = sym level;
       rises = omega arith;
       gone = gone;
       kept = kept;
@@ -136,7 +142,7 @@ module _ {keys heap pos stack : List ℕ} {p : ℕ} {c : Counts} (x : Queue p (s
 
   module _ {r : ℕ} {heap′ pos′ : List ℕ} (z : c .top ≤ 0) (u : Popped p (c .held) r (slices keys heap pos) (slices keys heap′ pos′)) where
     abbrev left : Counts
-    left = record { held = c .held - 1; top = 0; floor = getD keys r 0 }
+    left = record { held = c .held - 1; top = 0 }
 
     others : heaped left ≡ c .held - 1
     others = omega arith
@@ -163,7 +169,7 @@ module _ {keys heap pos stack : List ℕ} {p : ℕ} {c : Counts} (x : Queue p (s
     none : recent stack c ≡ []
     none = recent-none stack c (omega arith)
 
-    pub take-heap : 0 < c .held → Taken p r (state keys heap pos stack c) (state keys heap′ pos′ stack left)
+    pub take-heap : 0 < c .held → Taken p floor r (getD keys r 0) (state keys heap pos stack c) (state keys heap′ pos′ stack left)
     take-heap y = record {
       was = Contains.in-heap (rw (all z) (u .was));
       pair = u .pair;
@@ -179,7 +185,7 @@ module _ {keys heap pos stack : List ℕ} {p : ℕ} {c : Counts} (x : Queue p (s
         above = λ k w. u .least k (was-in′ w);
       };
       one-fewer = omega arith;
-      new-floor = refl;
+      its-key = refl;
       rises = floor-le x (Contains.in-heap (rw (all z) (u .was)));
       gone = gone′;
       kept = kept′;

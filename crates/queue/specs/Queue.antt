@@ -31,15 +31,15 @@ pub data Contains (x : State) (q : ℕ) : Type 0 where
   on-stack : (i : ℕ) → i < x .counts .top → getD (x .stack) i 0 ≡ q → Contains x q
 
 -- the pairs on the stack are distinct, have the key `floor` and are not in the heap, where no key is below `floor`
-pub record Queue (p : ℕ) (x : State) : Type 0 where
+pub record Queue (p floor : ℕ) (x : State) : Type 0 where
   pub ordered : Heap (slices (x .keys) (x .heap) (x .pos)) p (heaped (x .counts))
   pub top-held : x .counts .top ≤ x .counts .held
   pub stack-fits : p ≤ length (x .stack)
   pub pairs : (i : ℕ) → i < x .counts .top → getD (x .stack) i 0 < p
   pub distinct : Distinct (λ (i : ℕ). getD (x .stack) i 0) (x .counts .top)
-  pub level : (i : ℕ) → i < x .counts .top → getD (x .keys) (getD (x .stack) i 0) 0 ≡ x .counts .floor
+  pub level : (i : ℕ) → i < x .counts .top → getD (x .keys) (getD (x .stack) i 0) 0 ≡ floor
   pub apart : (i : ℕ) → i < x .counts .top → In (x .heap) (x .pos) (heaped (x .counts)) (getD (x .stack) i 0) → ⊥
-  pub above : (q : ℕ) → In (x .heap) (x .pos) (heaped (x .counts)) q → x .counts .floor ≤ getD (x .keys) q 0
+  pub above : (q : ℕ) → In (x .heap) (x .pos) (heaped (x .counts)) q → floor ≤ getD (x .keys) q 0
 
 -- the first n entries, last one first
 unfoldable pub backwards : List ℕ → ℕ → List ℕ
@@ -60,38 +60,44 @@ pub record Past (p : ℕ) (x x′ : State) : Type 0 where
 pub record Empty (c : Counts) : Type 0 where
   pub none-held : c .held ≡ 0
   pub none-stacked : c .top ≡ 0
-  pub floor-zero : c .floor ≡ 0
 
 -- what `insert` leaves: the same pairs and q, which has the key v
-pub record Inserted (p q v : ℕ) (x x′ : State) : Type 0 where
+pub record Inserted (p floor q v : ℕ) (x x′ : State) : Type 0 where
   pub stored : x′ .keys ≡ set (x .keys) q v
-  pub queue : Queue p x′
+  pub queue : Queue p floor x′
   pub one-more : x′ .counts .held ≡ x .counts .held + 1
-  pub same-floor : x′ .counts .floor ≡ x .counts .floor
   pub here : Contains x′ q
   pub kept : (k : ℕ) → Contains x k → Contains x′ k
   pub only : (k : ℕ) → Contains x′ k → k ≢ q → Contains x k
-  pub newest : v ≡ x .counts .floor → recent (x′ .stack) (x′ .counts) ≡ q ∷ recent (x .stack) (x .counts)
-  pub not-recent : v ≢ x .counts .floor → recent (x′ .stack) (x′ .counts) ≡ recent (x .stack) (x .counts)
+  pub newest : v ≡ floor → recent (x′ .stack) (x′ .counts) ≡ q ∷ recent (x .stack) (x .counts)
+  pub not-recent : v ≢ floor → recent (x′ .stack) (x′ .counts) ≡ recent (x .stack) (x .counts)
   pub past : Past p x x′
 
+-- what `decrease` asks: q is in a queue, and v is below its key and not below the floor
+pub record Decreasing (p q v : ℕ) (x : State) : Type 0 where
+  pub floor : ℕ
+  pub queue : Queue p floor x
+  pub here : Contains x q
+  pub above : floor ≤ v
+  pub lower : v < getD (x .keys) q 0
+
 -- what `decrease` leaves: the same pairs, of which q has the key v; the counts and the stack stay
-pub record Decreased (p q v : ℕ) (x x′ : State) : Type 0 where
+pub record Decreased (p floor q v : ℕ) (x x′ : State) : Type 0 where
   pub stored : x′ .keys ≡ set (x .keys) q v
-  pub queue : Queue p x′
+  pub queue : Queue p floor x′
   pub kept : (k : ℕ) → Contains x k → Contains x′ k
   pub only : (k : ℕ) → Contains x′ k → Contains x k
   pub past : Past p x x′
 
--- what `take` leaves: the same pairs without r, which had the least key; of recent ones r is the last in; the keys and the stack stay
-pub record Taken (p r : ℕ) (x x′ : State) : Type 0 where
+-- what `take` leaves: the same pairs without r, which had the least key, now the floor; of recent ones r is the last in; the keys and the stack stay
+pub record Taken (p floor r key : ℕ) (x x′ : State) : Type 0 where
   pub was : Contains x r
   pub pair : r < p
   pub least : (k : ℕ) → Contains x k → getD (x .keys) r 0 ≤ getD (x .keys) k 0
-  pub queue : Queue p x′
+  pub queue : Queue p key x′
   pub one-fewer : x′ .counts .held + 1 ≡ x .counts .held
-  pub new-floor : x′ .counts .floor ≡ getD (x .keys) r 0
-  pub rises : x .counts .floor ≤ x′ .counts .floor
+  pub its-key : key ≡ getD (x .keys) r 0
+  pub rises : floor ≤ key
   pub gone : Contains x′ r → ⊥
   pub kept : (k : ℕ) → Contains x k → k ≢ r → Contains x′ k
   pub only : (k : ℕ) → Contains x′ k → Contains x k

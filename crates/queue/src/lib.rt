@@ -1,21 +1,20 @@
 // The open pairs of a best-first search, smallest key first: a min-heap with a stack before it. A pair that is inserted at the
 // key just taken goes on the stack and is taken before all others, last in first out. The slices keys, heap, pos and stack are
-// lent with any content, and nothing from p on is touched.
+// lent with any content, and nothing from p on is touched. `floor` is the key last taken, or any number before the first.
 ghost use Prim.Native.Nat.{_≤_, _<_};
-ghost use lib.ListN.{getD};
-ghost use Rattle.queue.specs.Queue.{state, Contains, Queue, Empty, Inserted, Decreased, Taken};
+ghost use Rattle.queue.specs.Queue.{state, Contains, Queue, Empty, Inserted, Decreasing, Decreased, Taken};
 use convert::wide;
 
-// How many pairs the queue holds, how many of them are on the stack, and the key last taken, 0 before the first.
+// How many pairs the queue holds, and how many of them are on the stack.
 pub struct Counts {
     pub held: usize,
     pub top: usize,
-    pub floor: u32,
 }
 
-// The pair taken, and the counts after that.
+// The pair taken, its key, and the counts after that.
 pub struct Next {
     pub pair: usize,
+    pub key: u32,
     pub counts: Counts,
 }
 
@@ -23,11 +22,7 @@ pub struct Next {
 pub fn empty() -> Counts
     ensures { λ r. ⌜ Empty r ⌝ }
 {
-    Counts {
-        held: 0,
-        top: 0,
-        floor: 0,
-    }
+    Counts { held: 0, top: 0 }
 }
 
 // Puts pair q, which is not in the queue, into it at the key v, at least floor.
@@ -38,37 +33,35 @@ pub fn insert(
     stack: &mut [u32],
     p: usize,
     counts: Counts,
+    floor: u32,
     q: usize,
     v: u32,
 ) -> Counts
-    requires { ⌜ Queue p (state (now keys) (now heap) (now pos) (now stack) counts) ⌝ }
+    requires { ⌜ Queue p floor (state (now keys) (now heap) (now pos) (now stack) counts) ⌝ }
     requires { ⌜
         (let before = state (now keys) (now heap) (now pos) (now stack) counts in
-        (q < p) × (counts .floor ≤ v) × (Contains before q → ⊥))
+        (q < p) × (floor ≤ v) × (Contains before q → ⊥))
         ⌝ }
     ensures { λ r. ⌜
         (let before = state (now (keys .entry)) (now (heap .entry)) (now (pos .entry)) (now (stack .entry)) counts in
         let after = state (now (keys .exit)) (now (heap .exit)) (now (pos .exit)) (now (stack .exit)) r in
-        Inserted p q v before after)
+        Inserted p floor q v before after)
         ⌝ }
 {
     let held = counts.held;
     let top = counts.top;
-    let floor = counts.floor;
     if v == floor {
         keys[q] = v;
         stack[top] = q as u32;
         return Counts {
             held: held + 1,
             top: top + 1,
-            floor: floor,
         };
     }
     heap::push(keys, heap, pos, p, held - top, q, v);
     Counts {
         held: held + 1,
         top: top,
-        floor: floor,
     }
 }
 
@@ -83,15 +76,11 @@ pub fn decrease(
     q: usize,
     v: u32,
 )
-    requires { ⌜ Queue p (state (now keys) (now heap) (now pos) (now stack) counts) ⌝ }
-    requires { ⌜
-        (let before = state (now keys) (now heap) (now pos) (now stack) counts in
-        Contains before q × (counts .floor ≤ v) × (v < getD (now keys) q 0))
-        ⌝ }
+    requires { ⌜ Decreasing p q v (state (now keys) (now heap) (now pos) (now stack) counts) ⌝ }
     ensures { λ _. ⌜
         (let before = state (now (keys .entry)) (now (heap .entry)) (now (pos .entry)) (now (stack .entry)) counts in
         let after = state (now (keys .exit)) (now (heap .exit)) (now (pos .exit)) (now (stack .entry)) counts in
-        Decreased p q v before after)
+        (x : Decreasing p q v before) → Decreased p (x .floor) q v before after)
         ⌝ }
 {
     let held = counts.held;
@@ -107,27 +96,27 @@ pub fn take(
     stack: &[u32],
     p: usize,
     counts: Counts,
+    floor: u32,
 ) -> Next
-    requires { ⌜ Queue p (state (now keys) (now heap) (now pos) (now stack) counts) ⌝ }
+    requires { ⌜ Queue p floor (state (now keys) (now heap) (now pos) (now stack) counts) ⌝ }
     requires { ⌜ 0 < counts .held ⌝ }
     ensures { λ r. ⌜
         (let before = state (now (keys .entry)) (now (heap .entry)) (now (pos .entry)) (now (stack .entry)) counts in
         let after = state (now (keys .entry)) (now (heap .exit)) (now (pos .exit)) (now (stack .entry)) (r .counts) in
-        Taken p (r .pair) before after)
+        Taken p floor (r .pair) (r .key) before after)
         ⌝ }
 {
     let held = counts.held;
     let top = counts.top;
-    let floor = counts.floor;
     if 0 < top {
         let q = wide(stack[top - 1]);
         let left = Counts {
             held: held - 1,
             top: top - 1,
-            floor: floor,
         };
         return Next {
             pair: q,
+            key: floor,
             counts: left,
         };
     }
@@ -136,10 +125,10 @@ pub fn take(
     let left = Counts {
         held: held - 1,
         top: 0,
-        floor: v,
     };
     Next {
         pair: q,
+        key: v,
         counts: left,
     }
 }

@@ -12,7 +12,7 @@ sub-decrease-key c = search needs
 decrease-key-requires : tie.Need-decrease-key-requires
 decrease-key-requires c κs =
     let start : tie.Start = search in
-    (start .pre .0 .ordered, (in-the-heap (start .pre .0) (start .pre .1 .0) (start .pre .1 .1) (start .pre .1 .2), omega arith))
+    (start .pre .queue .ordered, (in-the-heap (start .pre), omega (arith, start .pre .lower)))
 
 same-length : tie.Need-same-length
 same-length c = search needs
@@ -24,7 +24,9 @@ same-length-3 : tie.Need-same-length-3
 same-length-3 c = search needs
 
 returns : tie.Need-returns
-returns c = search decrease-done
+returns c =
+    let decreased : tie.After-decrease-key = search in
+    λ x. decrease-done x (decreased .decrease-key .ensures)
 
 pub decrease-spec : {M : Type 1} → statement M
 decrease-spec =

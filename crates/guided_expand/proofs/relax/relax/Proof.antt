@@ -1,6 +1,6 @@
 -- `guided_expand::relax` meets its contract: one law for each way.
 use native.Mathlib.Omega.{arith}
-use Rattle.guided_expand.proofs.Relaxing.{relax-none, relax-inserts, relax-decreases, relax-inside}
+use Rattle.guided_expand.proofs.Relaxing.{relax-none, relax-inserts, relax-decreases, relax-lowers}
 use borrow.Author.Needs.{needs}
 use Rattle.guided_expand.proofs.relax.relax.Statement.{statement}
 use Rattle.guided_expand.proofs.relax.relax.Tie as tie
@@ -57,7 +57,7 @@ decrease-requires c κs =
     let old : tie.After-slice-known6 = search in
     let start : tie.Start = search in
     let small = old .slice-known6 .given (start .args .y) in
-    (start .pre .queue, (relax-inside (start .pre) (lower .if1 .left) (omega (arith, small)) (opened .if2 .left), start .pre .above, lower .if1 .left))
+    relax-lowers (start .pre) (lower .if1 .left) (omega (arith, small)) (opened .if2 .left)
 
 same-length-6 : tie.Need-same-length-6
 same-length-6 c = search needs
@@ -82,7 +82,8 @@ returns-3 c =
     let old : tie.After-slice-known6 = search in
     let start : tie.Start = search in
     let small = old .slice-known6 .given (start .args .y) in
-    relax-decreases (start .pre) (lower .if1 .left) (relax-inside (start .pre) (lower .if1 .left) (omega (arith, small)) (opened .if2 .left)) (decreased .decrease .ensures)
+    let asked = relax-lowers (start .pre) (lower .if1 .left) (omega (arith, small)) (opened .if2 .left) in
+    relax-decreases (start .pre) (lower .if1 .left) (asked .here) (decreased .decrease .ensures asked)
 
 pub relax-spec : {M : Type 1} → statement M
 relax-spec =

@@ -16,9 +16,9 @@ use Rattle.guided_loop.proofs.turns.settle_open.Statement.{statement}
 use Rattle.guided_loop.proofs.turns.settle_open.Tie as tie
 
 abbrev Inv-search : tie.InvT-search
-Inv-search keys₀ via₀ heap₀ pos₀ stack₀ log₀ steps first row inner by-stage by-node yes' z p begin counts₀ count₀ found₀ node₀ cost₀ keys via heap pos stack log counts count found node cost =
+Inv-search keys₀ via₀ heap₀ pos₀ stack₀ log₀ steps first row inner by-stage by-node yes' z p begin counts₀ floor₀ count₀ found₀ node₀ cost₀ keys via heap pos stack log counts floor count found node cost =
     ((x : Begun z (walk (read steps inner) first row) (estimates by-stage by-node) yes' (work keys₀ via₀ heap₀ pos₀ stack₀) counts₀ log₀)
-    → Turning (x .prepared .by) (work keys₀ via₀ heap₀ pos₀ stack₀) log₀ (work keys via heap pos stack) log counts count)
+    → Turning (x .prepared .by) (work keys₀ via₀ heap₀ pos₀ stack₀) log₀ (work keys via heap pos stack) log counts floor count)
     × (count ≤ p)
     × (found ≡ false)
     × (length keys ≡ length keys₀)
@@ -29,7 +29,7 @@ Inv-search keys₀ via₀ heap₀ pos₀ stack₀ log₀ steps first row inner b
     × (length log ≡ length log₀)
 
 abbrev μ-search : tie.MeasureT-search
-μ-search keys₀ via₀ heap₀ pos₀ stack₀ log₀ steps first row inner by-stage by-node yes' z p begin counts₀ count₀ found₀ node₀ cost₀ keys via heap pos stack log counts count found node cost = p - count
+μ-search keys₀ via₀ heap₀ pos₀ stack₀ log₀ steps first row inner by-stage by-node yes' z p begin counts₀ floor₀ count₀ found₀ node₀ cost₀ keys via heap pos stack log counts floor count found node cost = p - count
 
 -- the places before a place
 abbrev start-of : tie.After-pair-at Inv-search μ-search → tie.Start Inv-search μ-search
