@@ -1,7 +1,7 @@
--- The loop over the steps from the last backwards, in terms of the tables: one law for each way on.
+-- The loops over the steps that leave a stage and over the stages, in terms of the tables: one law for each way on.
 -- Assumes nothing.
-use Prim.Native.Nat.{ℕ, suc, _+_, _-_, _*_, _≤_, _<_}
-use mathlib.Core.Path.{_≡_}
+use Prim.Native.Nat.{ℕ, _+_, _-_, _*_, _≤_, _<_}
+use mathlib.Core.Path.{_≡_, _∙_}
 use mathlib.Core.List.{List}
 use mathlib.Core.Logic.{inl, inr}
 use lib.ListN.{length, getD, set, replicate}
@@ -11,99 +11,98 @@ use mir.Syntax.{w16, w32, w64}
 use Rattle.definitions.specs.Ways.{Graph}
 use Rattle.definitions.specs.Plans.{graph, chartEstimate}
 use Rattle.definitions.specs.declared.Shape.{Shape}
-use Rattle.theory.specs.Limits.{Valid}
-use Rattle.chart.specs.Tables.{stepsIn, heldSteps, chartIn}
-use Rattle.chart.specs.Held.{held-count, held-from, held-to, held-cost}
-use Rattle.chart_stages.specs.Estimates.{EstimateTable, Told, Adds, Lowered, told-start, told-adds, told-turn, told-done}
+use Rattle.chart.specs.Tables.{Steps, chartIn}
+use Rattle.chart.specs.Held.{held-count, held-to, held-cost}
+use Rattle.chart_stages.specs.FirstSteps.{Firsts, first-leaves, first-rises, first-inside}
+use Rattle.chart_stages.specs.HeldGraph.{held-firsts}
+use Rattle.chart_stages.specs.Estimates.{EstimateTable, WayFrom, WayBy, Shows, Told, Adds, Lowered, told-start, told-turn, told-is, by-none, by-adds, by-turn, by-all}
+use Rattle.chart_stages.specs.Leaving.{Staged, Leaving}
 
 -- a sum that is looked at fits
 pub sum-fits : (c rest : ℕ) → Adds c rest → (rest ≡ 4294967295 → ⊥) → Fits w32 (c + rest)
 sum-fits c rest (inl e) n = absurd (n e)
 sum-fits c rest (inr h) n = record { fits = omega arith }
 
--- the number of a stage fits, and the place of its entry
-module _ (n : ℕ) (below : n < 256) where
-  pub stage-half : Fits w16 n
-  stage-half = record { fits = omega arith }
+-- ---- the steps that leave a stage
 
-  pub stage-fits : Fits w64 n
-  stage-fits = record { fits = omega arith }
-
-  pub stage-quad : Fits w64 (n * 4)
-  stage-quad = record { fits = omega arith }
-
-module _ (z : Shape) (packed : List (List ℕ)) (v : Valid (graph (chartIn z (stepsIn packed)))) where
-  abbrev count : ℕ
-  count = z .steps
-
+module _ {t : Steps} {start until : ℕ} {estimates : List ℕ} (x : Leaving t start until estimates) where
   abbrev g : Graph
-  g = graph (chartIn z (stepsIn packed))
+  g = graph (chartIn (x .z) t)
+
+  pub steps-rise : start ≤ until
+  steps-rise = omega (arith, first-rises g (x .valid) (x .s) (x .s + 1) (omega arith), x .begins, x .ends)
+
+  pub steps-end : until ≤ 1024
+  steps-end = omega (arith, first-inside g (x .valid) (x .s + 1), x .valid .few, x .ends)
+
+  pub none-yet : Shows (WayBy g start (x .s)) 4294967295
+  none-yet = rw (x .begins) (by-none g (x .valid) (x .s))
+
+  module _ {e : ℕ} (from-start : start ≤ e) (turns : e < until) where
+    leaves : (e < g .count) × (g .from e ≡ x .s)
+    leaves = first-leaves g (x .valid) (x .s) e (omega (arith, x .begins)) (omega (arith, x .ends))
+
+    held : e < x .z .steps
+    held = omega (arith, leaves .0, held-count (x .z .steps) t)
+
+    to-is : g .to e ≡ getD (t .to) e 0
+    to-is = held-to (x .z .steps) t e held
+
+    cost-is : g .cost e ≡ getD (t .cost) e 0
+    cost-is = held-cost (x .z .steps) t e held
+
+    pub to-below : getD (t .to) e 0 < 256
+    to-below = omega (arith, to-is, x .valid .inside e (leaves .0), x .valid .few-stages)
+
+    pub step-adds : Adds (getD (t .cost) e 0) (getD estimates (getD (t .to) e 0) 0)
+    step-adds = rw (← to-is, ← cost-is) (by-adds g (x .valid) (x .s) e (leaves .0) (leaves .1) estimates (x .told))
+
+    pub step-turn : {known r : ℕ} → Shows (WayBy g e (x .s)) known
+        → Lowered known (getD (t .cost) e 0) (getD estimates (getD (t .to) e 0) 0) r → Shows (WayBy g (e + 1) (x .s)) r
+    step-turn {known} {r} k l = by-turn g (x .valid) (x .s) e (leaves .0) (leaves .1) estimates (x .told) known r k (rw (to-is, cost-is) l)
+
+  pub steps-done : {e r : ℕ} → e ≡ until → Shows (WayBy g e (x .s)) r → Shows (WayFrom g (x .s)) r
+  steps-done {e} {r} q k = by-all g (x .valid) (x .s) (x .early) r (rw (← (q ∙ x .ends)) k)
+
+-- ---- the stages
+
+module _ {z : Shape} {t : Steps} {first : List ℕ} (on : Staged z t first) where
+  abbrev G : Graph
+  G = graph (chartIn z t)
 
   pub end-below : z .end .0 < 256
-  end-below = omega (arith, v .end-inside, v .few-stages)
+  end-below = omega (arith, on .valid .end-inside, on .valid .few-stages)
 
-  pub estimates-start : Told g (count - 0) (set (replicate 256 4294967295) (z .end .0) 0)
-  estimates-start =
-      let q : count - 0 ≡ length (heldSteps count (stepsIn packed)) = omega (arith, held-count count (stepsIn packed)) in
-      rw q (told-start g v)
+  pub firsts : Firsts G first
+  firsts = held-firsts z t (on .valid) first (on .firsts)
 
-  module _ (i : ℕ) (turns : i < count) where
-    step : count - 1 - i < length (heldSteps count (stepsIn packed))
-    step = omega (arith, held-count count (stepsIn packed))
+  pub first-small : (s : ℕ) → s ≤ z .end .0 → getD first s 0 ≤ 1024
+  first-small s h = omega (arith, firsts .at s (omega (arith, on .valid .end-inside)), first-inside G (on .valid) s, on .valid .few)
 
-    pub step-below : count - 1 - i < 1024
-    step-below = omega (arith, held-count count (stepsIn packed), v .few)
+  pub stages-start : {end : ℕ} → z .end .0 ≡ end → Told G end (set (replicate 256 4294967295) end 0)
+  stages-start q = rw (← q) (told-start G (on .valid))
 
-    pub from-below : getD (stepsIn packed .from) (count - 1 - i) 0 < 256
-    from-below = omega (arith, held-from count (stepsIn packed) (count - 1 - i) (omega arith), v .forward (count - 1 - i) step, v .inside (count - 1 - i) step, v .few-stages)
+  -- one stage before s
+  module _ {s : ℕ} {estimates : List ℕ} (before : 0 < s) (early : s ≤ z .end .0) (told : Told G s estimates) where
+    pub told-after : Told G (s - 1 + 1) estimates
+    told-after =
+        let q : s - 1 + 1 ≡ s = omega arith in
+        rw q told
 
-    pub to-below : getD (stepsIn packed .to) (count - 1 - i) 0 < 256
-    to-below = omega (arith, held-to count (stepsIn packed) (count - 1 - i) (omega arith), v .inside (count - 1 - i) step, v .few-stages)
+    abbrev pub stage-leaving : Leaving t (getD first (s - 1) 0) (getD first (s - 1 + 1) 0) estimates
+    stage-leaving = record {
+      z = z;
+      s = s - 1;
+      valid = on .valid;
+      begins = firsts .at (s - 1) (omega (arith, on .valid .end-inside));
+      ends = firsts .at (s - 1 + 1) (omega (arith, on .valid .end-inside));
+      early = omega arith;
+      told = told-after;
+    }
 
-    -- the place of its entry fits
-    pub step-quad : Fits w64 ((count - 1 - i) * 4)
-    step-quad = record { fits = omega (arith, step-below) }
+    pub stage-turn : length estimates ≡ 256 → {r : ℕ} → Shows (WayFrom G (s - 1)) r → Told G (s - 1) (set estimates (s - 1) r)
+    stage-turn long {r} k = told-turn G (on .valid) (s - 1) estimates told-after long r k
 
-    module _ (estimates : List ℕ) (told : Told g (count - i) estimates) where
-      told′ : Told g (suc (count - 1 - i)) estimates
-      told′ =
-          let q : suc (count - 1 - i) ≡ count - i = omega arith in
-          rw q told
-
-      pub estimates-add : Adds (getD (stepsIn packed .cost) (count - 1 - i) 0) (getD estimates (getD (stepsIn packed .to) (count - 1 - i) 0) 0)
-      estimates-add =
-          rw (← (held-to count (stepsIn packed) (count - 1 - i) (omega arith)), ← (held-cost count (stepsIn packed) (count - 1 - i) (omega arith)))
-          (told-adds g v (count - 1 - i) step estimates told′)
-
-      pub estimates-turn : length estimates ≡ 256 → (r : ℕ)
-          → Lowered (getD estimates (getD (stepsIn packed .from) (count - 1 - i) 0) 0) (getD (stepsIn packed .cost) (count - 1 - i) 0) (getD estimates (getD (stepsIn packed .to) (count - 1 - i) 0) 0) r
-          → Told g (count - (i + 1)) (set estimates (getD (stepsIn packed .from) (count - 1 - i) 0) r)
-      estimates-turn long r l =
-          let q : count - (i + 1) ≡ count - 1 - i = omega arith in
-          let f : g .from (count - 1 - i) ≡ getD (stepsIn packed .from) (count - 1 - i) 0 = held-from count (stepsIn packed) (count - 1 - i) (omega arith) in
-          let o : g .to (count - 1 - i) ≡ getD (stepsIn packed .to) (count - 1 - i) 0 = held-to count (stepsIn packed) (count - 1 - i) (omega arith) in
-          let c : g .cost (count - 1 - i) ≡ getD (stepsIn packed .cost) (count - 1 - i) 0 = held-cost count (stepsIn packed) (count - 1 - i) (omega arith) in
-          rw (q, ← f) (told-turn g v (count - 1 - i) step estimates told′ long r (rw (f, o, c) l))
-
-  pub estimates-done : (i : ℕ) (estimates : List ℕ) → count ≤ i → length estimates ≡ 256 → Told g (count - i) estimates
-      → EstimateTable (chartIn z (stepsIn packed)) estimates
+  pub stages-done : {s : ℕ} {estimates : List ℕ} → s ≤ z .start .0 → length estimates ≡ 256 → Told G s estimates → EstimateTable (chartIn z t) estimates
   unfolding chartEstimate
-  estimates-done i estimates h long told =
-      let q : count - i ≡ 0 = omega arith in
-      let told′ : Told g 0 estimates = rw q at told in
-      record { at = told-done g v estimates told′; long = long }
-
-pub ruleset estimates-laws = (
-  end-below,
-  estimates-start,
-  step-below,
-  from-below,
-  to-below,
-  step-quad,
-  stage-half,
-  stage-fits,
-  stage-quad,
-  estimates-add,
-  estimates-turn,
-  estimates-done,
-)
+  stages-done {s} {estimates} h long told = record { at = λ k l b. told-is G (on .valid) s estimates told k (omega arith) b; long = long }

@@ -1,3 +1,4 @@
 pub mod FirstSteps
 pub mod HeldGraph
 pub mod Estimates
+pub mod Leaving

@@ -20,6 +20,7 @@ use Rattle.theory.specs.Estimates.{chart-bounded, diagram-bounded}
 use Rattle.chart_stages.specs.FirstSteps.{SortedTable, FirstTable}
 use Rattle.chart_stages.specs.HeldGraph.{held-sorted}
 use Rattle.chart_stages.specs.Estimates.{EstimateTable}
+use Rattle.chart_stages.specs.Leaving.{Staged}
 use Rattle.nodes.specs.Walks.{Falls, Finishing}
 use Rattle.nodes.specs.Falling.{lo-falls, hi-falls}
 use Rattle.nodes.specs.Estimates.{Priced, Costs, Estimated}
@@ -78,6 +79,9 @@ module _ {z : Shape} {t : Read} (in-tables : Tables z t) where
   pub run-sorted : SortedTable (z .steps) (t .steps .from) × (z .stages ≤ 256)
   run-sorted = (held-sorted z (t .steps) (in-tables .valid), few-stages z t in-tables)
 
+  pub run-staged : {first : List ℕ} → FirstTable (z .steps) (z .stages) (t .steps .from) first → Staged z (t .steps) first
+  run-staged f = record { valid = in-tables .valid; firsts = f }
+
   pub run-narrow : (z .stages ≤ 256) × (z .nodes + 2 ≤ 512)
   run-narrow = (few-stages z t in-tables, omega (arith, few-nodes z t in-tables))
 
@@ -88,15 +92,15 @@ module _ {z : Shape} {t : Read} (in-tables : Tables z t) where
   run-guide = guide C D (in-tables .valid) (in-tables .small) sound
 
   module _ {byStage byNode : List ℕ} (es : EstimateTable C byStage) (en : Estimated (t .inner .step) (t .inner .lo) (t .inner .hi) (t .steps .cost) (z .nodes) byNode) where
-    pub run-holds : Holds (estimateIn z t) (z .nodes + 2) (estimates byStage byNode)
+    pub run-holds : Holds (z .start .0) (estimateIn z t) (z .nodes + 2) (estimates byStage byNode)
     unfolding estimate
-    run-holds s n h i =
-        larger-shown (chartEstimate C s) (diagramEstimate C D n) (getD byStage s 0) (getD byNode n 0) (es .at s h)
+    run-holds s n late h i =
+        larger-shown (chartEstimate C s) (diagramEstimate C D n) (getD byStage s 0) (getD byNode n 0) (es .at s late h)
         (en .is C D prices (in-tables .held) sound (omega (arith, width)) n (omega (arith, width)))
         (λ m e. chart-bounded C (in-tables .valid) s m e) (λ m e. diagram-bounded C D (in-tables .valid) (in-tables .small) sound n m (omega (arith, width)) e)
 
     pub run-shown : {rest : ℕ} → rest ≡ paired (estimates byStage byNode) (z .start .0) (z .root .0) → rest ≡ shown (estimateIn z t (z .start .0) (z .root .0))
-    run-shown e = e ∙ run-holds (z .start .0) (z .root .0) (run-root .0) (omega (arith, sound .root-inside, width))
+    run-shown e = e ∙ run-holds (z .start .0) (z .root .0) (omega arith) (run-root .0) (omega (arith, sound .root-inside, width))
 
     abbrev pub run-prepared : {first row : List ℕ} {yes-at : List Bool} → FirstTable (z .steps) (z .stages) (t .steps .from) first → row ≡ rowStarts (z .stages) (z .nodes + 2)
         → Finishing (t .inner .lo) (z .nodes) yes-at → Prepared z (walk t first row) (estimates byStage byNode) yes-at

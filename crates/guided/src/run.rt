@@ -73,13 +73,13 @@ fn run<'a>(
         Runs z (read (now (steps .entry)) (now (inner .entry))) before after r)
         ⌝ }
 {
-    let by_stage = chart_estimates(z, steps);
+    let first = first_steps(&steps[FROM], z.steps, z.stages);
+    let by_stage = chart_estimates(z, steps, &first);
     let by_node = diagram_estimates(z, inner, &steps[COST]);
     let rest = pair_estimate(&by_stage, &by_node, z.start, z.root);
     if rest == NONE {
         return refusal(8, 0, 0, 0);
     }
-    let first = first_steps(&steps[FROM], z.steps, z.stages);
     let row = row_starts(z.stages as usize, z.nodes + 2);
     let yes = finishing(&inner[LO], z.nodes);
     clear_rows(keys, &row, z.nodes + 2, z.start, z.end);

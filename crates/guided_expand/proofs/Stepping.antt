@@ -77,6 +77,9 @@ module _ {steps : Steps} {row : List ℕ} {t : Estimates} {from : Source} {p e t
   pub stage-small : getD (steps .to) e 0 < 256
   stage-small = omega (arith, to-stage, stage-inside, few-stages z (on .read) tables)
 
+  stage-late : z .start .0 ≤ getD (steps .to) e 0
+  stage-late = omega (arith, to-stage, l .opens .settling .late, l .leaves, tables .valid .forward e exists)
+
   next-inside : a .next e n < a .size
   next-inside = l .by .guide .lawful .next-inside e n exists (l .opens .settling .node)
 
@@ -88,7 +91,7 @@ module _ {steps : Steps} {row : List ℕ} {t : Estimates} {from : Source} {p e t
 
   module _ (rest : ℕ) (er : rest ≡ paired t (getD (steps .to) e 0) to) where
     shown-is : rest ≡ shown (h (g .to e) (a .next e n))
-    shown-is = er ∙ l .by .holds (getD (steps .to) e 0) to stage-small (omega (arith, l .enters, next-inside, width)) ∙ ap shown (ap₂ h to-stage (l .enters))
+    shown-is = er ∙ l .by .holds (getD (steps .to) e 0) to stage-late stage-small (omega (arith, l .enters, next-inside, width)) ∙ ap shown (ap₂ h to-stage (l .enters))
 
     pub leads-none : rest ≡ unopened → Opened (l .by) from p e (e + 1) x c x c
     leads-none q = record {

@@ -15,4 +15,4 @@ pub record Guides (z : Shape) (on : Walk) (t : Estimates) : Type 0 where
   pub ready : Ready z on
   pub h : Estimate
   pub guide : Guide (graphIn z (on .read)) (automatonIn z (on .read)) h
-  pub holds : Holds h (z .nodes + 2) t
+  pub holds : Holds (z .start .0) h (z .nodes + 2) t

@@ -138,7 +138,7 @@ module _ {z : Shape} {on : Walk} {t : Estimates} {yes-at : List Bool} (prepared 
             × Settling (g by) (a by) h s n (getD (x .keys) y 0 - r) (getD (x .keys) y 0)
         settles =
             chosen-settling (by .guide) (w .running .searching) smallest s n r turn-located
-            (er ∙ by .holds s n (turn-inside .0) (omega (arith, turn-located .node, width by)))
+            (er ∙ by .holds s n (turn-located .late) (turn-inside .0) (omega (arith, turn-located .node, width by)))
 
         pub turn-estimate : r ≤ key
         turn-estimate = omega (arith, settles .0, k .its-key)

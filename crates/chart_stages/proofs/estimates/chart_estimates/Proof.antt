@@ -1,97 +1,114 @@
--- `chart_stages::chart_estimates` meets its contract.
-use Prim.Native.Nat.{_-_, _≤_}
-use mathlib.Core.Path.{_≡_}
+-- `chart_stages::chart_estimates` meets its contract: the entries of the stages from s on are told.
+use Prim.Native.Nat.{_+_, _-_, _≤_, _<_}
+use mathlib.Core.Path.{_≡_, refl}
 use lib.ListN.{length}
+use native.Mathlib.Omega.{arith}
 use Rattle.definitions.specs.Plans.{graph}
+use Rattle.definitions.specs.declared.Shape.{Shape}
 use Rattle.chart.specs.Tables.{stepsIn, chartIn}
 use Rattle.chart_stages.specs.Estimates.{Told}
-use Rattle.chart_stages.proofs.Estimating.{estimates-turn, estimates-laws}
+use Rattle.chart_stages.specs.Leaving.{Staged}
+use Rattle.chart_stages.proofs.Estimating.{end-below, first-small, stages-start, stage-leaving, stage-turn, stages-done}
 use borrow.Author.Needs.{needs}
 use Rattle.chart_stages.proofs.estimates.chart_estimates.Statement.{statement}
 use Rattle.chart_stages.proofs.estimates.chart_estimates.Tie as tie
-use Rattle.chart_stages.proofs.estimates.through.Reads as through-reads
 
 abbrev Inv-loop : tie.InvT-loop
-Inv-loop z steps estimates₀ end i₀ i-end estimates i =
-    (i-end ≡ z .steps) × (i ≤ z .steps) × (length estimates ≡ 256) × Told (graph (chartIn z (stepsIn steps))) (z .steps - i) estimates
+Inv-loop steps first estimates₀ start s₀ estimates s =
+    (s ≤ s₀) × (s₀ < 256) × (length estimates ≡ 256)
+    × ((z : Shape) → Staged z (stepsIn steps) first → z .end .0 ≡ s₀ → Told (graph (chartIn z (stepsIn steps))) s estimates)
 
 abbrev μ-loop : tie.MeasureT-loop
-μ-loop z steps estimates₀ end i₀ i-end estimates i = i-end - i
+μ-loop steps first estimates₀ start s₀ estimates s = s
 
-cast-end : tie.Need-cast-end Inv-loop μ-loop
-cast-end c = search needs
-
-mul-estimates : tie.Need-mul-estimates Inv-loop μ-loop
-mul-estimates c = search (estimates-laws, needs)
-
-array-write-estimates : tie.Need-array-write-estimates Inv-loop μ-loop
-array-write-estimates c = search (estimates-laws, needs)
-
-loop-holds : tie.Need-loop-holds Inv-loop μ-loop
-loop-holds c = search (estimates-laws, needs)
-
-sub-e : tie.Need-sub-e Inv-loop μ-loop
-sub-e c = search needs
-
-sub-e-2 : tie.Need-sub-e-2 Inv-loop μ-loop
-sub-e-2 c = search needs
-
-mul-s : tie.Need-mul-s Inv-loop μ-loop
-mul-s c = search (estimates-laws, needs)
-
-index-1-s : tie.Need-index-1-s Inv-loop μ-loop
-index-1-s c = search (estimates-laws, needs)
-
-index-2-s : tie.Need-index-2-s Inv-loop μ-loop
-index-2-s c = search (estimates-laws, needs)
+cast-start : tie.Need-cast-start Inv-loop μ-loop
+cast-start c = search needs
 
 cast-s : tie.Need-cast-s Inv-loop μ-loop
-cast-s c = search (estimates-laws, needs)
+cast-s c = search needs
 
-mul-t : tie.Need-mul-t Inv-loop μ-loop
-mul-t c = search (estimates-laws, needs)
+mul-estimates : tie.Need-mul-estimates Inv-loop μ-loop
+mul-estimates c =
+    let start : tie.Start Inv-loop μ-loop = search in
+    omega (arith, end-below (start .pre))
 
-index-1-t : tie.Need-index-1-t Inv-loop μ-loop
-index-1-t c = search (estimates-laws, needs)
+array-write-estimates : tie.Need-array-write-estimates Inv-loop μ-loop
+array-write-estimates c =
+    let start : tie.Start Inv-loop μ-loop = search in
+    omega (arith, end-below (start .pre))
 
-index-2-t : tie.Need-index-2-t Inv-loop μ-loop
-index-2-t c = search (estimates-laws, needs)
+loop-holds : tie.Need-loop-holds Inv-loop μ-loop
+loop-holds c =
+    let start : tie.Start Inv-loop μ-loop = search in
+    (search needs, end-below (start .pre), search needs, λ z on q. stages-start on q)
 
-cast-t : tie.Need-cast-t Inv-loop μ-loop
-cast-t c = search (estimates-laws, needs)
+sub-s : tie.Need-sub-s Inv-loop μ-loop
+sub-s c = search needs
 
-mul-through : tie.Need-mul-through Inv-loop μ-loop
-mul-through c = search (estimates-laws, needs)
+mul-least-through : tie.Need-mul-least-through Inv-loop μ-loop
+mul-least-through c = search needs
 
-index-1-through : tie.Need-index-1-through Inv-loop μ-loop
-index-1-through c = search (estimates-laws, needs)
+element-copy-out-least-through : tie.Need-element-copy-out-least-through Inv-loop μ-loop
+element-copy-out-least-through c = search needs
 
-index-2-through : tie.Need-index-2-through Inv-loop μ-loop
-index-2-through c = search (estimates-laws, needs)
+cast-least-through : tie.Need-cast-least-through Inv-loop μ-loop
+cast-least-through c =
+    let head : tie.At-loop Inv-loop μ-loop = search in
+    let start : tie.Start Inv-loop μ-loop = search in
+    omega (arith, first-small (start .pre) (head .loop .s - 1) (omega arith))
 
-through-requires : tie.Need-through-requires Inv-loop μ-loop
-through-requires c κs = search estimates-laws
+add-least-through : tie.Need-add-least-through Inv-loop μ-loop
+add-least-through c = search needs
 
-cast-estimates : tie.Need-cast-estimates Inv-loop μ-loop
-cast-estimates c = search (estimates-laws, needs)
+mul-least-through-2 : tie.Need-mul-least-through-2 Inv-loop μ-loop
+mul-least-through-2 c = search needs
+
+element-copy-out-least-through-2 : tie.Need-element-copy-out-least-through-2 Inv-loop μ-loop
+element-copy-out-least-through-2 c = search needs
+
+cast-least-through-2 : tie.Need-cast-least-through-2 Inv-loop μ-loop
+cast-least-through-2 c =
+    let head : tie.At-loop Inv-loop μ-loop = search in
+    let start : tie.Start Inv-loop μ-loop = search in
+    omega (arith, first-small (start .pre) (head .loop .s - 1 + 1) (omega arith))
+
+least-through-requires : tie.Need-least-through-requires Inv-loop μ-loop
+least-through-requires c κs =
+    let turn : tie.In-loop Inv-loop μ-loop = search in
+    let head : tie.At-loop Inv-loop μ-loop = search in
+    let start : tie.Start Inv-loop μ-loop = search in
+    stage-leaving (start .pre) (omega (arith, turn .loop-test .taken)) (head .loop .inv .0) (head .loop .inv .3 (start .args .z) (start .pre) refl)
 
 mul-estimates-2 : tie.Need-mul-estimates-2 Inv-loop μ-loop
-mul-estimates-2 c = search (estimates-laws, needs)
+mul-estimates-2 c = search needs
 
 array-write-estimates-2 : tie.Need-array-write-estimates-2 Inv-loop μ-loop
-array-write-estimates-2 c = search (estimates-laws, needs)
-
-add-i : tie.Need-add-i Inv-loop μ-loop
-add-i c = search needs
+array-write-estimates-2 c = search needs
 
 loop-less : tie.Need-loop-less Inv-loop μ-loop
 loop-less c = search needs
 
 loop-again : tie.Need-loop-again Inv-loop μ-loop
-loop-again c = (search needs, search needs, search needs, search estimates-turn)
+loop-again c =
+    let found : tie.After-least-through Inv-loop μ-loop = search in
+    let turn : tie.In-loop Inv-loop μ-loop = search in
+    let head : tie.At-loop Inv-loop μ-loop = search in (
+      search needs,
+      search needs,
+      search needs,
+      λ z on q.
+          let some : 0 < head .loop .s = omega (arith, turn .loop-test .taken) in
+          let late : head .loop .s ≤ z .end .0 = omega (arith, head .loop .inv .0) in
+          let told = head .loop .inv .3 z on q in
+          stage-turn on some late told (head .loop .inv .2) (found .least-through .ensures (stage-leaving on some late told)),
+    )
 
 returns : tie.Need-returns Inv-loop μ-loop
-returns c = search (estimates-laws, needs)
+returns c =
+    let over : tie.After-loop Inv-loop μ-loop = search in
+    let head : tie.At-loop Inv-loop μ-loop = search in
+    let start : tie.Start Inv-loop μ-loop = search in
+    stages-done (start .pre) (omega (arith, over .loop-test .left)) (head .loop .inv .2) (head .loop .inv .3 (start .args .z) (start .pre) refl)
 
 pub chart-estimates-spec : {M : Type 1} → statement M
 chart-estimates-spec =
@@ -99,28 +116,22 @@ chart-estimates-spec =
     (tie.spec
     Inv-loop
     μ-loop
-    cast-end
+    cast-start
+    cast-s
     mul-estimates
     array-write-estimates
     loop-holds
-    sub-e
-    sub-e-2
-    mul-s
-    index-1-s
-    index-2-s
-    cast-s
-    mul-t
-    index-1-t
-    index-2-t
-    cast-t
-    mul-through
-    index-1-through
-    index-2-through
-    through-requires
-    cast-estimates
+    sub-s
+    mul-least-through
+    element-copy-out-least-through
+    cast-least-through
+    add-least-through
+    mul-least-through-2
+    element-copy-out-least-through-2
+    cast-least-through-2
+    least-through-requires
     mul-estimates-2
     array-write-estimates-2
-    add-i
     loop-less
     loop-again
     returns)

@@ -2,17 +2,6 @@ use borrow.Author.Needs.{needs}
 use Rattle.chart_stages.proofs.Estimating.{sum-fits}
 use Rattle.chart_stages.proofs.estimates.through.Statement.{statement}
 use Rattle.chart_stages.proofs.estimates.through.Tie as tie
-use Rattle.chart_stages.proofs.estimates.through.Reads as reads
-use Rattle.chart_stages.proofs.estimates.through.Lts as lts
-
-cast-known : tie.Need-cast-known
-cast-known c = search needs
-
-mul-known : tie.Need-mul-known
-mul-known c = search needs
-
-element-copy-out-known : tie.Need-element-copy-out-known
-element-copy-out-known c = search needs
 
 cast-rest : tie.Need-cast-rest
 cast-rest c = search needs
@@ -38,14 +27,4 @@ returns-3 c = search needs
 pub through-spec : {M : Type 1} → statement M
 through-spec =
     tie.close
-    (tie.spec
-    cast-known
-    mul-known
-    element-copy-out-known
-    cast-rest
-    mul-rest
-    element-copy-out-rest
-    returns
-    add-sum
-    returns-2
-    returns-3)
+    (tie.spec cast-rest mul-rest element-copy-out-rest returns add-sum returns-2 returns-3)

@@ -1,7 +1,7 @@
 -- `guided::run` meets its contract.
 use mathlib.Core.Path.{_∙_}
 use native.Mathlib.Omega.{arith}
-use Rattle.guided.proofs.Preparing.{run-lo, run-nodes, run-sorted, run-narrow, run-root}
+use Rattle.guided.proofs.Preparing.{run-lo, run-nodes, run-sorted, run-staged, run-narrow, run-root}
 use Rattle.guided.proofs.Finding.{runs-none, clears, cleared-start, found-traceable, found-runs}
 use borrow.Author.Needs.{needs}
 use Rattle.guided.proofs.run.run.Statement.{statement}
@@ -20,10 +20,7 @@ yes-of c = search
 abbrev row-of : tie.After-finishing → tie.After-row-starts
 row-of c = search
 
-abbrev first-of : tie.After-row-starts → tie.After-first-steps
-first-of c = search
-
-abbrev some-of : tie.After-first-steps → tie.Else1
+abbrev some-of : tie.After-row-starts → tie.Else1
 some-of c = search
 
 abbrev rest-of : tie.Else1 → tie.After-pair-estimate
@@ -35,13 +32,25 @@ by-node-of c = search
 abbrev by-stage-of : tie.After-diagram-estimates → tie.After-chart-estimates
 by-stage-of c = search
 
-abbrev start-of : tie.After-chart-estimates → tie.Start
+abbrev first-of : tie.After-chart-estimates → tie.After-first-steps
+first-of c = search
+
+abbrev start-of : tie.After-first-steps → tie.Start
 start-of c = search
+
+index-1-first-steps : tie.Need-index-1-first-steps
+index-1-first-steps c = search needs
+
+first-steps-requires : tie.Need-first-steps-requires
+first-steps-requires c κs =
+    let start : tie.Start = search in
+    run-sorted (start .pre .0)
 
 chart-estimates-requires : tie.Need-chart-estimates-requires
 chart-estimates-requires c κs =
+    let first : tie.After-first-steps = search in
     let start : tie.Start = search in
-    start .pre .0 .valid
+    run-staged (start .pre .0) (first .first-steps .ensures)
 
 index-1-diagram-estimates : tie.Need-index-1-diagram-estimates
 index-1-diagram-estimates c = search needs
@@ -66,16 +75,9 @@ returns c =
     let rest : tie.After-pair-estimate = search in
     let by-node = by-node-of rest in
     let by-stage = by-stage-of by-node in
-    let start = start-of by-stage in
+    let first = first-of by-stage in
+    let start = start-of first in
     runs-none (start .pre .0) (by-stage .chart-estimates .ensures) (by-node .diagram-estimates .ensures) (rest .pair-estimate .ensures) (none .if1 .taken) (answer .refusal .ensures)
-
-index-1-first-steps : tie.Need-index-1-first-steps
-index-1-first-steps c = search needs
-
-first-steps-requires : tie.Need-first-steps-requires
-first-steps-requires c κs =
-    let start : tie.Start = search in
-    run-sorted (start .pre .0)
 
 cast-row-starts : tie.Need-cast-row-starts
 cast-row-starts c = search needs
@@ -96,36 +98,36 @@ index-1-finishing c = search needs
 finishing-requires : tie.Need-finishing-requires
 finishing-requires c κs =
     let row : tie.After-row-starts = search in
-    let first = first-of row in
-    let some = some-of first in
+    let some = some-of row in
     let rest = rest-of some in
     let by-node = by-node-of rest in
     let by-stage = by-stage-of by-node in
-    let start = start-of by-stage in
+    let first = first-of by-stage in
+    let start = start-of first in
     run-lo (start .pre .0)
 
 add-clear-rows : tie.Need-add-clear-rows
 add-clear-rows c =
     let yes : tie.After-finishing = search in
     let row = row-of yes in
-    let first = first-of row in
-    let some = some-of first in
+    let some = some-of row in
     let rest = rest-of some in
     let by-node = by-node-of rest in
     let by-stage = by-stage-of by-node in
-    let start = start-of by-stage in
+    let first = first-of by-stage in
+    let start = start-of first in
     omega (arith, run-narrow (start .pre .0))
 
 clear-rows-requires : tie.Need-clear-rows-requires
 clear-rows-requires c κs =
     let yes : tie.After-finishing = search in
     let row = row-of yes in
-    let first = first-of row in
-    let some = some-of first in
+    let some = some-of row in
     let rest = rest-of some in
     let by-node = by-node-of rest in
     let by-stage = by-stage-of by-node in
-    let start = start-of by-stage in
+    let first = first-of by-stage in
+    let start = start-of first in
     clears (start .pre .0) (by-stage .chart-estimates .ensures) (by-node .diagram-estimates .ensures) (rest .pair-estimate .ensures)
     (some .if1 .left) (first .first-steps .ensures) (row .row-starts .ensures) (yes .finishing .ensures) (start .pre .1)
 
@@ -134,12 +136,12 @@ search-requires c κs =
     let cleared : tie.After-clear-rows = search in
     let yes = yes-of cleared in
     let row = row-of yes in
-    let first = first-of row in
-    let some = some-of first in
+    let some = some-of row in
     let rest = rest-of some in
     let by-node = by-node-of rest in
     let by-stage = by-stage-of by-node in
-    let start = start-of by-stage in
+    let first = first-of by-stage in
+    let start = start-of first in
     cleared-start (start .pre .0) (by-stage .chart-estimates .ensures) (by-node .diagram-estimates .ensures) (rest .pair-estimate .ensures)
     (some .if1 .left) (first .first-steps .ensures) (row .row-starts .ensures) (yes .finishing .ensures) (start .pre .1)
     (cleared .clear-rows .ensures) (cleared .clear-rows .kept .0)
@@ -150,12 +152,12 @@ conclude-requires c κs =
     let cleared = cleared-of searched in
     let yes = yes-of cleared in
     let row = row-of yes in
-    let first = first-of row in
-    let some = some-of first in
+    let some = some-of row in
     let rest = rest-of some in
     let by-node = by-node-of rest in
     let by-stage = by-stage-of by-node in
-    let start = start-of by-stage in
+    let first = first-of by-stage in
+    let start = start-of first in
     let begun = cleared-start (start .pre .0) (by-stage .chart-estimates .ensures) (by-node .diagram-estimates .ensures) (rest .pair-estimate .ensures)
     (some .if1 .left) (first .first-steps .ensures) (row .row-starts .ensures) (yes .finishing .ensures) (start .pre .1)
     (cleared .clear-rows .ensures) (cleared .clear-rows .kept .0) in
@@ -195,12 +197,12 @@ returns-2 c =
     let cleared = cleared-of searched in
     let yes = yes-of cleared in
     let row = row-of yes in
-    let first = first-of row in
-    let some = some-of first in
+    let some = some-of row in
     let rest = rest-of some in
     let by-node = by-node-of rest in
     let by-stage = by-stage-of by-node in
-    let start = start-of by-stage in
+    let first = first-of by-stage in
+    let start = start-of first in
     let begun = cleared-start (start .pre .0) (by-stage .chart-estimates .ensures) (by-node .diagram-estimates .ensures) (rest .pair-estimate .ensures)
     (some .if1 .left) (first .first-steps .ensures) (row .row-starts .ensures) (yes .finishing .ensures) (start .pre .1)
     (cleared .clear-rows .ensures) (cleared .clear-rows .kept .0) in
@@ -213,14 +215,14 @@ pub run-spec : {M : Type 1} → statement M
 run-spec =
     tie.close
     (tie.spec
+    index-1-first-steps
+    first-steps-requires
     chart-estimates-requires
     index-1-diagram-estimates
     diagram-estimates-requires
     pair-estimate-requires
     refusal-requires
     returns
-    index-1-first-steps
-    first-steps-requires
     cast-row-starts
     add-row-starts
     row-starts-requires

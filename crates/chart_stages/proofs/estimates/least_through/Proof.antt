@@ -1,0 +1,95 @@
+-- `chart_stages::least_through` meets its contract: what is known shows the least cost of the ways by the steps below e.
+use Prim.Native.Nat.{_-_, _≤_}
+use mathlib.Core.Path.{_≡_}
+use native.Mathlib.Omega.{arith}
+use Rattle.definitions.specs.Plans.{graph}
+use Rattle.chart.specs.Tables.{stepsIn, chartIn}
+use Rattle.chart_stages.specs.Estimates.{WayBy, Shows}
+use Rattle.chart_stages.specs.Leaving.{Leaving}
+use Rattle.chart_stages.proofs.Estimating.{steps-rise, steps-end, none-yet, to-below, step-adds, step-turn, steps-done}
+use borrow.Author.Needs.{needs}
+use Rattle.chart_stages.proofs.estimates.least_through.Statement.{statement}
+use Rattle.chart_stages.proofs.estimates.least_through.Tie as tie
+
+abbrev Inv-loop : tie.InvT-loop
+Inv-loop estimates steps start until best₀ e₀ best e =
+    (start ≤ e) × (e ≤ until) × (until ≤ 1024)
+    × ((x : Leaving (stepsIn steps) start until estimates) → Shows (WayBy (graph (chartIn (x .z) (stepsIn steps))) e (x .s)) best)
+
+abbrev μ-loop : tie.MeasureT-loop
+μ-loop estimates steps start until best₀ e₀ best e = until - e
+
+loop-holds : tie.Need-loop-holds Inv-loop μ-loop
+loop-holds c =
+    let start : tie.Start Inv-loop μ-loop = search in
+    (search needs, steps-rise (start .pre), steps-end (start .pre), λ x. none-yet x)
+
+mul-t : tie.Need-mul-t Inv-loop μ-loop
+mul-t c = search needs
+
+index-1-t : tie.Need-index-1-t Inv-loop μ-loop
+index-1-t c = search needs
+
+index-2-t : tie.Need-index-2-t Inv-loop μ-loop
+index-2-t c = search needs
+
+cast-t : tie.Need-cast-t Inv-loop μ-loop
+cast-t c =
+    let turn : tie.In-loop Inv-loop μ-loop = search in
+    let head : tie.At-loop Inv-loop μ-loop = search in
+    let start : tie.Start Inv-loop μ-loop = search in
+    omega (arith, to-below (start .pre) (head .loop .inv .0) (turn .loop-test .taken))
+
+mul-through : tie.Need-mul-through Inv-loop μ-loop
+mul-through c = search needs
+
+index-1-through : tie.Need-index-1-through Inv-loop μ-loop
+index-1-through c = search needs
+
+index-2-through : tie.Need-index-2-through Inv-loop μ-loop
+index-2-through c = search needs
+
+through-requires : tie.Need-through-requires Inv-loop μ-loop
+through-requires c κs =
+    let turn : tie.In-loop Inv-loop μ-loop = search in
+    let head : tie.At-loop Inv-loop μ-loop = search in
+    let start : tie.Start Inv-loop μ-loop = search in
+    (to-below (start .pre) (head .loop .inv .0) (turn .loop-test .taken), step-adds (start .pre) (head .loop .inv .0) (turn .loop-test .taken))
+
+add-e : tie.Need-add-e Inv-loop μ-loop
+add-e c = search needs
+
+loop-less : tie.Need-loop-less Inv-loop μ-loop
+loop-less c = search needs
+
+loop-again : tie.Need-loop-again Inv-loop μ-loop
+loop-again c =
+    let done : tie.After-through Inv-loop μ-loop = search in
+    let turn : tie.In-loop Inv-loop μ-loop = search in
+    let head : tie.At-loop Inv-loop μ-loop = search in
+    (search needs, search needs, search needs, λ x. step-turn x (head .loop .inv .0) (turn .loop-test .taken) (head .loop .inv .3 x) (done .through .ensures))
+
+returns : tie.Need-returns Inv-loop μ-loop
+returns c =
+    let head : tie.At-loop Inv-loop μ-loop = search in
+    λ x. steps-done x (omega arith) (head .loop .inv .3 x)
+
+pub least-through-spec : {M : Type 1} → statement M
+least-through-spec =
+    tie.close
+    (tie.spec
+    Inv-loop
+    μ-loop
+    loop-holds
+    mul-t
+    index-1-t
+    index-2-t
+    cast-t
+    mul-through
+    index-1-through
+    index-2-through
+    through-requires
+    add-e
+    loop-less
+    loop-again
+    returns)
