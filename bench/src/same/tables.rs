@@ -13,6 +13,8 @@ const NO_STEP: u16 = u16::MAX;
 
 /// One entry for each stage.
 pub const BY_STAGE: usize = STAGES;
+/// One entry for each node reference.
+pub const BY_NODE: usize = NODES;
 
 /// Chart and diagram as tables.
 pub struct Tables {
@@ -151,39 +153,33 @@ impl Tables {
         self.row(usize::from(self.from[via_step(via)])) + via_node(via)
     }
 
-    /// By node: whether it finishes at 1. Children stand before their nodes.
-    pub fn finishes(&self) -> [bool; NODES] {
-        let mut finishes = [false; NODES];
+    /// Marks the nodes that finish at 1; handed in without marks. Children stand before their nodes.
+    pub fn mark_finishing(&self, finishes: &mut [bool; BY_NODE]) {
         finishes[1] = true;
         for node in 2..self.references {
             finishes[node] = finishes[usize::from(self.lo[node])];
         }
-        finishes
     }
 
-    /// The chart estimates, from the end stage backwards.
-    pub fn stage_estimates(&self) -> [u32; STAGES] {
-        let mut estimates = [NONE; STAGES];
+    /// Fills in the chart estimates from the end stage back to the start; handed in without any.
+    pub fn estimate_stages(&self, estimates: &mut [u32; BY_STAGE]) {
         estimates[self.end] = 0;
-        for stage in (0..self.end).rev() {
+        for stage in (self.start..self.end).rev() {
             let leaving = self.leaving(stage);
             let steps = self.to[leaving.clone()].iter().zip(&self.cost[leaving]);
             let costs = steps.map(|(to, cost)| estimates[usize::from(*to)].saturating_add(*cost));
             estimates[stage] = costs.min().unwrap_or(NONE);
         }
-        estimates
     }
 
-    /// The diagram estimates, children before their nodes.
-    pub fn node_estimates(&self) -> [u32; NODES] {
-        let mut estimates = [NONE; NODES];
+    /// Fills in the diagram estimates, children before their nodes; handed in without any.
+    pub fn estimate_nodes(&self, estimates: &mut [u32; BY_NODE]) {
         estimates[1] = 0;
         for node in 2..self.references {
             let cost = self.cost[usize::from(self.step[node])];
             let taken = estimates[usize::from(self.hi[node])].saturating_add(cost);
             estimates[node] = estimates[usize::from(self.lo[node])].min(taken);
         }
-        estimates
     }
 }
 
@@ -199,14 +195,13 @@ fn first_body<const LENGTH: usize>(file: &[u8], tag: u8) -> Result<&[u8; LENGTH]
     body(file, 0, tag)
 }
 
-/// The body of the field at a place: header cut, tag, length, body cut.
+/// The body of the field at a place: header cut, tag, length, body cut. A right header is told by
+/// one comparison.
 fn body<const LENGTH: usize>(file: &[u8], place: usize, tag: u8) -> Result<&[u8; LENGTH], u32> {
-    let [found, low, high, rest @ ..] = &file[place..] else { return Err(1) };
-    if *found != tag {
-        return Err(2);
+    match file[place..].split_first_chunk() {
+        Some((header, rest)) if *header == [tag, LENGTH as u8, 0] => rest.first_chunk().ok_or(1),
+        Some(([found, _, _], _)) if *found != tag => Err(2),
+        Some(_) => Err(3),
+        None => Err(1),
     }
-    if number(*low, *high) != LENGTH {
-        return Err(3);
-    }
-    rest.first_chunk().ok_or(1)
 }
