@@ -32,7 +32,7 @@ fn via_node(via: u32) -> usize {
     (via & ((1 << NODE_BITS) - 1)) as usize
 }
 
-/// Reads both files and tests the lengths of the lent slices.
+/// Reads both files and tests the lengths of the lent slices; then both searches can begin.
 fn prepare(
     tables: &mut Tables,
     chart: &[u8],
@@ -45,6 +45,7 @@ fn prepare(
     if shortest_work < tables.stages * tables.references || plan < tables.stages - 1 {
         return Err(Answer::refused(7, 0, 0));
     }
+    tables.fill_first();
     Ok(())
 }
 

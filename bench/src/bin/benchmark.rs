@@ -24,8 +24,8 @@ before left in them. Reading both files is part of a search's time.
 
 usage: benchmark [OPTION...]
 
-  --runs N              how often all loads are gone through (default 3)
-  --rounds N            samples of each call in each run and placement (default 12)
+  --runs N              how often all loads are gone through (default 4)
+  --rounds N            samples of each call in each run and placement (default 16)
   --elsewhere FILE      this program linked with other padding, one more placement; any number
   --only TEXT           only loads whose name has this text
   --csv FILE            where the times are written (default benchmark.csv)
@@ -103,8 +103,8 @@ fn main() -> ExitCode {
 
 fn parse(mut args: impl Iterator<Item = String>) -> Result<Options, String> {
     let mut options = Options {
-        runs: 3,
-        rounds: 12,
+        runs: 4,
+        rounds: 16,
         elsewhere: Vec::new(),
         only: String::new(),
         csv: PathBuf::from("benchmark.csv"),
