@@ -14,6 +14,8 @@ pub mod generate;
 pub mod same;
 pub mod textbook;
 
+#[cfg(feature = "before")]
+pub mod before;
 #[cfg(feature = "library")]
 pub mod library;
 
@@ -26,10 +28,14 @@ pub mod sabotage;
 pub mod saved;
 pub mod tally;
 
+pub mod history;
 pub mod loads;
 pub mod measure;
 pub mod page;
+pub mod placements;
 pub mod plot;
+pub mod ratios;
 pub mod report;
 pub mod stack;
 pub mod stacks;
+pub mod targets;

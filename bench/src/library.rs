@@ -44,7 +44,7 @@ fn side(chart: &[u8], rules: &[u8]) -> Side {
 }
 
 /// An answer before the call, so that an entry that isn't written shows.
-const UNWRITTEN: lent::Answer = lent::Answer {
+pub(crate) const UNWRITTEN: lent::Answer = lent::Answer {
     number: usize::MAX,
     file: usize::MAX,
     place: usize::MAX,
@@ -53,7 +53,7 @@ const UNWRITTEN: lent::Answer = lent::Answer {
     count: usize::MAX,
 };
 
-const UNWRITTEN_SPACE: lent::Space = lent::Space {
+pub(crate) const UNWRITTEN_SPACE: lent::Space = lent::Space {
     number: usize::MAX,
     file: usize::MAX,
     place: usize::MAX,
@@ -62,7 +62,7 @@ const UNWRITTEN_SPACE: lent::Space = lent::Space {
 };
 
 /// The answer, with the number that the call returned.
-fn answer_of(returned: u32, answer: lent::Answer) -> Answer {
+pub(crate) fn answer_of(returned: u32, answer: lent::Answer) -> Answer {
     assert_eq!(returned as usize, answer.number, "returned number, {answer:?}");
     let narrow = |entry: usize| u32::try_from(entry).expect("an entry of at most 32 bits");
     Answer {
@@ -73,6 +73,14 @@ fn answer_of(returned: u32, answer: lent::Answer) -> Answer {
         length: narrow(answer.length),
         count: narrow(answer.count),
     }
+}
+
+/// The same of the space needed.
+pub(crate) fn space_of(returned: u32, space: lent::Space) -> Space {
+    let lent::Space { number, file, place, work, plan } = space;
+    assert_eq!(returned as usize, number, "returned number, {space:?}");
+    let file = u32::try_from(file).expect("a file mark");
+    Space { number: returned, file, place, work, plan }
 }
 
 fn lend_sweep(lent: &mut SweepSlices) -> lent::SweepSlices<'_> {
@@ -128,10 +136,7 @@ impl Planner for Library {
         let (returned, space) = self.answered(UNWRITTEN_SPACE, side(chart, rules), |space| {
             lent::space_needed(chart, rules, space)
         });
-        let lent::Space { number, file, place, work, plan } = space;
-        assert_eq!(returned as usize, number, "returned number, {space:?}");
-        let file = u32::try_from(file).expect("a file mark");
-        Some(Space { number: returned, file, place, work, plan })
+        Some(space_of(returned, space))
     }
 
     fn refused_field(

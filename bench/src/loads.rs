@@ -12,14 +12,30 @@ use crate::generate::Random;
 #[derive(Clone, Debug)]
 pub struct Load {
     pub name: String,
+    pub group: Group,
     pub chart: Vec<u8>,
     pub rules: Vec<u8>,
 }
 
 impl Load {
     fn new(name: impl Into<String>, chart: &Chart, diagram: &Diagram) -> Load {
-        Load { name: name.into(), chart: write_chart(chart), rules: write_diagram(diagram) }
+        let (chart, rules) = (write_chart(chart), write_diagram(diagram));
+        Load { name: name.into(), group: Group::Other, chart, rules }
     }
+
+    fn of(self, group: Group) -> Load {
+        Load { group, ..self }
+    }
+}
+
+/// What a load has in common with others that have a target of their own.
+#[derive(Clone, Copy, Debug, PartialEq, Eq)]
+pub enum Group {
+    /// Document 01's chart, and small charts.
+    Small,
+    /// Long steps, and the guided search settles less than one of a thousand pairs.
+    LongSteps,
+    Other,
 }
 
 /// The word of every generated chart.
@@ -31,10 +47,38 @@ pub fn standard() -> Vec<Load> {
     for stages in [32, 128, 256] {
         loads.extend(over(&format!("load {stages}"), &generated(stages)));
     }
-    loads.extend(over("dag 256", &long_steps(&mut Random::new(3), 256, 1_024)));
+    loads.extend(long());
     loads.extend(equal_costs());
     loads
 }
+
+/// Long steps, over up to 40 stages ("dag") and over any number of them ("far").
+fn long() -> Vec<Load> {
+    let random = &mut Random::new(3);
+    let dag = over("dag 256", &long_steps(random, 256, 1_024));
+    let shape = Shape {
+        stages: 256,
+        steps: 1_024,
+        costs: Costs::Wide,
+        spans: Spans::Any,
+        ends: Ends::Outermost,
+    };
+    let far = over("far 256", &shape.chart(random));
+    let few = |load: &Load| FEW_SETTLED.iter().any(|rule| load.name.ends_with(rule));
+    let grouped = dag.into_iter().chain(far);
+    grouped.map(|load| if few(&load) { load.of(Group::LongSteps) } else { load }).collect()
+}
+
+/// The rules under which the guided search settles few pairs of the charts with long steps.
+const FEW_SETTLED: [&str; 7] = [
+    ", 7 needs",
+    ", 8 needs",
+    ", 7 cheap needs",
+    ", parity of 255",
+    ", random 2 wide",
+    ", random 16 wide",
+    ", random 128 wide",
+];
 
 /// Diagrams of growing size on one chart, and charts of growing size under one rule.
 pub fn growth() -> Vec<Load> {
@@ -81,7 +125,7 @@ fn small() -> Vec<Load> {
         loads.push(Load::new(format!("small {stages}, at most 2 of 8"), &chart, &at_most));
         loads.push(Load::new(format!("small {stages}, random"), &chart, &layers));
     }
-    loads
+    loads.into_iter().map(|load| load.of(Group::Small)).collect()
 }
 
 /// Every kind of diagram over one chart.

@@ -1,26 +1,20 @@
-//! The measured part of docs/PERFORMANCE.md, in Markdown, and its place in the page.
+//! The page docs/PERFORMANCE-TABLES.md: everything measured, in Markdown.
 
 use std::fs;
 
-use crate::measure::{Measured, Search, Timing, YARDSTICK};
-use crate::report::{per_pair, spread, Spread};
+use crate::measure::Call;
+use crate::ratios::{placement_spread, spread, Measured, Spread, RATIOS};
+use crate::report::{number, per_pair};
 use crate::stacks::Peak;
-
-const BEGIN: &str = "<!-- figures: begin";
-const END: &str = "<!-- figures: end";
-
-/// The page with its part between the two marks replaced; none where a mark is missing.
-pub fn with_figures(page: &str, figures: &str) -> Option<String> {
-    let begin = page.find(BEGIN)?;
-    let first = begin + page[begin..].find('\n')? + 1;
-    let last = first + page[first..].find(END)?;
-    Some(format!("{}\n{}\n\n{}", &page[..first], figures.trim(), &page[last..]))
-}
+use crate::targets::verdicts;
 
 /// One whole run.
 pub struct Run<'a> {
     pub planners: &'a [&'a str],
+    pub runs: usize,
     pub rounds: usize,
+    /// By placement: where its code lies within a page.
+    pub codes: &'a [usize],
     /// The machine's load average before the run.
     pub busy: &'a str,
     pub standard: &'a [Measured],
@@ -28,26 +22,48 @@ pub struct Run<'a> {
     pub peaks: &'a [Peak],
 }
 
+/// A table: its head, how many columns of words come first, and its rows.
+fn table(head: &str, words: usize, rows: impl IntoIterator<Item = String>) -> String {
+    let columns = head.split('|').count();
+    let marks = format!("|{}{}", "---|".repeat(words), "--:|".repeat(columns - words));
+    let mut lines = vec![format!("| {head} |"), marks];
+    lines.extend(rows.into_iter().map(|row| format!("| {row} |")));
+    lines.join("\n")
+}
+
 impl Run<'_> {
     /// The implementation that the page is about: the library where it is linked.
     fn subject(&self) -> &str {
-        self.planners.first().copied().unwrap_or(YARDSTICK)
+        self.planners.first().copied().unwrap_or_default()
     }
 
-    /// All tables.
-    pub fn figures(&self) -> String {
-        [
+    /// The whole page.
+    pub fn page(&self) -> String {
+        let all = [self.standard, self.growth].concat();
+        let mut parts = vec![
+            "# Performance tables".into(),
+            "Written by `bench/benchmark --docs docs`; what is measured, and how, is said in \
+             [PERFORMANCE.md](PERFORMANCE.md)."
+                .into(),
             self.machine(),
-            "### Ratios".into(),
+            "## Targets".into(),
+            targets(&all),
+            "## Ratios".into(),
             self.ratios(),
-            "### Loads".into(),
-            self.loads(self.standard),
-            "### Growth with nodes and stages".into(),
-            self.loads(self.growth),
-            "### Stack".into(),
-            self.stacks(),
-        ]
-        .join("\n\n")
+        ];
+        for (title, call) in
+            [("Sweep", Call::Sweep), ("Guided search", Call::Guided), ("Reading", Call::Reading)]
+        {
+            parts.push(format!("## {title}"));
+            parts.push(self.loads(self.standard, call));
+        }
+        parts.push("## Growth with nodes and stages".into());
+        for call in Call::SEARCHES {
+            parts.push(self.loads(self.growth, call));
+        }
+        parts.extend(["## Placements".into(), self.placements(&all)]);
+        parts.extend(["## Stack".into(), self.stacks()]);
+        parts.join("\n\n") + "\n"
     }
 
     /// Where and how it was measured.
@@ -56,76 +72,92 @@ impl Run<'_> {
         let model = cpu.lines().find_map(|line| line.strip_prefix("model name"));
         let model = model.map_or("unknown", |text| text.trim_start_matches(['\t', ' ', ':']));
         let cores = cpu.lines().filter(|line| line.starts_with("processor")).count();
-        let Run { rounds, busy, .. } = self;
+        let Run { runs, rounds, busy, codes, .. } = self;
+        let codes: Vec<String> = codes.iter().map(|code| format!("{code:#x}")).collect();
         format!(
-            "Measured on {model}, {cores} processors, load average {busy} before the run, \
-             {rounds} rounds."
+            "Measured on {model}, {cores} processors, load average {busy} before the run. {runs} \
+             runs of {rounds} rounds in each of {} placements, whose code lies at {} within a page.",
+            codes.len(),
+            codes.join(", ")
         )
     }
 
     fn ratios(&self) -> String {
-        let mut lines = vec![
-            "| Ratio | Search | Geometric mean | Least | Largest | Loads |".to_string(),
-            "|---|---|---|---|---|---|".to_string(),
-        ];
-        for planner in self.planners.iter().filter(|planner| **planner != YARDSTICK) {
-            for search in Search::BOTH {
-                let Some(found) = spread(self.standard, planner, search) else { continue };
-                let Spread { mean, least, most, loads } = found;
-                lines.push(format!(
-                    "| {planner} / {YARDSTICK} | {} | {mean:.2} | {least:.2} | {most:.2} | {loads} |",
-                    search.name()
-                ));
-            }
-        }
-        lines.join("\n")
+        let cells = RATIOS.iter().flat_map(|ratio| Call::ALL.map(|call| (*ratio, call)));
+        let rows = cells.filter_map(|((of, to), call)| {
+            let Spread { mean, least, most, most_on, loads } = spread(self.standard, of, to, call)?;
+            let name = call.name();
+            let ends = format!("{least:.2} | {most:.2} | {most_on}");
+            Some(format!("{of} / {to} | {name} | {mean:.2} | {ends} | {loads}"))
+        });
+        table("Ratio | Call | Geometric mean | Least | Largest | Largest on | Loads", 2, rows)
     }
 
-    /// One line for each load, both searches in it.
-    fn loads(&self, all: &[Measured]) -> String {
+    /// One line for each load.
+    fn loads(&self, all: &[Measured], call: Call) -> String {
+        let (head, words) = match call {
+            Call::Sweep => ("Load | Pairs | Lent KB | Reached", 1),
+            Call::Guided => ("Load | Pairs | Lent KB | Settled", 1),
+            Call::Reading => ("Load | Steps | Nodes", 1),
+        };
+        let searches = " | textbook / | ns a pair";
+        let more = if call == Call::Reading { "" } else { searches };
+        let head = format!("{head} | µs | / before | / same{more}");
+        table(&head, words, all.iter().map(|measured| self.cells(measured, call)))
+    }
+
+    fn cells(&self, measured: &Measured, call: Call) -> String {
         let subject = self.subject();
-        let mut lines = vec![
-            format!(
-                "| Load | Pairs | Lent KB | Reached | Sweep µs | / {YARDSTICK} | textbook / | \
-                 ns a pair | Settled | Guided µs | / {YARDSTICK} | textbook / | ns a pair |"
-            ),
-            format!("|---|{}", "--:|".repeat(12)),
-        ];
-        for measured in all {
-            let cells = Search::BOTH.map(|search| cells(measured, subject, search)).concat();
-            lines.push(format!(
-                "| {} | {} | {} | {} |",
-                measured.name.trim_start_matches("growth: "),
-                measured.pairs,
-                measured.lent_bytes().div_ceil(1_000),
-                cells.join(" | ")
-            ));
+        let Measured { name, steps, nodes, pairs, .. } = measured;
+        let own = measured.timing(subject, call);
+        let ratio = |of, to| measured.ratio(of, to, call);
+        let mut cells = vec![name.trim_start_matches("growth: ").to_string()];
+        if call == Call::Reading {
+            cells.extend([steps.to_string(), nodes.to_string()]);
+        } else {
+            let count = own.map_or(0, |timing| timing.count);
+            let lent = measured.lent_bytes().div_ceil(1_000);
+            cells.extend([pairs.to_string(), lent.to_string(), count.to_string()]);
         }
-        lines.join("\n")
+        cells.push(number(own.map(|timing| timing.nanoseconds / 1_000.0), 2));
+        cells.extend(["before", "same"].map(|other| number(ratio(subject, other), 2)));
+        if call != Call::Reading {
+            cells.push(number(ratio("textbook", subject), 1));
+            cells.push(number(own.map(per_pair), 0));
+        }
+        cells.join(" | ")
+    }
+
+    /// How far single placements are off the least time.
+    fn placements(&self, all: &[Measured]) -> String {
+        let cells = self.planners.iter().flat_map(|one| Call::ALL.map(|call| (*one, call)));
+        let rows = cells.filter_map(|(planner, call)| {
+            let Spread { mean, most, most_on, .. } = placement_spread(all, planner, call)?;
+            Some(format!("{planner} | {} | {mean:.2} | {most:.2} | {most_on}", call.name()))
+        });
+        let table = table("Implementation | Call | Geometric mean | Largest | Largest on", 2, rows);
+        let text = "The least time in the worst placement, in the least of all placements.";
+        format!("{text}\n\n{table}")
     }
 
     fn stacks(&self) -> String {
-        let mut lines =
-            vec!["| Call | Implementation | Bytes |".to_string(), "|---|---|--:|".into()];
-        for peak in self.peaks {
-            lines.push(format!("| {} | {} | {} |", peak.call, peak.planner, peak.bytes));
-        }
-        lines.join("\n")
+        let rows = self.peaks.iter().map(|Peak { planner, call, bytes }| {
+            format!("{call} | {planner} | {bytes}") //
+        });
+        table("Call | Implementation | Bytes", 2, rows)
     }
 }
 
-/// Count, time, ratio to the yardstick, the textbook's time in ours, ns for each pair.
-fn cells(measured: &Measured, subject: &str, search: Search) -> Vec<String> {
-    let Some(own) = measured.timing(subject, search) else { return vec!["".into(); 5] };
-    let textbook = measured.timing("textbook", search).map_or(f64::NAN, |t| t.nanoseconds);
-    let Timing { count, nanoseconds, ratio, .. } = own;
-    vec![
-        count.to_string(),
-        format!("{:.2}", nanoseconds / 1_000.0),
-        format!("{ratio:.2}"),
-        format!("{:.1}", textbook / nanoseconds),
-        format!("{:.0}", per_pair(own)),
-    ]
+fn targets(all: &[Measured]) -> String {
+    let rows = verdicts(all).into_iter().map(|verdict| {
+        let found = verdict.found.as_ref();
+        let on = found.map_or("-", |found| &found.most_on);
+        let most = number(found.map(|found| found.most), 2);
+        let mean = number(found.map(|found| found.mean), 2);
+        let begin = format!("{} | {:.2}", verdict.aim(), verdict.limit());
+        format!("{begin} | {} | {most} | {on} | {mean}", verdict.word())
+    });
+    table("Target | At most | Result | Largest | Largest on | Geometric mean", 1, rows)
 }
 
 /// The machine's load average over the last minute.
@@ -136,14 +168,12 @@ pub fn load_average() -> String {
 
 #[cfg(test)]
 mod tests {
-    use super::with_figures;
+    use super::table;
 
     #[test]
-    fn only_the_part_between_the_marks_changes() {
-        let page = "a\n<!-- figures: begin (x) -->\nold\n<!-- figures: end -->\nb\n";
-        let new = "a\n<!-- figures: begin (x) -->\n\nnew\n\n<!-- figures: end -->\nb\n";
-        assert_eq!(with_figures(page, "new\n").as_deref(), Some(new));
-        assert_eq!(with_figures(new, "new").as_deref(), Some(new));
-        assert_eq!(with_figures("a\n", "new"), None);
+    fn a_table_has_a_column_for_each_head() {
+        let rows = ["x | 1 | 2".to_string()];
+        let text = "| a | b | c |\n|---|--:|--:|\n| x | 1 | 2 |";
+        assert_eq!(table("a | b | c", 1, rows), text);
     }
 }

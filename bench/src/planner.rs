@@ -228,11 +228,13 @@ pub fn all() -> Vec<Box<dyn Planner>> {
     ]
 }
 
-/// The same to be measured: the library writes its answers on the stack.
+/// Those to be measured: the library writes its answers on the stack; an earlier one is beside it.
 pub fn timed() -> Vec<Box<dyn Planner>> {
     vec![
         #[cfg(feature = "library")]
         Box::new(crate::library::Library { guarded: false }),
+        #[cfg(feature = "before")]
+        Box::new(crate::before::Before),
         Box::new(crate::same::Same),
         Box::new(crate::textbook::Textbook),
     ]

@@ -1,6 +1,7 @@
 //! A plot of time against pairs as SVG, both axes logarithmic.
 
-use crate::measure::{Measured, Search};
+use crate::measure::Call;
+use crate::ratios::Measured;
 
 const WIDTH: f64 = 860.0;
 const HEIGHT: f64 = 560.0;
@@ -8,7 +9,8 @@ const LEFT: f64 = 80.0;
 const RIGHT: f64 = 210.0;
 const TOP: f64 = 40.0;
 const BOTTOM: f64 = 60.0;
-const COLOURS: [&str; 6] = ["#1b6ca8", "#c0392b", "#1e8449", "#8e44ad", "#b9770e", "#34495e"];
+const COLOURS: [&str; 8] =
+    ["#1b6ca8", "#c0392b", "#1e8449", "#8e44ad", "#b9770e", "#34495e", "#7f8c8d", "#d98880"];
 
 /// One implementation's points for one search: pairs and microseconds.
 struct Series {
@@ -20,7 +22,7 @@ struct Series {
 pub fn svg(all: &[Measured], planners: &[&str]) -> String {
     let series: Vec<Series> = planners
         .iter()
-        .flat_map(|planner| Search::BOTH.map(|search| series(all, planner, search)))
+        .flat_map(|planner| Call::SEARCHES.map(|search| series(all, planner, search)))
         .collect();
     let points = || series.iter().flat_map(|s| s.points.iter());
     let across = Axis::over(points().map(|p| p.0), LEFT, WIDTH - RIGHT);
@@ -38,7 +40,7 @@ pub fn svg(all: &[Measured], planners: &[&str]) -> String {
     text + "</svg>\n"
 }
 
-fn series(all: &[Measured], planner: &str, search: Search) -> Series {
+fn series(all: &[Measured], planner: &str, search: Call) -> Series {
     let timings = all.iter().filter_map(|measured| measured.timing(planner, search));
     let points = timings
         .filter(|timing| timing.count > 0)

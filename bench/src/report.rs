@@ -1,44 +1,50 @@
-//! Measurements as a table and as CSV.
+//! Measurements as text and as CSV.
 
-use crate::measure::{Measured, Search, Timing, YARDSTICK};
+use crate::measure::{Call, Timing};
+use crate::ratios::{spread, Measured, Spread, RATIOS};
+use crate::targets::{verdicts, Verdict};
+
+/// The ratios that stand in the table; the others are in the summary alone.
+fn shown<'a>(planners: &'a [&str]) -> impl Iterator<Item = (&'static str, &'static str)> + 'a {
+    let timed = |name: &str| planners.contains(&name);
+    RATIOS.into_iter().filter(move |(of, to)| *of == "library" && timed(of) && timed(to))
+}
 
 /// The table's head, one line.
 pub fn table_head(planners: &[&str]) -> String {
-    let mut line = format!("{:<34}{:>8}{:>8}{:>9}", "load", "pairs", "search", "count");
+    let mut line = format!("{:<34}{:>8}{:>9}{:>8}", "load", "pairs", "call", "count");
     for planner in planners {
-        line += &format!("{:>14}", format!("{planner} µs"));
+        line += &format!("{:>13}", format!("{planner} µs"));
     }
-    line += &format!("{:>9}", "ns/pair");
-    for planner in others(planners) {
-        line += &format!("{:>17}", format!("{planner}/{YARDSTICK}"));
+    for (_, to) in shown(planners) {
+        line += &format!("{:>10}", format!("/ {to}"));
     }
     line
 }
 
-/// Two lines of the table: sweep and guided search of one load.
+/// One line for each call on one load.
 pub fn table_rows(measured: &Measured, planners: &[&str]) -> String {
-    Search::BOTH.map(|search| table_row(measured, planners, search)).join("\n")
+    Call::ALL.map(|call| table_row(measured, planners, call)).join("\n")
 }
 
-fn table_row(measured: &Measured, planners: &[&str], search: Search) -> String {
-    let first = planners.first().and_then(|planner| measured.timing(planner, search));
+fn table_row(measured: &Measured, planners: &[&str], call: Call) -> String {
+    let Measured { name, pairs, .. } = measured;
+    let first = planners.first().and_then(|planner| measured.timing(planner, call));
     let count = first.map_or(0, |timing| timing.count);
-    let mut line =
-        format!("{:<34}{:>8}{:>8}{:>9}", measured.name, measured.pairs, search.name(), count);
+    let mut line = format!("{name:<34}{pairs:>8}{:>9}{count:>8}", call.name());
     for planner in planners {
-        let time = measured.timing(planner, search).map_or(f64::NAN, |t| t.nanoseconds);
-        line += &format!("{:>14.2}", time / 1_000.0);
+        let time = measured.timing(planner, call).map(|timing| timing.nanoseconds / 1_000.0);
+        line += &format!("{:>13}", number(time, 2));
     }
-    line += &format!("{:>9.1}", first.map_or(f64::NAN, per_pair));
-    for planner in others(planners) {
-        line +=
-            &format!("{:>17.2}", measured.timing(planner, search).map_or(f64::NAN, |t| t.ratio));
+    for (of, to) in shown(planners) {
+        line += &format!("{:>10}", number(measured.ratio(of, to, call), 2));
     }
     line
 }
 
-fn others<'a>(planners: &'a [&'a str]) -> impl Iterator<Item = &'a str> {
-    planners.iter().copied().filter(|planner| *planner != YARDSTICK)
+/// A number with so many digits behind the point, or a dash.
+pub fn number(value: Option<f64>, digits: usize) -> String {
+    value.map_or("-".into(), |value| format!("{value:.digits$}"))
 }
 
 /// Nanoseconds for each reached or settled pair.
@@ -46,67 +52,53 @@ pub fn per_pair(timing: &Timing) -> f64 {
     timing.nanoseconds / f64::from(timing.count.max(1))
 }
 
-/// For each implementation and search: the geometric mean of the ratios and the largest one.
-pub fn summary(all: &[Measured], planners: &[&str]) -> String {
+/// The ratios of each pair of implementations in each call, and the targets.
+pub fn summary(standard: &[Measured], all: &[Measured]) -> String {
     let mut lines = Vec::new();
-    for planner in others(planners) {
-        for search in Search::BOTH {
-            if let Some(Spread { mean, least, most, loads }) = spread(all, planner, search) {
-                lines.push(format!(
-                    "{planner}/{YARDSTICK}, {}: geometric mean {mean:.2}, least {least:.2}, \
-                     largest {most:.2}, {loads} loads",
-                    search.name(),
-                ));
-            }
+    for (of, to) in RATIOS {
+        for call in Call::ALL {
+            let Some(found) = spread(standard, of, to, call) else { continue };
+            let Spread { mean, least, most, most_on, loads } = found;
+            lines.push(format!(
+                "{of} / {to}, {}: geometric mean {mean:.2}, least {least:.2}, largest {most:.2} \
+                 ({most_on}), {loads} loads",
+                call.name(),
+            ));
         }
     }
+    lines.push("\ntargets:".into());
+    lines.extend(verdicts(all).iter().map(verdict_line));
     lines.join("\n")
 }
 
-/// The ratios of an implementation over many loads.
-pub struct Spread {
-    /// The geometric mean.
-    pub mean: f64,
-    pub least: f64,
-    pub most: f64,
-    pub loads: usize,
-}
-
-/// None where there is no load.
-pub fn spread(all: &[Measured], planner: &str, search: Search) -> Option<Spread> {
-    let timings = all.iter().filter_map(|measured| measured.timing(planner, search));
-    let ratios: Vec<f64> = timings.map(|timing| timing.ratio).collect();
-    let loads = ratios.len();
-    (loads > 0).then(|| Spread {
-        mean: (ratios.iter().map(|ratio| ratio.ln()).sum::<f64>() / loads as f64).exp(),
-        least: ratios.iter().copied().fold(f64::INFINITY, f64::min),
-        most: ratios.iter().copied().fold(0.0, f64::max),
-        loads,
-    })
+fn verdict_line(verdict: &Verdict) -> String {
+    let begin = format!("{:<13} {}", verdict.word(), verdict.aim());
+    let limit = verdict.limit();
+    match &verdict.found {
+        None => format!("{begin}: at most {limit:.2}"),
+        Some(Spread { mean, most, most_on, loads, .. }) => format!(
+            "{begin}: at most {limit:.2}, largest {most:.2} ({most_on}), geometric mean {mean:.2}, \
+             {loads} times"
+        ),
+    }
 }
 
 /// All timings, one a line.
 pub fn csv(all: &[Measured]) -> String {
     let mut text = String::from(
-        "load,stages,steps,nodes,pairs,number,search,implementation,count,median_ns,\
-         ns_per_pair,ratio_to_same\n",
+        "load,stages,steps,nodes,pairs,call,implementation,count,least_ns,\
+         least_ns_in_worst_placement\n",
     );
     for m in all {
+        let Measured { name, stages, steps, nodes, pairs, .. } = m;
         for t in &m.timings {
+            let most = t.placed.iter().copied().fold(0.0, f64::max);
             text += &format!(
-                "\"{}\",{},{},{},{},{},{},{},{},{:.0},{:.2},{:.3}\n",
-                m.name,
-                m.stages,
-                m.steps,
-                m.nodes,
-                m.pairs,
-                m.number,
-                t.search.name(),
+                "\"{name}\",{stages},{steps},{nodes},{pairs},{},{},{},{:.1},{most:.1}\n",
+                t.call.name(),
                 t.planner,
                 t.count,
                 t.nanoseconds,
-                per_pair(t),
-                t.ratio
             );
         }
     }

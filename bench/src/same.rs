@@ -10,7 +10,7 @@ pub use guided::guided;
 pub use sweep::sweep;
 
 use crate::planner::{Answer, GuidedSlices, Planner, Space, SweepSlices};
-use tables::{Tables, BY_STAGE};
+use tables::{Tables, BY_NODE, BY_STAGE};
 
 /// No cost, no estimate, never opened.
 const NONE: u32 = u32::MAX;
@@ -32,7 +32,7 @@ fn via_node(via: u32) -> usize {
     (via & ((1 << NODE_BITS) - 1)) as usize
 }
 
-/// Reads both files and tests the lengths of the lent slices.
+/// Reads both files and tests the lengths of the lent slices; then both searches can begin.
 fn prepare(
     tables: &mut Tables,
     chart: &[u8],
@@ -45,6 +45,7 @@ fn prepare(
     if shortest_work < tables.stages * tables.references || plan < tables.stages - 1 {
         return Err(Answer::refused(7, 0, 0));
     }
+    tables.fill_first();
     Ok(())
 }
 
@@ -62,19 +63,16 @@ pub fn space_needed(chart: &[u8], rules: &[u8]) -> Space {
     }
 }
 
-/// Writes the plan that ends in a pair, back along `via`, and gives its length.
+/// Writes the plan that ends in a pair, back along `via` and then turned round; gives its length.
 fn trace_back(tables: &Tables, via: &[u32], goal: usize, plan: &mut [u16]) -> usize {
     let mut length = 0;
     let mut pair = goal;
     while via[pair] != NO_VIA {
+        plan[length] = via_step(via[pair]) as u16;
         length += 1;
         pair = tables.pair_before(via[pair]);
     }
-    pair = goal;
-    for entry in plan[..length].iter_mut().rev() {
-        *entry = via_step(via[pair]) as u16;
-        pair = tables.pair_before(via[pair]);
-    }
+    plan[..length].reverse();
     length
 }
 

@@ -1,7 +1,7 @@
 //! The guided search: A* over pairs with the larger of two consistent estimates.
 
 use super::queue::Queue;
-use super::{pack_via, prepare, trace_back, via_step, Tables, NONE, NO_VIA};
+use super::{pack_via, prepare, trace_back, via_step, Tables, BY_NODE, BY_STAGE, NONE, NO_VIA};
 use crate::planner::Answer;
 
 /// Settles pairs in the order of their sums until the first goal pair.
@@ -23,14 +23,21 @@ pub fn guided(
     if let Err(refusal) = prepare(&mut tables, chart, rules, shortest, plan.len()) {
         return refusal;
     }
-    let estimates = Estimates::new(&tables);
+    let mut estimates = Estimates::none();
+    tables.estimate_stages(&mut estimates.by_stage);
+    tables.estimate_nodes(&mut estimates.by_node);
     let Some(first_key) = estimates.of(tables.start, tables.root) else {
         return Answer::no_plan(0);
     };
     let pairs = tables.stages * tables.references;
-    let (keys, via) = (&mut keys[..pairs], &mut via[..pairs]);
-    let queue = Queue::new(&mut heap[..pairs], &mut pos[..pairs], &mut stack[..pairs], first_key);
-    let mut search = Search { tables: &tables, estimates, keys, via, queue };
+    let mut search = Search {
+        tables: &tables,
+        estimates: &estimates,
+        keys: &mut keys[..pairs],
+        via: &mut via[..pairs],
+        queue: Queue::new(&mut heap[..pairs], &mut pos[..pairs], &mut stack[..pairs]),
+        cleared: [false; BY_STAGE],
+    };
     let (goal, count) = search.run(first_key, &mut log[..pairs]);
     match goal {
         None => Answer::no_plan(count),
@@ -43,13 +50,13 @@ pub fn guided(
 
 /// Both estimates.
 struct Estimates {
-    by_stage: [u32; 256],
-    by_node: [u32; 512],
+    by_stage: [u32; BY_STAGE],
+    by_node: [u32; BY_NODE],
 }
 
 impl Estimates {
-    fn new(tables: &Tables) -> Estimates {
-        Estimates { by_stage: tables.stage_estimates(), by_node: tables.node_estimates() }
+    fn none() -> Estimates {
+        Estimates { by_stage: [NONE; BY_STAGE], by_node: [NONE; BY_NODE] }
     }
 
     /// The larger of the two, none if either is none.
@@ -61,24 +68,26 @@ impl Estimates {
 
 struct Search<'a> {
     tables: &'a Tables,
-    estimates: Estimates,
-    /// By pair: least cost so far plus estimate, or never opened.
+    estimates: &'a Estimates,
+    /// By pair of a cleared row: least cost so far plus estimate, or never opened.
     keys: &'a mut [u32],
     via: &'a mut [u32],
     queue: Queue<'a>,
+    /// By stage: whether its row of keys is cleared. It is when its first pair is opened.
+    cleared: [bool; BY_STAGE],
 }
 
 impl Search<'_> {
     /// The first goal pair settled, and how many pairs were.
     fn run(&mut self, first_key: u32, log: &mut [u32]) -> (Option<usize>, usize) {
         let tables = self.tables;
-        let finishes = tables.finishes();
-        // A start past the end has no estimate, so these rows are in order.
-        self.keys[tables.row(tables.start)..tables.row(tables.end + 1)].fill(NONE);
+        let mut finishes = [false; BY_NODE];
+        tables.mark_finishing(&mut finishes);
+        self.clear(tables.start);
         let start = tables.row(tables.start) + tables.root;
         self.keys[start] = first_key;
         self.via[start] = NO_VIA;
-        self.queue.push(self.keys, start);
+        self.queue.push(self.keys, first_key, start);
         let mut count = 0;
         while let Some(pair) = self.queue.pop(self.keys) {
             log[count] = pair as u32;
@@ -91,6 +100,14 @@ impl Search<'_> {
             self.open_followers(pair, stage, node);
         }
         (None, count)
+    }
+
+    /// Clears a stage's row of keys if it isn't.
+    fn clear(&mut self, stage: usize) {
+        if !self.cleared[stage] {
+            self.cleared[stage] = true;
+            self.keys[self.tables.row(stage)..][..self.tables.references].fill(NONE);
+        }
     }
 
     /// The stage of an opened pair, by the step that opened it.
@@ -106,7 +123,9 @@ impl Search<'_> {
     fn open_followers(&mut self, pair: usize, stage: usize, node: usize) {
         let tables = self.tables;
         let Some(estimate) = self.estimates.of(stage, node) else { return };
-        let cost = self.keys[pair] - estimate;
+        // No open pair has a smaller key.
+        let floor = self.keys[pair];
+        let cost = floor - estimate;
         let mut at = node;
         for step in tables.leaving(stage) {
             while usize::from(tables.step[at]) < step {
@@ -119,6 +138,7 @@ impl Search<'_> {
             let next = if taken { usize::from(tables.hi[at]) } else { at };
             let to = usize::from(tables.to[step]);
             let Some(rest) = self.estimates.of(to, next) else { continue };
+            self.clear(to);
             let follower = tables.row(to) + next;
             let key = cost + tables.cost[step] + rest;
             let known = self.keys[follower];
@@ -126,7 +146,7 @@ impl Search<'_> {
                 self.keys[follower] = key;
                 self.via[follower] = pack_via(step, node);
                 if known == NONE {
-                    self.queue.push(self.keys, follower);
+                    self.queue.push(self.keys, floor, follower);
                 } else {
                     self.queue.lower(self.keys, follower);
                 }

@@ -11,23 +11,17 @@ pub struct Queue<'a> {
     len: usize,
     /// Entries of the stack.
     top: usize,
-    /// The key just taken: no open pair has a smaller one.
-    floor: u32,
 }
 
 impl<'a> Queue<'a> {
-    pub fn new(
-        heap: &'a mut [u32],
-        pos: &'a mut [u32],
-        stack: &'a mut [u32],
-        floor: u32,
-    ) -> Queue<'a> {
-        Queue { heap, pos, stack, len: 0, top: 0, floor }
+    pub fn new(heap: &'a mut [u32], pos: &'a mut [u32], stack: &'a mut [u32]) -> Queue<'a> {
+        Queue { heap, pos, stack, len: 0, top: 0 }
     }
 
-    /// Opens a pair; its key is at its place in `keys`.
-    pub fn push(&mut self, keys: &[u32], pair: usize) {
-        if keys[pair] == self.floor {
+    /// Opens a pair; its key is at its place in `keys`. The floor is the key of the pair just
+    /// taken: no open pair has a smaller one.
+    pub fn push(&mut self, keys: &[u32], floor: u32, pair: usize) {
+        if keys[pair] == floor {
             self.stack[self.top] = pair as u32;
             self.top += 1;
             return;
@@ -54,7 +48,6 @@ impl<'a> Queue<'a> {
             return None;
         }
         let pair = self.heap[0] as usize;
-        self.floor = keys[pair];
         self.len -= 1;
         self.swap(0, self.len);
         self.down(keys);

@@ -1,6 +1,6 @@
 //! The sweep: dynamic programming row by row, each row with a list of its reached nodes.
 
-use super::{pack_via, prepare, trace_back, Tables, BY_STAGE, NONE, NO_VIA};
+use super::{pack_via, prepare, trace_back, Tables, BY_NODE, BY_STAGE, NONE, NO_VIA};
 use crate::planner::Answer;
 
 /// Finds the least cost of every pair and a cheapest legal plan.
@@ -96,7 +96,8 @@ impl Rows<'_> {
 
     /// The goal pair of least cost.
     fn cheapest_goal(&self, tables: &Tables) -> Option<usize> {
-        let finishes = tables.finishes();
+        let mut finishes = [false; BY_NODE];
+        tables.mark_finishing(&mut finishes);
         let row = tables.row(tables.end);
         self.nodes[row..row + self.filled[tables.end]]
             .iter()

@@ -8,11 +8,19 @@ const NODES: usize = 512;
 const STAGES: usize = 256;
 const MAX_COST: u32 = 1_000_000;
 
+/// Bytes of each field, header and body: the chart's head and steps, the diagram's head and nodes.
+const HEAD: usize = 9;
+const STEP_FIELD: usize = 11;
+const RULES_HEAD: usize = 5;
+const NODE_FIELD: usize = 9;
+
 /// The step of nodes 0 and 1: above every step, so that no walk goes past them.
 const NO_STEP: u16 = u16::MAX;
 
 /// One entry for each stage.
 pub const BY_STAGE: usize = STAGES;
+/// One entry for each node reference.
+pub const BY_NODE: usize = NODES;
 
 /// Chart and diagram as tables.
 pub struct Tables {
@@ -62,34 +70,37 @@ impl Tables {
         if stages == 0 || stages > STAGES || self.start >= stages || self.end >= stages {
             return Err(Answer::refused(4, 1, 0));
         }
-        let mut place = 9;
-        while place < file.len() {
-            self.read_step(file, place).map_err(|n| Answer::refused(n, 1, place))?;
-            place += 11;
+        let refused = |number, at| Answer::refused(number, 1, HEAD + STEP_FIELD * at);
+        let fields = file[HEAD..].chunks_exact(STEP_FIELD);
+        let (whole, cut) = (fields.len(), fields.remainder());
+        let mut from = 0;
+        for (at, field) in fields.enumerate() {
+            from = self.read_step(field, at, from).map_err(|number| refused(number, at))?;
         }
-        self.fill_first();
-        Ok(())
+        self.steps = whole;
+        if cut.is_empty() {
+            return Ok(());
+        }
+        self.read_step(cut, whole, from).map_err(|number| refused(number, whole)).map(|_| ())
     }
 
-    fn read_step(&mut self, file: &[u8], place: usize) -> Result<(), u32> {
-        let body: &[u8; 8] = body(file, place, 0x02)?;
-        let [f0, f1, t0, t1, c0, c1, c2, c3] = *body;
+    /// Reads a step that leaves no stage before `least`, and gives the stage that it leaves.
+    fn read_step(&mut self, field: &[u8], at: usize, least: u16) -> Result<u16, u32> {
+        let [f0, f1, t0, t1, c0, c1, c2, c3] = *body(field, 0x02)?;
         let (from, to) = (u16::from_le_bytes([f0, f1]), u16::from_le_bytes([t0, t1]));
         let cost = u32::from_le_bytes([c0, c1, c2, c3]);
-        let at = self.steps;
-        let falls = at > 0 && from < self.from[at - 1];
-        if at == STEPS || from >= to || usize::from(to) >= self.stages || cost > MAX_COST || falls {
+        let falls = from < least;
+        if at >= STEPS || from >= to || usize::from(to) >= self.stages || cost > MAX_COST || falls {
             return Err(5);
         }
         self.from[at] = from;
         self.to[at] = to;
         self.cost[at] = cost;
-        self.steps += 1;
-        Ok(())
+        Ok(from)
     }
 
-    /// First steps by stage: steps stand in the order of their first stages.
-    fn fill_first(&mut self) {
+    /// First steps by stage, for the searches: steps stand in the order of their first stages.
+    pub fn fill_first(&mut self) {
         let mut stage = 0;
         for (at, from) in self.from[..self.steps].iter().enumerate() {
             while stage <= usize::from(*from) {
@@ -104,24 +115,28 @@ impl Tables {
     pub fn read_rules(&mut self, file: &[u8]) -> Result<(), Answer> {
         let head: &[u8; 2] = first_body(file, 0x11).map_err(|n| Answer::refused(n, 2, 0))?;
         self.root = number(head[0], head[1]);
-        let mut place = 5;
-        while place < file.len() {
-            self.read_node(file, place).map_err(|n| Answer::refused(n, 2, place))?;
-            place += 9;
+        let refused = |number, at| Answer::refused(number, 2, RULES_HEAD + NODE_FIELD * at);
+        let fields = file[RULES_HEAD..].chunks_exact(NODE_FIELD);
+        let (whole, cut) = (fields.len(), fields.remainder());
+        for (at, field) in fields.enumerate() {
+            self.read_node(field, at + 2).map_err(|number| refused(number, at))?;
         }
+        if !cut.is_empty() {
+            self.read_node(cut, whole + 2).map_err(|number| refused(number, whole))?;
+        }
+        self.references = whole + 2;
         if self.root >= self.references {
             return Err(Answer::refused(6, 2, 0));
         }
         Ok(())
     }
 
-    fn read_node(&mut self, file: &[u8], place: usize) -> Result<(), u32> {
-        let body: &[u8; 6] = body(file, place, 0x12)?;
-        let [s0, s1, l0, l1, h0, h1] = *body;
+    /// Reads a node, which has the reference `own`.
+    fn read_node(&mut self, field: &[u8], own: usize) -> Result<(), u32> {
+        let [s0, s1, l0, l1, h0, h1] = *body(field, 0x12)?;
         let step = u16::from_le_bytes([s0, s1]);
         let (lo, hi) = (u16::from_le_bytes([l0, l1]), u16::from_le_bytes([h0, h1]));
-        let own = self.references;
-        if own == NODES || usize::from(step) >= self.steps {
+        if own >= NODES || usize::from(step) >= self.steps {
             return Err(6);
         }
         // 0 and 1 have NO_STEP, so one comparison serves them and the inner nodes.
@@ -132,7 +147,6 @@ impl Tables {
         self.step[own] = step;
         self.lo[own] = lo;
         self.hi[own] = hi;
-        self.references += 1;
         Ok(())
     }
 
@@ -151,39 +165,33 @@ impl Tables {
         self.row(usize::from(self.from[via_step(via)])) + via_node(via)
     }
 
-    /// By node: whether it finishes at 1. Children stand before their nodes.
-    pub fn finishes(&self) -> [bool; NODES] {
-        let mut finishes = [false; NODES];
+    /// Marks the nodes that finish at 1; handed in without marks. Children stand before their nodes.
+    pub fn mark_finishing(&self, finishes: &mut [bool; BY_NODE]) {
         finishes[1] = true;
         for node in 2..self.references {
             finishes[node] = finishes[usize::from(self.lo[node])];
         }
-        finishes
     }
 
-    /// The chart estimates, from the end stage backwards.
-    pub fn stage_estimates(&self) -> [u32; STAGES] {
-        let mut estimates = [NONE; STAGES];
+    /// Fills in the chart estimates from the end stage back to the start; handed in without any.
+    pub fn estimate_stages(&self, estimates: &mut [u32; BY_STAGE]) {
         estimates[self.end] = 0;
-        for stage in (0..self.end).rev() {
+        for stage in (self.start..self.end).rev() {
             let leaving = self.leaving(stage);
             let steps = self.to[leaving.clone()].iter().zip(&self.cost[leaving]);
             let costs = steps.map(|(to, cost)| estimates[usize::from(*to)].saturating_add(*cost));
             estimates[stage] = costs.min().unwrap_or(NONE);
         }
-        estimates
     }
 
-    /// The diagram estimates, children before their nodes.
-    pub fn node_estimates(&self) -> [u32; NODES] {
-        let mut estimates = [NONE; NODES];
+    /// Fills in the diagram estimates, children before their nodes; handed in without any.
+    pub fn estimate_nodes(&self, estimates: &mut [u32; BY_NODE]) {
         estimates[1] = 0;
         for node in 2..self.references {
             let cost = self.cost[usize::from(self.step[node])];
             let taken = estimates[usize::from(self.hi[node])].saturating_add(cost);
             estimates[node] = estimates[usize::from(self.lo[node])].min(taken);
         }
-        estimates
     }
 }
 
@@ -196,17 +204,15 @@ fn first_body<const LENGTH: usize>(file: &[u8], tag: u8) -> Result<&[u8; LENGTH]
     if file.is_empty() {
         return Err(2);
     }
-    body(file, 0, tag)
+    body(file, tag)
 }
 
-/// The body of the field at a place: header cut, tag, length, body cut.
-fn body<const LENGTH: usize>(file: &[u8], place: usize, tag: u8) -> Result<&[u8; LENGTH], u32> {
-    let [found, low, high, rest @ ..] = &file[place..] else { return Err(1) };
-    if *found != tag {
-        return Err(2);
+/// The body of a field: header cut, tag, length, body cut. A right header is told by one comparison.
+fn body<const LENGTH: usize>(field: &[u8], tag: u8) -> Result<&[u8; LENGTH], u32> {
+    match field.split_first_chunk() {
+        Some((header, rest)) if *header == [tag, LENGTH as u8, 0] => rest.first_chunk().ok_or(1),
+        Some(([found, _, _], _)) if *found != tag => Err(2),
+        Some(_) => Err(3),
+        None => Err(1),
     }
-    if number(*low, *high) != LENGTH {
-        return Err(3);
-    }
-    rest.first_chunk().ok_or(1)
 }

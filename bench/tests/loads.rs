@@ -1,0 +1,34 @@
+//! The benchmark's groups of loads are what their names say.
+
+use planner_bench::files::read_both;
+use planner_bench::loads::{standard, Group};
+use planner_bench::planner::{GuidedSlices, Planner};
+use planner_bench::same::Same;
+
+#[test]
+fn few_pairs_of_charts_with_long_steps_are_settled() {
+    let loads: Vec<_> =
+        standard().into_iter().filter(|load| load.group == Group::LongSteps).collect();
+    assert_eq!(loads.len(), 14);
+    for load in loads {
+        let problem = read_both(&load.chart, &load.rules).expect("sound files");
+        let pairs = problem.pairs();
+        let mut lent = GuidedSlices::of(pairs, problem.longest_plan());
+        let answer = Same.guided(&load.chart, &load.rules, &mut lent);
+        assert_eq!(answer.number, 0, "{}", load.name);
+        assert!(1_000 * (answer.count as usize) < pairs, "{}: {}", load.name, answer.count);
+        assert_eq!(problem.chart.steps.len(), 1_024);
+        let longest = problem.chart.steps.iter().map(|step| step.to - step.from).max();
+        assert!(longest >= Some(30), "{}", load.name);
+    }
+}
+
+#[test]
+fn small_charts_are_small() {
+    let small: Vec<_> = standard().into_iter().filter(|load| load.group == Group::Small).collect();
+    assert_eq!(small.len(), 13);
+    for load in small {
+        let problem = read_both(&load.chart, &load.rules).expect("sound files");
+        assert!(problem.chart.stages <= 40 && problem.chart.steps.len() <= 120, "{}", load.name);
+    }
+}
