@@ -1,13 +1,14 @@
 -- Where a field stands: one law for each case of `fieldAt`, what is known of a whole field, and the same for fields of one tag and length only.
 -- Assumes nothing.
-use Prim.Native.Nat.{ℕ, _+_, _-_, _≤_, _<_}
+use Prim.Native.Nat.{ℕ, _+_, _-_, _*_, _≤_, _<_}
 use mathlib.Core.Path.{_≡_, refl, sym, _∙_, ap, subst}
 use mathlib.Core.Bool.{Bool, true, false, not}
 use mathlib.Core.List.{List}
 use lib.Dec.{ltb, leb, eqb}
 use lib.ListN.{length, getD, length-take, length-drop}
 use native.Mathlib.Omega.{arith}
-use borrow.Author.Tests.{leb-false, ltb-false, eqb-true, eq-eqb, ne-eqb, not-false}
+use native.Mathlib.Decide.{decLt}
+use borrow.Author.Tests.{leb-false, ltb-false, eqb-true, eqb-false, eq-eqb, ne-eqb, not-false}
 use Rattle.definitions.specs.Basics.{pick}
 use Rattle.definitions.specs.Fields.{two, part, Kind, foreign, exactly, isForeign, isPassedOver, lengthFits, only, fieldAt}
 use Rattle.definitions.specs.declared.Field.{Field}
@@ -129,7 +130,39 @@ module _ (tag len : ℕ) where
       go true t = eqb-true said len t
       go false t = let z : _≡_ {A = ℕ} 0 1 = cc in absurd (omega arith)
 
+-- a whole field of this tag and length stands at a place
+pub record HasField (s : List ℕ) (at tag len : ℕ) : Type 0 where
+  pub ends : at + (3 + len) ≤ length s
+  pub tagged : getD s at 0 ≡ tag
+  pub long : two s (at + 1) ≡ len
+
+-- r says whether it does
+pub record Tells (r : Bool) (s : List ℕ) (at tag len : ℕ) : Type 0 where
+  pub has : r ≡ true → HasField s at tag len
+  pub lacks : r ≡ false → HasField s at tag len → ⊥
+
+true-false : true ≡ false → ⊥
+true-false e = let z : _≡_ {A = ℕ} 0 1 = cc in omega arith
+
 -- with the tests of the code as premises
+module _ (s : List ℕ) (at tag len : ℕ) where
+  tells-short : (at + (3 + len) ≤ length s → ⊥) → Tells false s at tag len
+  tells-short h = record { has = λ e. absurd (true-false (sym e)); lacks = λ e w. h (w .ends) }
+
+  pub tells-small : length s < 3 + len → Tells false s at tag len
+  tells-small h = tells-short (λ e. omega arith)
+
+  pub tells-late : length s - (3 + len) < at → 3 + len ≤ length s → Tells false s at tag len
+  tells-late h k = tells-short (λ e. omega arith)
+
+  -- a tag is a byte, so the header as one number tells both
+  pub tells-header : (header : ℕ) → header ≡ getD s at 0 + 256 * two s (at + 1) → at ≤ length s - (3 + len) → 3 + len ≤ length s → getD s at 0 < 256 → tag < 256
+      → Tells (eqb header (tag + 256 * len)) s at tag len
+  tells-header header is h k x y = record {
+    has = λ e. let q = eqb-true header (tag + 256 * len) e in record { ends = omega arith; tagged = omega arith; long = omega arith };
+    lacks = λ e w. eqb-false header (tag + 256 * len) e (omega (arith, w .tagged, w .long));
+  }
+
 module _ (s : List ℕ) (at tag len : ℕ) (p : at < length s) (q : 3 ≤ length s - at) where
   pub only-tag : (getD s at 0 ≡ tag → ⊥) → Faulty 2 ≡ fieldAt s at (only tag len)
   only-tag r = field-foreign s at (only tag len) p q (ap isForeign (only-other tag len (getD s at 0) r))
@@ -145,15 +178,27 @@ module _ (s : List ℕ) (at tag len : ℕ) (p : at < length s) (q : 3 ≤ length
     only-unfit t = field-unfit s at (only tag len) p q known (fitting ∙ ne-eqb said len t)
 
     module _ (t : said ≡ len) where
-      pub only-short : length s - at - 3 < len → Faulty 1 ≡ fieldAt s at (only tag len)
-      only-short u = field-short s at (only tag len) p q known (fitting ∙ eq-eqb said len t) (omega arith)
+      has-field : len ≤ length s - at - 3 → HasField s at tag len
+      has-field u = record { ends = omega arith; tagged = r; long = sym read ∙ t }
 
-      pub only-whole : len ≤ length s - at - 3 → Whole (at + 3) (at + 3 + len) ≡ fieldAt s at (only tag len)
-      only-whole u =
-          let l : two s (at + 1) ≡ len = sym read ∙ t in
-          ap (λ (k : ℕ). Whole (at + 3) (at + 3 + k)) (sym l) ∙ field-whole s at (only tag len) p q known (fitting ∙ eq-eqb said len t) (omega arith)
+      pub only-short : (HasField s at tag len → ⊥) → Faulty 1 ≡ fieldAt s at (only tag len)
+      only-short u = field-short s at (only tag len) p q known (fitting ∙ eq-eqb said len t) (go (decLt (length s - at - 3) len))
+        where
+          go : Dec (length s - at - 3 < len) → length s - at - 3 < two s (at + 1)
+          go (yes h) = omega arith
+          go (no h) = absurd (u (has-field (omega arith)))
 
-pub ruleset field-laws = (field-absent, field-cut, only-tag, only-unfit, only-short, only-whole)
+pub only-has : (s : List ℕ) (at tag len : ℕ) → HasField s at tag len → Whole (at + 3) (at + 3 + len) ≡ fieldAt s at (only tag len)
+only-has s at tag len w =
+    let p : at < length s = omega (arith, w .ends) in
+    let q : 3 ≤ length s - at = omega (arith, w .ends) in
+    let fits = fitting s at tag len p q (two s (at + 1)) refl (w .tagged) ∙ eq-eqb (two s (at + 1)) len (w .long) in
+    ap (λ (k : ℕ). Whole (at + 3) (at + 3 + k)) (sym (w .long))
+    ∙ field-whole s at (only tag len) p q (known s at tag len p q (two s (at + 1)) refl (w .tagged)) fits (omega (arith, w .ends, w .long))
+
+pub ruleset tell-laws = (tells-small, tells-late)
+
+pub ruleset field-laws = (field-absent, field-cut, only-tag, only-unfit, only-short)
 
 -- what a caller of `field_at` asks of the body that it was given
 module _ (s : List ℕ) (at tag len a e : ℕ) (r : Field) (given : r ≡ fieldAt s at (only tag len)) (found : r ≡ Whole a e) where

@@ -1,64 +1,45 @@
+-- `fields::reader::look_at` meets its contract.
+use denote.Ref.{now}
+use native.Mathlib.Omega.{arith}
 use borrow.Author.Needs.{needs}
-use Rattle.fields.specs.Positions.{field-laws}
+use Rattle.fields.specs.Positions.{HasField, only-has}
 use Rattle.fields.proofs.reader.look_at.Statement.{statement}
 use Rattle.fields.proofs.reader.look_at.Tie as tie
 use Rattle.fields.proofs.reader.look_at.Reads as reads
 use Rattle.fields.proofs.reader.look_at.Lts as lts
-use Rattle.fields.proofs.read_u16.Reads as read-u16-reads
+use Rattle.fields.proofs.reader.fault_at.Reads as fault-at-reads
+use Rattle.fields.proofs.reader.is_whole.Reads as is-whole-reads
 
-returns : tie.Need-returns
-returns c = search field-laws
+abbrev start-of : tie.Then1 → tie.Start
+start-of c = search
 
-sub-left : tie.Need-sub-left
-sub-left c = search needs
+-- the field that was found
+found : (c : tie.Then1) → HasField (now (start-of c .args .s)) (start-of c .args .at) (start-of c .args .tag) (start-of c .args .len)
+found c = c .before .is-whole .ensures .has (c .if1 .taken)
 
-returns-2 : tie.Need-returns-2
-returns-2 c = search field-laws
+is-whole-requires : tie.Need-is-whole-requires
+is-whole-requires c κs = search needs
 
-shared-slice-read-found : tie.Need-shared-slice-read-found
-shared-slice-read-found c = search needs
+add-t6 : tie.Need-add-t6
+add-t6 c = let x = found c in omega (arith, x .ends)
 
-returns-3 : tie.Need-returns-3
-returns-3 c = search field-laws
-
-add-read-u16 : tie.Need-add-read-u16
-add-read-u16 c = search needs
-
-read-u16-requires : tie.Need-read-u16-requires
-read-u16-requires c κs = search needs
-
-returns-4 : tie.Need-returns-4
-returns-4 c = search field-laws
-
-returns-5 : tie.Need-returns-5
-returns-5 c = search field-laws
+add-t7 : tie.Need-add-t7
+add-t7 c = let x = found c in omega (arith, x .ends)
 
 add-t9 : tie.Need-add-t9
-add-t9 c = search needs
+add-t9 c = let x = found c in omega (arith, x .ends)
 
-add-t13 : tie.Need-add-t13
-add-t13 c = search needs
+returns : tie.Need-returns
+returns c = only-has _ _ _ _ (found c)
 
-add-t14 : tie.Need-add-t14
-add-t14 c = search needs
+fault-at-requires : tie.Need-fault-at-requires
+fault-at-requires c κs =
+    let judged : tie.After-is-whole = search in
+    judged .is-whole .ensures .lacks (c .if1 .left)
 
-returns-6 : tie.Need-returns-6
-returns-6 c = search field-laws
+returns-2 : tie.Need-returns-2
+returns-2 c = search needs
 
 pub look-at-spec : {M : Type 1} → statement M
 look-at-spec =
-    tie.close
-    (tie.spec
-    returns
-    sub-left
-    returns-2
-    shared-slice-read-found
-    returns-3
-    add-read-u16
-    read-u16-requires
-    returns-4
-    returns-5
-    add-t9
-    add-t13
-    add-t14
-    returns-6)
+    tie.close (tie.spec is-whole-requires add-t6 add-t7 add-t9 returns fault-at-requires returns-2)
