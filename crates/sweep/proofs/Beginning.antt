@@ -17,7 +17,7 @@ use Rattle.sweep_model.specs.Result.{Fresh, begun-table}
 use Rattle.checks.specs.Ready.{Walk, Ready, graphIn, automatonIn, width-is, lawful-in, few-stages, row-start}
 use Rattle.sweep_rows.specs.Standing.{Row, at}
 use Rattle.sweep_rows.specs.Leaving.{first-steps}
-use Rattle.sweep.specs.Begin.{begunAt}
+use Rattle.sweep_ends.specs.Begin.{begunAt}
 use Rattle.sweep.specs.Runs.{pairsIn, Blank, clearedCosts, cleared}
 
 module _ {z : Shape} {on : Walk} (y : Ready z on) where

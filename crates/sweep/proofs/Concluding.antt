@@ -32,9 +32,9 @@ use Rattle.sweep_model.specs.Paths.{Traced, traced}
 use Rattle.checks.specs.Tables.{Read, chartIn, diagramIn}
 use Rattle.checks.specs.Ready.{graphIn, automatonIn, count-is, width-is, few-stages, few-nodes, from-at, lawful-in}
 use Rattle.sweep_rows.specs.Standing.{at}
-use Rattle.sweep.specs.Goals.{Listed, Chosen}
+use Rattle.sweep_ends.specs.Goals.{Listed, Chosen}
 use Rattle.sweep.specs.Runs.{Final, Concludes}
-use Rattle.sweep.specs.declared.goals.Best.{Best}
+use Rattle.sweep_ends.specs.declared.goals.Best.{Best}
 
 shown-some : (o : Option ℕ) (m : ℕ) → m ≡ shown o → m < unreached → o ≡ some m
 shown-some none m e h = absurd (omega arith)

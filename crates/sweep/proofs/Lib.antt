@@ -1,4 +1,3 @@
-mod Leaves
 mod Beginning
 mod Concluding
 mod Whole

@@ -4,8 +4,6 @@ ghost use lib.ListN.{length};
 ghost use Rattle.sweep_model.specs.Model.{rows};
 ghost use Rattle.checks.specs.Tables.{read};
 ghost use Rattle.sweep.specs.Runs.{Final, Concludes};
-use crate::goals::cheapest_goal;
-use crate::goals::total_count;
 use chart::FROM;
 use checks::accepted;
 use checks::refusal;
@@ -15,6 +13,8 @@ use definitions::NONE;
 use definitions::Shape;
 use diagram::LO;
 use nodes::finishing;
+use sweep_ends::cheapest_goal;
+use sweep_ends::total_count;
 use trace::write_plan;
 
 // The answer; a plan is written where there is one.

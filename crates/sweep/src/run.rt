@@ -7,8 +7,6 @@ ghost use Rattle.checks.specs.Tables.{read, Tables, chartIn, diagramIn};
 ghost use Rattle.checks.specs.Ready.{walk, Ready, graphIn, automatonIn};
 ghost use Rattle.sweep_rows.specs.Standing.{at};
 ghost use Rattle.sweep.specs.Runs.{Space, Blank, cleared, Promised};
-use crate::begin::begin;
-use crate::begin::clear;
 use crate::conclude::conclude;
 use chart::FROM;
 use chart_stages::first_steps;
@@ -19,6 +17,8 @@ use convert::wide;
 use definitions::Answer;
 use definitions::Shape;
 use rows::row_starts;
+use sweep_ends::begin;
+use sweep_ends::clear;
 use sweep_rows::relax_rows;
 
 // The least cost of every pair, from any content of the slices.

@@ -1,12 +1,12 @@
--- `sweep::cheapest_goal` meets its contract.
+-- `sweep_ends::cheapest_goal` meets its contract.
 use Prim.Native.Nat.{_-_, _≤_}
 use mathlib.Core.Path.{refl}
 use native.Mathlib.Omega.{arith}
 use borrow.Author.Needs.{needs}
-use Rattle.sweep.specs.Goals.{Chosen}
-use Rattle.sweep.proofs.Leaves.{chosen-none, chosen-more, chosen-all}
-use Rattle.sweep.proofs.goals.cheapest_goal.Statement.{statement}
-use Rattle.sweep.proofs.goals.cheapest_goal.Tie as tie
+use Rattle.sweep_ends.specs.Goals.{Chosen}
+use Rattle.sweep_ends.proofs.Leaves.{chosen-none, chosen-more, chosen-all}
+use Rattle.sweep_ends.proofs.goals.cheapest_goal.Statement.{statement}
+use Rattle.sweep_ends.proofs.goals.cheapest_goal.Tie as tie
 
 abbrev Inv-loop : tie.InvT-loop
 Inv-loop costs nodes yes' base count best₀ k₀ best k = (k ≤ count) × Chosen base k costs nodes yes' best

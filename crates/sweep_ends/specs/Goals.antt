@@ -6,7 +6,7 @@ use mathlib.Core.Bool.{Bool, true, false}
 use mathlib.Core.List.{List}
 use lib.ListN.{length, getD}
 use Rattle.sweep_model.specs.Model.{unreached}
-use Rattle.sweep.specs.declared.goals.Best.{Best}
+use Rattle.sweep_ends.specs.declared.goals.Best.{Best}
 
 -- the better of the best so far and node n at cost v, if that is a goal
 pub record Better (best : Best) (n v : ℕ) (yes : Bool) (r : Best) : Type 0 where

@@ -1,9 +1,9 @@
--- `sweep::begin` meets its contract: a root that is 0 changes nothing.
+-- `sweep_ends::begin` meets its contract: a root that is 0 changes nothing.
 use borrow.Author.Needs.{needs}
 use Rattle.sweep_model.specs.Model.{rows}
-use Rattle.sweep.proofs.Leaves.{begun-none, begun-one}
-use Rattle.sweep.proofs.begin.begin.Statement.{statement}
-use Rattle.sweep.proofs.begin.begin.Tie as tie
+use Rattle.sweep_ends.proofs.Leaves.{begun-none, begun-one}
+use Rattle.sweep_ends.proofs.start.begin.Statement.{statement}
+use Rattle.sweep_ends.proofs.start.begin.Tie as tie
 
 returns : tie.Need-returns
 returns c = λ via. begun-none _ _ _ _ (c .if1 .taken)

@@ -4,7 +4,7 @@ ghost use mathlib.Core.List.{List, _++_};
 ghost use Prim.Native.Nat.{ℕ, _+_, _≤_, _<_};
 ghost use lib.ListN.{length, drop, replicate};
 ghost use Rattle.sweep_model.specs.Model.{unreached, rows};
-ghost use Rattle.sweep.specs.Begin.{begunAt};
+ghost use Rattle.sweep_ends.specs.Begin.{begunAt};
 use definitions::NONE;
 use definitions::Node;
 use definitions::Stage;

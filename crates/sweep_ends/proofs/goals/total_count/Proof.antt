@@ -1,13 +1,13 @@
--- `sweep::total_count` meets its contract.
+-- `sweep_ends::total_count` meets its contract.
 use Prim.Native.Nat.{_-_, _*_, _≤_}
 use mathlib.Core.Path.{_≡_, _∙_, ap}
 use native.Mathlib.Omega.{arith}
 use borrow.Author.Needs.{needs}
 use Rattle.sweep_model.specs.Totals.{total}
 use Rattle.sweep_rows.specs.Standing.{at}
-use Rattle.sweep.proofs.Leaves.{total-none, total-more}
-use Rattle.sweep.proofs.goals.total_count.Statement.{statement}
-use Rattle.sweep.proofs.goals.total_count.Tie as tie
+use Rattle.sweep_ends.proofs.Leaves.{total-none, total-more}
+use Rattle.sweep_ends.proofs.goals.total_count.Statement.{statement}
+use Rattle.sweep_ends.proofs.goals.total_count.Tie as tie
 
 abbrev Inv-loop : tie.InvT-loop
 Inv-loop counts stages sum₀ s₀ sum s = (s ≤ stages) × (sum ≡ total (at counts) s) × (sum ≤ s * 4294967296)

@@ -1,9 +1,9 @@
--- `sweep::better` meets its contract.
+-- `sweep_ends::better` meets its contract.
 use mathlib.Core.Path.{refl}
 use borrow.Author.Needs.{needs}
-use Rattle.sweep.proofs.Leaves.{better-taken, better-no}
-use Rattle.sweep.proofs.goals.better.Statement.{statement}
-use Rattle.sweep.proofs.goals.better.Tie as tie
+use Rattle.sweep_ends.proofs.Leaves.{better-taken, better-no}
+use Rattle.sweep_ends.proofs.goals.better.Statement.{statement}
+use Rattle.sweep_ends.proofs.goals.better.Tie as tie
 
 returns : tie.Need-returns
 returns c = search needs

@@ -2,7 +2,7 @@
 ghost use mathlib.Core.Path.{_≡_};
 ghost use Prim.Native.Nat.{_≤_};
 ghost use Rattle.sweep_model.specs.Totals.{total};
-ghost use Rattle.sweep.specs.Goals.{Better, Chosen, Listed};
+ghost use Rattle.sweep_ends.specs.Goals.{Better, Chosen, Listed};
 ghost use Rattle.sweep_rows.specs.Standing.{at};
 use convert::wide;
 use definitions::NONE;

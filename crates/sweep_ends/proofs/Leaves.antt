@@ -11,9 +11,9 @@ use borrow.Author.Tests.{eq-eqb, ne-eqb}
 use Rattle.theory.specs.Basics.{pick-true, pick-false, either, lt-or-le, same-or-not, true-not-false}
 use Rattle.sweep_model.specs.Totals.{total}
 use Rattle.sweep_model.specs.Model.{unreached, Rows, rows}
-use Rattle.sweep.specs.Begin.{begunAt}
-use Rattle.sweep.specs.Goals.{Better, Chosen}
-use Rattle.sweep.specs.declared.goals.Best.{Best}
+use Rattle.sweep_ends.specs.Begin.{begunAt}
+use Rattle.sweep_ends.specs.Goals.{Better, Chosen}
+use Rattle.sweep_ends.specs.declared.goals.Best.{Best}
 
 module _ (base start root : ℕ) (r : Rows) where
   pub begun-none : root ≡ 0 → r ≡ begunAt base start root r

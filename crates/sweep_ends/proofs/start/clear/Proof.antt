@@ -1,4 +1,4 @@
--- `sweep::clear` meets its contract.
+-- `sweep_ends::clear` meets its contract.
 use Prim.Native.Nat.{ℕ, _-_, _≤_}
 use mathlib.Core.Path.{_≡_, refl, _∙_, ap}
 use mathlib.Core.List.{_++_}
@@ -7,8 +7,8 @@ use borrow.Author.Needs.{needs}
 use lib.ListN.{length, drop, replicate, set}
 use borrow.Author.Fill.{fill-none, fill-more}
 use Rattle.sweep_model.specs.Model.{unreached}
-use Rattle.sweep.proofs.begin.clear.Statement.{statement}
-use Rattle.sweep.proofs.begin.clear.Tie as tie
+use Rattle.sweep_ends.proofs.start.clear.Statement.{statement}
+use Rattle.sweep_ends.proofs.start.clear.Tie as tie
 
 abbrev Inv-loop : tie.InvT-loop
 Inv-loop costs₀ pairs i₀ costs i = (i ≤ pairs) × (costs ≡ replicate i unreached ++ drop i costs₀) × (length costs ≡ length costs₀)
