@@ -1,22 +1,24 @@
--- Laws of trails: how a step back shortens one, and what the loops that follow one keep.
+-- Laws of trails: how a step back shortens one, and what the loop that follows one keeps.
 -- Assumes nothing.
 use Prim.Native.Nat.{ℕ, suc, _+_, _-_, _*_, _≤_, _<_}
 use mathlib.Core.Path.{_≡_, refl, sym, _∙_, ap, subst₂}
 use mathlib.Core.List.{List, [], _∷_, _++_, append-nil}
 use native.Mathlib.Omega.{arith}
 use native.Mathlib.Nat.{mul-le-mul-right}
-use lib.ListN.{length, getD, set, take, length-append}
-use lib.Seq.{append-snoc, take-suc, set-at, length-take-le}
+use native.Mathlib.Numerals.{add-one}
+use lib.ListN.{length, getD, set, drop, length-append}
+use lib.Seq.{append-snoc, drop-cons, set-at}
 use Rattle.rows.specs.Rows.{row-at}
 use Rattle.trace.specs.Trails.{packed, stepIn, step-packed, node-packed, CameFrom, Trail, begin, more, Traceable}
 use Rattle.trace.specs.declared.Predecessor.{Predecessor}
 
--- an entry put at j, before the part xs that stands after the first j + 1 entries of a list
-pub put-at : (i j : ℕ) (l xs plan : List ℕ) (e : ℕ) → i ≤ length l → i ≡ j + 1 → plan ≡ take i l ++ xs → set plan j e ≡ take j l ++ e ∷ xs
-put-at i j l xs plan e h q p =
-    let k : i ≡ suc j = omega arith in
-    ap (λ (z : List ℕ). set z j e) (p ∙ ap (λ (n : ℕ). take n l ++ xs) k ∙ ap (λ (z : List ℕ). z ++ xs) (take-suc l j 0 (omega arith)) ∙ append-snoc (take j l) (getD l j 0) xs)
-    ∙ set-at (take j l) (getD l j 0) xs e j (length-take-le j l (omega arith))
+-- an entry put after the part xs that stands at a list's front
+pub put-on : (i : ℕ) (l xs plan : List ℕ) (e : ℕ) → i < length l → length xs ≡ i → plan ≡ xs ++ drop i l → set plan i e ≡ xs ++ e ∷ [] ++ drop (i + 1) l
+put-on i l xs plan e h q p =
+    ap (λ (z : List ℕ). set z i e) (p ∙ ap (λ (z : List ℕ). xs ++ z) (drop-cons l i 0 h))
+    ∙ set-at xs (getD l i 0) (drop (suc i) l) e i q
+    ∙ sym (append-snoc xs e (drop (suc i) l))
+    ∙ ap (λ (k : ℕ). xs ++ e ∷ [] ++ drop k l) (sym (add-one i))
 
 -- a trail has at most as many steps as there are stages from the start on
 trail-short : {via from : List ℕ} {width start s n : ℕ} {w : List ℕ} → Trail via from width start s n w → length w + start ≤ s
@@ -47,7 +49,7 @@ module _ (via from : List ℕ) (width start : ℕ) where
   no-step h begin = refl
   no-step h (more a b c d f t) = absurd (omega arith)
 
-  -- The loops that follow the trail `steps`: they have come to the pair of s and n, `rest` leads there, and `taken` are the steps from there on
+  -- The loop that follows the trail `steps` has come to the pair of s and n: `rest` leads there, and `taken` are the steps from there on
   pub record Following (steps : List ℕ) (s₀ s n : ℕ) (taken : List ℕ) : Type 0 where
     pub rest : List ℕ
     pub trail : Way s n rest
@@ -127,20 +129,6 @@ module _ {via from row : List ℕ} {start s₀ n₀ : ℕ} (t : Traceable via fr
           whole = f .whole ∙ ap (λ (z : List ℕ). z ++ taken) (last .whole) ∙ append-snoc (last .rest) (last .e) taken
               ∙ ap (λ (i : ℕ). last .rest ++ i ∷ taken) (sym by-last);
         }
-
-    -- what is left of the trail is as long as what was not yet taken of the count
-    module _ {count i : ℕ} (all : count ≡ length (t .steps)) (sofar : i + length taken ≡ count) where
-      left-is : length (f .rest) ≡ i
-      left-is = omega (arith, ap length (f .whole), length-append (f .rest) taken)
-
-      pub follow-some : start < s → 1 ≤ i
-      follow-some h =
-          let l = last-step via from width start h (f .trail) in
-          omega (arith, left-is, ap length (l .whole), length-append (l .rest) (l .e ∷ []))
-
-      -- at the start's stage the trail is at its end
-      pub follow-none : s ≤ start → i ≡ 0
-      follow-none h = sym left-is ∙ ap length (no-step via from width start h (f .trail))
 
     pub follow-done : s ≤ start → t .steps ≡ taken
     follow-done h = f .whole ∙ ap (λ (z : List ℕ). z ++ taken) (no-step via from width start h (f .trail))

@@ -1,8 +1,8 @@
 // The plan traced back: each pair keeps the step by which it was reached and the node that the step left.
 ghost use mathlib.Core.Path.{_≡_};
 ghost use Prim.Native.Nat.{_+_, _-_, _≤_, _<_};
-ghost use lib.ListN.{length, getD, drop};
-ghost use mathlib.Core.List.{_++_};
+ghost use lib.ListN.{length, getD, take, drop};
+ghost use mathlib.Core.List.{_++_, reverse};
 ghost use Rattle.trace.specs.Trails.{stepIn, CameFrom, Traceable};
 use convert::wide;
 use definitions::Node;
@@ -44,19 +44,22 @@ fn came_from(from: &[u32; 1024], mark: u32) -> Predecessor
     }
 }
 
-// How many steps lead from the start to a pair.
-pub fn trail_length<'a>(
+// Writes the steps that lead from the start to a pair to the front of the plan, the last one first, and answers how many
+// they are.
+fn trace_back<'a>(
     via: &'a [u32],
     from: &'a [u32; 1024],
     row: &'a [u32; 256],
     start: Stage,
     stage: Stage,
     node: Node,
+    plan: &mut [u16],
 ) -> usize
     requires { ⌜ Traceable (now via) (now from) (now row) (start .0) (stage .0) (node .0) ⌝ }
+    requires { ⌜ stage .0 - start .0 ≤ length (now plan) ⌝ }
     ensures { λ r. ⌜
         ((x : Traceable (now (via .entry)) (now (from .entry)) (now (row .entry)) (start .0) (stage .0) (node .0))
-        → r ≡ length (x .steps))
+        → (r ≡ length (x .steps)) × (now (plan .exit) ≡ reverse (x .steps) ++ drop r (now (plan .entry))))
         ⌝ }
 {
     let mut s = stage;
@@ -64,6 +67,7 @@ pub fn trail_length<'a>(
     let mut count: usize = 0;
     while start.0 < s.0 {
         let before = came_from(from, via[pair_at(row, s, n)]);
+        plan[count] = before.step.0;
         s = before.stage;
         n = before.node;
         count += 1;
@@ -71,36 +75,21 @@ pub fn trail_length<'a>(
     count
 }
 
-// Writes the steps that lead from the start to a pair, as many as `count`, to the front of the plan.
-pub fn write_trail<'a>(
-    via: &'a [u32],
-    from: &'a [u32; 1024],
-    row: &'a [u32; 256],
-    start: Stage,
-    stage: Stage,
-    node: Node,
-    count: usize,
-    plan: &mut [u16],
-)
-    requires { ⌜ Traceable (now via) (now from) (now row) (start .0) (stage .0) (node .0) ⌝ }
+// Reverses the first entries of a plan, as many as `count`.
+fn reverse_front(plan: &mut [u16], count: usize)
     requires { ⌜ count ≤ length (now plan) ⌝ }
-    requires { ⌜
-        ((x : Traceable (now via) (now from) (now row) (start .0) (stage .0) (node .0)) → count ≡ length (x .steps))
-        ⌝ }
     ensures { λ _. ⌜
-        ((x : Traceable (now (via .entry)) (now (from .entry)) (now (row .entry)) (start .0) (stage .0) (node .0))
-        → now (plan .exit) ≡ x .steps ++ drop count (now (plan .entry)))
+        now (plan .exit) ≡ reverse (take count (now (plan .entry))) ++ drop count (now (plan .entry))
         ⌝ }
 {
-    let mut s = stage;
-    let mut n = node;
-    let mut i = count;
-    while start.0 < s.0 {
-        let before = came_from(from, via[pair_at(row, s, n)]);
-        i -= 1;
-        plan[i] = before.step.0;
-        s = before.stage;
-        n = before.node;
+    let half = count / 2;
+    let mut low: usize = 0;
+    while low < half {
+        let high = count - 1 - low;
+        let entry = plan[low];
+        plan[low] = plan[high];
+        plan[high] = entry;
+        low += 1;
     }
 }
 
@@ -121,7 +110,7 @@ pub fn write_plan<'a>(
         → (r ≡ length (x .steps)) × (now (plan .exit) ≡ x .steps ++ drop r (now (plan .entry))))
         ⌝ }
 {
-    let count = trail_length(via, from, row, start, stage, node);
-    write_trail(via, from, row, start, stage, node, count, plan);
-    count
+    let length = trace_back(via, from, row, start, stage, node, plan);
+    reverse_front(plan, length);
+    length
 }
