@@ -3,7 +3,7 @@
 use Prim.Native.Nat.{ℕ, _+_, _≤_, _<_}
 use mathlib.Core.Path.{_≡_, sym, _∙_}
 use mathlib.Core.List.{List}
-use lib.ListN.{length, getD, set, replicate, length-replicate, getD-replicate, List·getD-eq-default}
+use lib.ListN.{length, getD, set}
 use lib.Seq.{getD-set-same, getD-set-other}
 use native.Mathlib.Omega.{arith}
 use native.Mathlib.Decide.{decLt}
@@ -42,17 +42,9 @@ pub ruleset walk-laws = (walk-start, walk-on, walk-found, walk-end)
 pub record FirstsBefore (count : ℕ) (from first : List ℕ) (e s : ℕ) : Type 0 where
   pub behind : (x : ℕ) → x < e → getD from x 0 < s
   pub at : (t : ℕ) → t < s → getD first t 0 ≡ leavingBelow count (λ x. getD from x 0) t
-  pub rest : (t : ℕ) → s ≤ t → getD first t 0 ≡ 0
 
-zeros : (n t : ℕ) → _≡_ {A = ℕ} (getD (replicate n 0) t 0) 0
-zeros n t = go (decLt t n)
-  where
-    go : Dec (t < n) → _≡_ {A = ℕ} (getD (replicate n 0) t 0) 0
-    go (yes p) = getD-replicate n t 0 0 p
-    go (no p) = List·getD-eq-default (replicate n 0) 0 (omega (arith, length-replicate {A = ℕ} n 0))
-
-pub firsts-start : (count : ℕ) (from : List ℕ) → FirstsBefore count from (replicate 257 0) 0 0
-firsts-start count from = record { behind = λ x l. absurd (omega arith); at = λ t l. absurd (omega arith); rest = λ t l. zeros 257 t }
+pub firsts-start : (count : ℕ) (from first : List ℕ) → FirstsBefore count from first 0 0
+firsts-start count from first = record { behind = λ x l. absurd (omega arith); at = λ t l. absurd (omega arith) }
 
 module _ (count stages : ℕ) (from : List ℕ) where
   module _ (first : List ℕ) (e s : ℕ) (found : FirstsBefore count from first e s) where
@@ -61,7 +53,6 @@ module _ (count stages : ℕ) (from : List ℕ) where
     firsts-turn table long h l k w = record {
       behind = λ x b. omega (arith, behind x b);
       at = λ t b. stored t b (decLt t s);
-      rest = λ t b. getD-set-other first s t k 0 (omega arith) ∙ found .rest t (omega arith);
     }
       where
         behind : (x : ℕ) → x < k → getD from x 0 < s
@@ -80,7 +71,7 @@ module _ (count stages : ℕ) (from : List ℕ) where
             let q : t ≡ s = omega arith in
             rw q (getD-set-same first s k 0 (omega arith) ∙ sym (split-is count (λ x. getD from x 0) s k split))
 
-    pub firsts-done : length first ≡ 257 → stages < s → s ≤ stages + 1 → FirstTable count stages from first
-    firsts-done long h l = record { at = λ t b. found .at t (omega arith); rest = λ t b. found .rest t (omega arith); long = long }
+    pub firsts-done : stages < s → FirstTable count stages from first
+    firsts-done h = record { at = λ t b. found .at t (omega arith) }
 
 pub ruleset firsts-laws = (firsts-start, firsts-turn, firsts-done)

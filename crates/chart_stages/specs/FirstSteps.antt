@@ -27,11 +27,9 @@ pub record SortedTable (count : ℕ) (from : List ℕ) : Type 0 where
   pub few : count ≤ 1024
   pub sorted : (e f : ℕ) → e ≤ f → f < count → getD from e 0 ≤ getD from f 0
 
--- the table of first steps: for each stage, and for the stage count; 0 past them
+-- the table of first steps: for each stage, and for the stage count
 pub record FirstTable (count stages : ℕ) (from first : List ℕ) : Type 0 where
   pub at : (s : ℕ) → s ≤ stages → getD first s 0 ≡ leavingBelow count (λ e. getD from e 0) s
-  pub rest : (s : ℕ) → stages < s → getD first s 0 ≡ 0
-  pub long : length first ≡ 257
 
 -- the same of a graph: the first step of each stage, and the step count at the stage count
 pub record Firsts (g : Graph) (first : List ℕ) : Type 0 where

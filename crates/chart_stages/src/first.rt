@@ -1,5 +1,7 @@
 // The first step of each stage. Steps are sorted by the stage they leave, so those of one stage follow each other.
+ghost use mathlib.Core.Path.{_≡_};
 ghost use Prim.Native.Nat.{_≤_, _<_};
+ghost use lib.ListN.{length};
 ghost use Rattle.chart_stages.specs.FirstSteps.{SortedTable, FirstTable, Walked};
 use definitions::Stage;
 
@@ -19,12 +21,12 @@ fn first_from(from: &[u32; 1024], count: usize, start: usize, s: Stage) -> usize
     e
 }
 
-// For each stage, and for the stage count, how many steps leave stages below it: the number of its first step. 0 past them.
-pub fn first_steps(from: &[u32; 1024], count: usize, stages: u16) -> [u16; 257]
-    requires { ⌜ SortedTable count (now from) × (stages ≤ 256) ⌝ }
-    ensures { λ r. ⌜ FirstTable count stages (now (from .entry)) r ⌝ }
+// Fills the table: for each stage, and for the stage count, how many steps leave stages below it, which is the number of
+// its first step.
+pub fn fill_first_steps(first: &mut [u16; 257], from: &[u32; 1024], count: usize, stages: u16)
+    requires { ⌜ SortedTable count (now from) × (stages ≤ 256) × (length (now first) ≡ 257) ⌝ }
+    ensures { λ _. ⌜ FirstTable count stages (now (from .entry)) (now (first .exit)) ⌝ }
 {
-    let mut first = [0u16; 257];
     let mut e: usize = 0;
     let mut s: u16 = 0;
     while s <= stages {
@@ -32,5 +34,4 @@ pub fn first_steps(from: &[u32; 1024], count: usize, stages: u16) -> [u16; 257]
         first[s as usize] = e as u16;
         s += 1;
     }
-    first
 }

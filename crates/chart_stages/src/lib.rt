@@ -3,4 +3,4 @@ mod estimates;
 mod first;
 
 pub use estimates::chart_estimates;
-pub use first::first_steps;
+pub use first::fill_first_steps;

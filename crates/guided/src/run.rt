@@ -7,7 +7,7 @@ use crate::clear::clear_rows;
 use chart::COST;
 use chart::FROM;
 use chart_stages::chart_estimates;
-use chart_stages::first_steps;
+use chart_stages::fill_first_steps;
 use checks::accepted;
 use checks::load;
 use checks::refusal;
@@ -19,9 +19,9 @@ use diagram::LO;
 use guided_expand::pair_estimate;
 use guided_loop::Ended;
 use guided_loop::search;
-use nodes::diagram_estimates;
-use nodes::finishing;
-use rows::row_starts;
+use nodes::fill_diagram_estimates;
+use nodes::fill_finishing;
+use rows::fill_row_starts;
 use trace::write_plan;
 
 // The answer by how the search ended; where a goal pair was settled, the trail from the start to it is written as the plan.
@@ -73,15 +73,19 @@ fn run<'a>(
         Runs z (read (now (steps .entry)) (now (inner .entry))) before after r)
         ⌝ }
 {
-    let first = first_steps(&steps[FROM], z.steps, z.stages);
+    let mut first = [0u16; 257];
+    fill_first_steps(&mut first, &steps[FROM], z.steps, z.stages);
     let by_stage = chart_estimates(z, steps, &first);
-    let by_node = diagram_estimates(z, inner, &steps[COST]);
+    let mut by_node = [0u32; 512];
+    fill_diagram_estimates(&mut by_node, z, inner, &steps[COST]);
     let rest = pair_estimate(&by_stage, &by_node, z.start, z.root);
     if rest == NONE {
         return refusal(8, 0, 0, 0);
     }
-    let row = row_starts(z.stages as usize, z.nodes + 2);
-    let yes = finishing(&inner[LO], z.nodes);
+    let mut row = [0u32; 256];
+    fill_row_starts(&mut row, z.stages as usize, z.nodes + 2);
+    let mut yes = [false; 512];
+    fill_finishing(&mut yes, &inner[LO], z.nodes);
     clear_rows(keys, &row, z.nodes + 2, z.start, z.end);
     let ended = search(
         keys,

@@ -1,9 +1,9 @@
--- The loop of `diagram_estimates`: its invariant, with one law for each way on.
+-- The loop of `fill_diagram_estimates`: its invariant, with one law for each way on.
 use Prim.Native.Nat.{ℕ, zero, suc, _+_, _*_, _≤_, _<_}
 use mathlib.Core.Path.{_≡_, refl, _∙_}
 use mathlib.Core.List.{List}
 use mathlib.Core.Option.{Option, none, some}
-use lib.ListN.{length, getD, set, replicate, length-set, length-replicate}
+use lib.ListN.{length, getD, set, length-set}
 use lib.Seq.{getD-set-same, getD-set-other}
 use native.Mathlib.Omega.{arith}
 use native.Mathlib.Decide.{decLt}
@@ -61,26 +61,35 @@ pub record Estimating (step lo hi cost : List ℕ) (count : ℕ) (r : List ℕ) 
       → (k : ℕ) → k < n → k < size d → Shows k (getD r k 0) (diagramEstimate c d k)
 
 module _ (step lo hi cost : List ℕ) (count : ℕ) where
-  abbrev start : List ℕ
-  start = set (replicate 512 4294967295) 1 0
+  abbrev start : List ℕ → List ℕ
+  start old = set (set old 0 4294967295) 1 0
 
-  pub estimating-start : Estimating step lo hi cost count start 2
-  estimating-start = record {
-    long = length-set {A = ℕ} (replicate 512 4294967295) 1 0 ∙ length-replicate {A = ℕ} 512 4294967295;
+  pub estimating-start : (old : List ℕ) → length old ≡ 512 → Estimating step lo hi cost count (start old) 2
+  estimating-start old long = record {
+    long = length-set (set old 0 4294967295) 1 0 ∙ long′;
     few = omega arith;
     inner = omega arith;
     small = leaf-small;
     shows = λ c d p h s f. leaf-shows c d (h .ordered);
   }
     where
-      leaf-small : (k : ℕ) → k < 2 → Small k (getD start k 0)
-      leaf-small zero l g = absurd (omega arith)
-      leaf-small (suc zero) l g = omega arith
+      long′ : length (set old 0 4294967295) ≡ 512
+      long′ = length-set old 0 4294967295 ∙ long
+
+      none-at : getD (start old) 0 0 ≡ 4294967295
+      none-at = getD-set-other (set old 0 4294967295) 1 0 0 0 (omega arith) ∙ getD-set-same old 0 4294967295 0 (omega arith)
+
+      zero-at : getD (start old) 1 0 ≡ 0
+      zero-at = getD-set-same (set old 0 4294967295) 1 0 0 (omega (arith, long′))
+
+      leaf-small : (k : ℕ) → k < 2 → Small k (getD (start old) k 0)
+      leaf-small zero l g = absurd (omega (arith, none-at))
+      leaf-small (suc zero) l g = omega (arith, zero-at)
       leaf-small (suc (suc k)) l g = absurd (omega arith)
 
-      leaf-shows : (c : Chart) (d : Diagram) → Ordered d → (k : ℕ) → k < 2 → k < size d → Shows k (getD start k 0) (diagramEstimate c d k)
-      leaf-shows c d o zero l g = rw (diagramEstimate-leaf c d o 0 l) refl
-      leaf-shows c d o (suc zero) l g = rw (diagramEstimate-leaf c d o 1 l) (refl, omega arith)
+      leaf-shows : (c : Chart) (d : Diagram) → Ordered d → (k : ℕ) → k < 2 → k < size d → Shows k (getD (start old) k 0) (diagramEstimate c d k)
+      leaf-shows c d o zero l g = rw (diagramEstimate-leaf c d o 0 l) none-at
+      leaf-shows c d o (suc zero) l g = rw (diagramEstimate-leaf c d o 1 l) (zero-at, omega arith)
       leaf-shows c d o (suc (suc k)) l g = absurd (omega arith)
 
   module _ (r : List ℕ) (n : ℕ) (found : Estimating step lo hi cost count r n) where

@@ -1,10 +1,10 @@
--- The loop of `finishing`: its invariant, with one law for each way on.
+-- The loop of `fill_finishing`: its invariant, with one law for each way on.
 use Prim.Native.Nat.{ℕ, zero, suc, _+_, _-_, _≤_, _<_}
 use mathlib.Core.Path.{_≡_, refl, sym, _∙_, ap}
 use mathlib.Core.Bool.{Bool, true, false}
 use mathlib.Core.List.{List}
 use lib.Dec.{eqb}
-use lib.ListN.{length, getD, set, replicate, length-set, length-replicate}
+use lib.ListN.{length, getD, set, length-set}
 use lib.Seq.{getD-set-same, getD-set-other}
 use native.Mathlib.Omega.{arith}
 use borrow.Author.Count.{below-more}
@@ -28,17 +28,20 @@ pub record Passed (lo : List ℕ) (count : ℕ) (yes : List Bool) (n : ℕ) : Ty
   pub is : (d : Diagram) (step hi : List ℕ) → Held d step lo hi → length (d .nodes) ≤ count → (k : ℕ) → k < n → k < size d → getD yes k false ≡ eqb (finish d k) 1
 
 module _ (lo : List ℕ) (count : ℕ) where
-  pub passed-start : Passed lo count (set (replicate 512 false) 1 true) 2
-  passed-start = record {
-    long = length-set (replicate 512 false) 1 true ∙ length-replicate 512 false;
+  pub passed-start : (old : List Bool) → length old ≡ 512 → Passed lo count (set (set old 0 false) 1 true) 2
+  passed-start old long = record {
+    long = length-set (set old 0 false) 1 true ∙ long′;
     few = omega arith;
     inner = omega arith;
     is = λ d step hi h f. leaves d (h .ordered);
   }
     where
-      leaves : (d : Diagram) → Ordered d → (k : ℕ) → k < 2 → k < size d → getD (set (replicate 512 false) 1 true) k false ≡ eqb (finish d k) 1
-      leaves d o zero i l = rw (finish-leaf d o 0 i) refl
-      leaves d o (suc zero) i l = rw (finish-leaf d o 1 i) refl
+      long′ : length (set old 0 false) ≡ 512
+      long′ = length-set old 0 false ∙ long
+
+      leaves : (d : Diagram) → Ordered d → (k : ℕ) → k < 2 → k < size d → getD (set (set old 0 false) 1 true) k false ≡ eqb (finish d k) 1
+      leaves d o zero i l = rw (finish-leaf d o 0 i) (getD-set-other (set old 0 false) 1 0 true false (omega arith) ∙ getD-set-same old 0 false false (omega arith))
+      leaves d o (suc zero) i l = rw (finish-leaf d o 1 i) (getD-set-same (set old 0 false) 1 true false (omega (arith, long′)))
       leaves d o (suc (suc k)) i l = absurd (omega arith)
 
   module _ (yes : List Bool) (n : ℕ) (now : Passed lo count yes n) where

@@ -1,6 +1,7 @@
 // The diagram estimates of the nodes.
+ghost use mathlib.Core.Path.{_≡_};
 ghost use Prim.Native.Nat.{_+_, _<_};
-ghost use lib.ListN.{getD};
+ghost use lib.ListN.{length, getD};
 ghost use Rattle.diagram.specs.Files.{nodesIn};
 ghost use Rattle.nodes.specs.Walks.{Falls};
 ghost use Rattle.nodes.specs.Estimates.{Priced, Joins, Estimated};
@@ -45,25 +46,30 @@ fn inner_estimate<'a>(
     join(low, high, cost[e.0 as usize])
 }
 
-// The estimate of each node of a diagram that stands in the tables, from node 0 up.
-pub fn diagram_estimates(z: Shape, inner: &[[u16; 512]; 3], cost: &[u32; 1024]) -> [u32; 512]
+// Fills the table: the estimate of each node of a diagram that stands in the tables, from node 0 up.
+pub fn fill_diagram_estimates<'a>(
+    estimates: &mut [u32; 512],
+    z: Shape,
+    inner: &'a [[u16; 512]; 3],
+    cost: &'a [u32; 1024],
+)
     requires { ⌜
         (let t = nodesIn (now inner) in
         Falls (t .lo) (z .nodes + 1) × Falls (t .hi) (z .nodes + 1) × Priced (t .step) (now cost) (z .nodes))
         ⌝ }
-    ensures { λ r. ⌜
+    requires { ⌜ length (now estimates) ≡ 512 ⌝ }
+    ensures { λ _. ⌜
         (let t = nodesIn (now (inner .entry)) in
-        Estimated (t .step) (t .lo) (t .hi) (now (cost .entry)) (z .nodes) r)
+        Estimated (t .step) (t .lo) (t .hi) (now (cost .entry)) (z .nodes) (now (estimates .exit)))
         ⌝ }
 {
     let count = z.nodes;
-    let mut estimates = [NONE; 512];
+    estimates[0] = NONE;
     estimates[1] = 0;
     for n in 2..count + 2 {
         let e = inner[STEP][n];
         let lo = inner[LO][n];
         let hi = inner[HI][n];
-        estimates[n] = inner_estimate(&estimates, cost, Step(e), Node(lo), Node(hi));
+        estimates[n] = inner_estimate(estimates, cost, Step(e), Node(lo), Node(hi));
     }
-    estimates
 }

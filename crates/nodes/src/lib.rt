@@ -2,7 +2,7 @@
 mod estimates;
 mod walks;
 
-pub use estimates::diagram_estimates;
+pub use estimates::fill_diagram_estimates;
 pub use walks::branch;
 pub use walks::descend_to;
-pub use walks::finishing;
+pub use walks::fill_finishing;

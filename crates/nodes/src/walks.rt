@@ -1,5 +1,7 @@
 // The walks over the tables of a rule diagram: advancing a node by a step, and which nodes finish at 1.
+ghost use mathlib.Core.Path.{_≡_};
 ghost use Prim.Native.Nat.{_+_, _<_};
+ghost use lib.ListN.{length};
 ghost use Rattle.diagram.specs.Tables.{Marked};
 ghost use Rattle.nodes.specs.Walks.{Falls, Lowers, BranchesTo, Finishing};
 use definitions::Node;
@@ -31,16 +33,15 @@ pub fn branch<'a>(step: &'a [u16; 512], hi: &'a [u16; 512], e: Step, m: Node) ->
     m
 }
 
-// For each node of a diagram of `count` inner nodes, whether it finishes at 1.
-pub fn finishing(lo: &[u16; 512], count: usize) -> [bool; 512]
-    requires { ⌜ Falls (now lo) (count + 1) ⌝ }
-    ensures { λ r. ⌜ Finishing (now (lo .entry)) count r ⌝ }
+// Fills the table: for each node of a diagram of `count` inner nodes, whether it finishes at 1.
+pub fn fill_finishing(yes: &mut [bool; 512], lo: &[u16; 512], count: usize)
+    requires { ⌜ Falls (now lo) (count + 1) × (length (now yes) ≡ 512) ⌝ }
+    ensures { λ _. ⌜ Finishing (now (lo .entry)) count (now (yes .exit)) ⌝ }
 {
-    let mut yes = [false; 512];
+    yes[0] = false;
     yes[1] = true;
     for n in 2..count + 2 {
         let child = lo[n] as usize;
         yes[n] = yes[child];
     }
-    yes
 }

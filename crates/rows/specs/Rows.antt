@@ -32,14 +32,14 @@ pub record Filled (stages width s at : ℕ) (row : List ℕ) : Type 0 where
   pub above : (t : ℕ) → s ≤ t → t < 256 → getD row t 0 ≡ 0
 
 module _ (stages width : ℕ) where
-  pub filled-none : Filled stages width 0 0 (replicate 256 0)
-  filled-none = record {
+  pub filled-none : {row : List ℕ} → row ≡ replicate 256 0 → Filled stages width 0 0 row
+  filled-none blank = rw blank (record {
     long = length-replicate {A = ℕ} 256 0;
     next = omega arith;
     low = omega arith;
     below = λ t h. absurd (omega arith);
     above = λ t h i. getD-replicate {A = ℕ} 256 t 0 0 i;
-  }
+  })
 
   pub filled-more : (s at : ℕ) (row : List ℕ) → s < 256 → width ≤ 512 → Filled stages width s at row → Filled stages width (s + 1) (at + width) (set row s at)
   filled-more s at row h k f = record {

@@ -2,13 +2,13 @@
 ghost use Prim.Native.Nat.{_≤_};
 ghost use Rattle.rows.specs.Rows.{rowStarts};
 ghost use mathlib.Core.Path.{_≡_};
+ghost use lib.ListN.{replicate};
 
-// A table of 256 row starts for a chart of so many stages and rows of `width` nodes.
-pub fn row_starts(stages: usize, width: usize) -> [u32; 256]
-    requires { ⌜ (stages ≤ 256) × (width ≤ 512) ⌝ }
-    ensures { λ r. ⌜ r ≡ rowStarts stages width ⌝ }
+// Fills a blank table of 256 row starts for a chart of so many stages and rows of `width` nodes.
+pub fn fill_row_starts(row: &mut [u32; 256], stages: usize, width: usize)
+    requires { ⌜ (now row ≡ replicate 256 0) × (stages ≤ 256) × (width ≤ 512) ⌝ }
+    ensures { λ _. ⌜ now (row .exit) ≡ rowStarts stages width ⌝ }
 {
-    let mut row = [0u32; 256];
     let gap = width as u32;
     let mut at: u32 = 0;
     let mut s: usize = 0;
@@ -17,5 +17,4 @@ pub fn row_starts(stages: usize, width: usize) -> [u32; 256]
         at += gap;
         s += 1;
     }
-    row
 }

@@ -12,7 +12,7 @@ use definitions::Answer;
 use definitions::NONE;
 use definitions::Shape;
 use diagram::LO;
-use nodes::finishing;
+use nodes::fill_finishing;
 use sweep_ends::cheapest_goal;
 use sweep_ends::total_count;
 use trace::write_plan;
@@ -36,7 +36,8 @@ pub fn conclude<'a>(
         ⌝ }
 {
     let count = total_count(counts, z.stages as usize);
-    let yes = finishing(&inner[LO], z.nodes);
+    let mut yes = [false; 512];
+    fill_finishing(&mut yes, &inner[LO], z.nodes);
     let end = z.end.0 as usize;
     let base = wide(row[end]);
     let listed = wide(counts[end]);

@@ -9,14 +9,14 @@ ghost use Rattle.sweep_rows.specs.Standing.{at};
 ghost use Rattle.sweep.specs.Runs.{Space, Blank, cleared, Promised};
 use crate::conclude::conclude;
 use chart::FROM;
-use chart_stages::first_steps;
+use chart_stages::fill_first_steps;
 use checks::load;
 use checks::refusal;
 use convert::lesser;
 use convert::wide;
 use definitions::Answer;
 use definitions::Shape;
-use rows::row_starts;
+use rows::fill_row_starts;
 use sweep_ends::begin;
 use sweep_ends::clear;
 use sweep_rows::relax_rows;
@@ -68,8 +68,10 @@ fn run<'a>(
         Promised (ready (chartIn z t) (diagramIn z t)) before after r)
         ⌝ }
 {
-    let first = first_steps(&steps[FROM], z.steps, z.stages);
-    let row = row_starts(z.stages as usize, z.nodes + 2);
+    let mut first = [0u16; 257];
+    fill_first_steps(&mut first, &steps[FROM], z.steps, z.stages);
+    let mut row = [0u32; 256];
+    fill_row_starts(&mut row, z.stages as usize, z.nodes + 2);
     let mut counts = [0u32; 256];
     least_costs(
         costs,

@@ -1,5 +1,5 @@
 -- `guided::run` meets its contract.
-use mathlib.Core.Path.{_∙_}
+use mathlib.Core.Path.{refl, _∙_}
 use native.Mathlib.Omega.{arith}
 use Rattle.guided.proofs.Preparing.{run-lo, run-nodes, run-sorted, run-staged, run-narrow, run-root}
 use Rattle.guided.proofs.Finding.{runs-none, clears, cleared-start, found-traceable, found-runs}
@@ -14,51 +14,52 @@ searched-of c = search
 abbrev cleared-of : tie.After-search → tie.After-clear-rows
 cleared-of c = search
 
-abbrev yes-of : tie.After-clear-rows → tie.After-finishing
+abbrev yes-of : tie.After-clear-rows → tie.After-fill-finishing
 yes-of c = search
 
-abbrev row-of : tie.After-finishing → tie.After-row-starts
+abbrev row-of : tie.After-fill-finishing → tie.After-fill-row-starts
 row-of c = search
 
-abbrev some-of : tie.After-row-starts → tie.Else1
+abbrev some-of : tie.After-fill-row-starts → tie.Else1
 some-of c = search
 
 abbrev rest-of : tie.Else1 → tie.After-pair-estimate
 rest-of c = search
 
-abbrev by-node-of : tie.After-pair-estimate → tie.After-diagram-estimates
+abbrev by-node-of : tie.After-pair-estimate → tie.After-fill-diagram-estimates
 by-node-of c = search
 
-abbrev by-stage-of : tie.After-diagram-estimates → tie.After-chart-estimates
+abbrev by-stage-of : tie.After-fill-diagram-estimates → tie.After-chart-estimates
 by-stage-of c = search
 
-abbrev first-of : tie.After-chart-estimates → tie.After-first-steps
+abbrev first-of : tie.After-chart-estimates → tie.After-fill-first-steps
 first-of c = search
 
-abbrev start-of : tie.After-first-steps → tie.Start
+abbrev start-of : tie.After-fill-first-steps → tie.Start
 start-of c = search
 
-index-1-first-steps : tie.Need-index-1-first-steps
-index-1-first-steps c = search needs
+index-1-fill-first-steps : tie.Need-index-1-fill-first-steps
+index-1-fill-first-steps c = search needs
 
-first-steps-requires : tie.Need-first-steps-requires
-first-steps-requires c κs =
+fill-first-steps-requires : tie.Need-fill-first-steps-requires
+fill-first-steps-requires c κs =
     let start : tie.Start = search in
-    run-sorted (start .pre .0)
+    let sorted = run-sorted (start .pre .0) in
+    (sorted .0, sorted .1, search needs)
 
 chart-estimates-requires : tie.Need-chart-estimates-requires
 chart-estimates-requires c κs =
-    let first : tie.After-first-steps = search in
+    let first : tie.After-fill-first-steps = search in
     let start : tie.Start = search in
-    run-staged (start .pre .0) (first .first-steps .ensures)
+    run-staged (start .pre .0) (first .fill-first-steps .ensures)
 
-index-1-diagram-estimates : tie.Need-index-1-diagram-estimates
-index-1-diagram-estimates c = search needs
+index-1-fill-diagram-estimates : tie.Need-index-1-fill-diagram-estimates
+index-1-fill-diagram-estimates c = search needs
 
-diagram-estimates-requires : tie.Need-diagram-estimates-requires
-diagram-estimates-requires c κs =
+fill-diagram-estimates-requires : tie.Need-fill-diagram-estimates-requires
+fill-diagram-estimates-requires c κs =
     let start : tie.Start = search in
-    run-nodes (start .pre .0)
+    (run-nodes (start .pre .0), search needs)
 
 pair-estimate-requires : tie.Need-pair-estimate-requires
 pair-estimate-requires c κs =
@@ -77,38 +78,39 @@ returns c =
     let by-stage = by-stage-of by-node in
     let first = first-of by-stage in
     let start = start-of first in
-    runs-none (start .pre .0) (by-stage .chart-estimates .ensures) (by-node .diagram-estimates .ensures) (rest .pair-estimate .ensures) (none .if1 .taken) (answer .refusal .ensures)
+    runs-none (start .pre .0) (by-stage .chart-estimates .ensures) (by-node .fill-diagram-estimates .ensures) (rest .pair-estimate .ensures) (none .if1 .taken) (answer .refusal .ensures)
 
-cast-row-starts : tie.Need-cast-row-starts
-cast-row-starts c = search needs
+cast-fill-row-starts : tie.Need-cast-fill-row-starts
+cast-fill-row-starts c = search needs
 
-add-row-starts : tie.Need-add-row-starts
-add-row-starts c =
+add-fill-row-starts : tie.Need-add-fill-row-starts
+add-fill-row-starts c =
     let start : tie.Start = search in
     omega (arith, run-narrow (start .pre .0))
 
-row-starts-requires : tie.Need-row-starts-requires
-row-starts-requires c κs =
+fill-row-starts-requires : tie.Need-fill-row-starts-requires
+fill-row-starts-requires c κs =
     let start : tie.Start = search in
-    run-narrow (start .pre .0)
+    let narrow = run-narrow (start .pre .0) in
+    (refl, narrow .0, narrow .1)
 
-index-1-finishing : tie.Need-index-1-finishing
-index-1-finishing c = search needs
+index-1-fill-finishing : tie.Need-index-1-fill-finishing
+index-1-fill-finishing c = search needs
 
-finishing-requires : tie.Need-finishing-requires
-finishing-requires c κs =
-    let row : tie.After-row-starts = search in
+fill-finishing-requires : tie.Need-fill-finishing-requires
+fill-finishing-requires c κs =
+    let row : tie.After-fill-row-starts = search in
     let some = some-of row in
     let rest = rest-of some in
     let by-node = by-node-of rest in
     let by-stage = by-stage-of by-node in
     let first = first-of by-stage in
     let start = start-of first in
-    run-lo (start .pre .0)
+    (run-lo (start .pre .0), search needs)
 
 add-clear-rows : tie.Need-add-clear-rows
 add-clear-rows c =
-    let yes : tie.After-finishing = search in
+    let yes : tie.After-fill-finishing = search in
     let row = row-of yes in
     let some = some-of row in
     let rest = rest-of some in
@@ -120,7 +122,7 @@ add-clear-rows c =
 
 clear-rows-requires : tie.Need-clear-rows-requires
 clear-rows-requires c κs =
-    let yes : tie.After-finishing = search in
+    let yes : tie.After-fill-finishing = search in
     let row = row-of yes in
     let some = some-of row in
     let rest = rest-of some in
@@ -128,8 +130,8 @@ clear-rows-requires c κs =
     let by-stage = by-stage-of by-node in
     let first = first-of by-stage in
     let start = start-of first in
-    clears (start .pre .0) (by-stage .chart-estimates .ensures) (by-node .diagram-estimates .ensures) (rest .pair-estimate .ensures)
-    (some .if1 .left) (first .first-steps .ensures) (row .row-starts .ensures) (yes .finishing .ensures) (start .pre .1)
+    clears (start .pre .0) (by-stage .chart-estimates .ensures) (by-node .fill-diagram-estimates .ensures) (rest .pair-estimate .ensures)
+    (some .if1 .left) (first .fill-first-steps .ensures) (row .fill-row-starts .ensures) (yes .fill-finishing .ensures) (start .pre .1)
 
 search-requires : tie.Need-search-requires
 search-requires c κs =
@@ -142,8 +144,8 @@ search-requires c κs =
     let by-stage = by-stage-of by-node in
     let first = first-of by-stage in
     let start = start-of first in
-    cleared-start (start .pre .0) (by-stage .chart-estimates .ensures) (by-node .diagram-estimates .ensures) (rest .pair-estimate .ensures)
-    (some .if1 .left) (first .first-steps .ensures) (row .row-starts .ensures) (yes .finishing .ensures) (start .pre .1)
+    cleared-start (start .pre .0) (by-stage .chart-estimates .ensures) (by-node .fill-diagram-estimates .ensures) (rest .pair-estimate .ensures)
+    (some .if1 .left) (first .fill-first-steps .ensures) (row .fill-row-starts .ensures) (yes .fill-finishing .ensures) (start .pre .1)
     (cleared .clear-rows .ensures) (cleared .clear-rows .kept .0)
 
 conclude-requires : tie.Need-conclude-requires
@@ -158,11 +160,11 @@ conclude-requires c κs =
     let by-stage = by-stage-of by-node in
     let first = first-of by-stage in
     let start = start-of first in
-    let begun = cleared-start (start .pre .0) (by-stage .chart-estimates .ensures) (by-node .diagram-estimates .ensures) (rest .pair-estimate .ensures)
-    (some .if1 .left) (first .first-steps .ensures) (row .row-starts .ensures) (yes .finishing .ensures) (start .pre .1)
+    let begun = cleared-start (start .pre .0) (by-stage .chart-estimates .ensures) (by-node .fill-diagram-estimates .ensures) (rest .pair-estimate .ensures)
+    (some .if1 .left) (first .fill-first-steps .ensures) (row .fill-row-starts .ensures) (yes .fill-finishing .ensures) (start .pre .1)
     (cleared .clear-rows .ensures) (cleared .clear-rows .kept .0) in
-    found-traceable (start .pre .0) (by-stage .chart-estimates .ensures) (by-node .diagram-estimates .ensures) (rest .pair-estimate .ensures)
-    (some .if1 .left) (first .first-steps .ensures) (row .row-starts .ensures) (yes .finishing .ensures) (start .pre .1)
+    found-traceable (start .pre .0) (by-stage .chart-estimates .ensures) (by-node .fill-diagram-estimates .ensures) (rest .pair-estimate .ensures)
+    (some .if1 .left) (first .fill-first-steps .ensures) (row .fill-row-starts .ensures) (yes .fill-finishing .ensures) (start .pre .1)
     (cleared .clear-rows .ensures) (cleared .clear-rows .kept .0) (searched .search .ensures begun) (searched .search .kept .1 .0)
 
 same-length : tie.Need-same-length
@@ -203,11 +205,11 @@ returns-2 c =
     let by-stage = by-stage-of by-node in
     let first = first-of by-stage in
     let start = start-of first in
-    let begun = cleared-start (start .pre .0) (by-stage .chart-estimates .ensures) (by-node .diagram-estimates .ensures) (rest .pair-estimate .ensures)
-    (some .if1 .left) (first .first-steps .ensures) (row .row-starts .ensures) (yes .finishing .ensures) (start .pre .1)
+    let begun = cleared-start (start .pre .0) (by-stage .chart-estimates .ensures) (by-node .fill-diagram-estimates .ensures) (rest .pair-estimate .ensures)
+    (some .if1 .left) (first .fill-first-steps .ensures) (row .fill-row-starts .ensures) (yes .fill-finishing .ensures) (start .pre .1)
     (cleared .clear-rows .ensures) (cleared .clear-rows .kept .0) in
-    found-runs (start .pre .0) (by-stage .chart-estimates .ensures) (by-node .diagram-estimates .ensures) (rest .pair-estimate .ensures)
-    (some .if1 .left) (first .first-steps .ensures) (row .row-starts .ensures) (yes .finishing .ensures) (start .pre .1)
+    found-runs (start .pre .0) (by-stage .chart-estimates .ensures) (by-node .fill-diagram-estimates .ensures) (rest .pair-estimate .ensures)
+    (some .if1 .left) (first .fill-first-steps .ensures) (row .fill-row-starts .ensures) (yes .fill-finishing .ensures) (start .pre .1)
     (cleared .clear-rows .ensures) (cleared .clear-rows .kept .0) (searched .search .ensures begun) (searched .search .kept .1 .0)
     (ended .conclude .ensures) (ended .conclude .kept .1 .1 .1 .1 .1 .0)
 
@@ -215,19 +217,19 @@ pub run-spec : {M : Type 1} → statement M
 run-spec =
     tie.close
     (tie.spec
-    index-1-first-steps
-    first-steps-requires
+    index-1-fill-first-steps
+    fill-first-steps-requires
     chart-estimates-requires
-    index-1-diagram-estimates
-    diagram-estimates-requires
+    index-1-fill-diagram-estimates
+    fill-diagram-estimates-requires
     pair-estimate-requires
     refusal-requires
     returns
-    cast-row-starts
-    add-row-starts
-    row-starts-requires
-    index-1-finishing
-    finishing-requires
+    cast-fill-row-starts
+    add-fill-row-starts
+    fill-row-starts-requires
+    index-1-fill-finishing
+    fill-finishing-requires
     add-clear-rows
     clear-rows-requires
     search-requires

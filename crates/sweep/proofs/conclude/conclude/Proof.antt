@@ -17,13 +17,13 @@ cast-total-count c = search needs
 total-count-requires : tie.Need-total-count-requires
 total-count-requires c κs = search needs
 
-index-1-finishing : tie.Need-index-1-finishing
-index-1-finishing c = search needs
+index-1-fill-finishing : tie.Need-index-1-fill-finishing
+index-1-fill-finishing c = search needs
 
-finishing-requires : tie.Need-finishing-requires
-finishing-requires c κs =
+fill-finishing-requires : tie.Need-fill-finishing-requires
+fill-finishing-requires c κs =
     let start : tie.Start = search in
-    end-falls (start .pre .0)
+    (end-falls (start .pre .0), search needs)
 
 cast-end : tie.Need-cast-end
 cast-end c = search needs
@@ -64,10 +64,10 @@ returns c =
     let chosen : tie.After-cheapest-goal = search in
     let listed : tie.After-wide2 = search in
     let based : tie.After-wide = search in
-    let yes : tie.After-finishing = search in
+    let yes : tie.After-fill-finishing = search in
     let counted : tie.After-total-count = search in
     let start = start-of counted in
-    concludes-none (start .pre .0) (based .wide .ensures .0) (listed .wide2 .ensures .0) (yes .finishing .ensures) (chosen .cheapest-goal .ensures) (counted .total-count .ensures) (nothing .if1 .taken) (answered .refusal .ensures)
+    concludes-none (start .pre .0) (based .wide .ensures .0) (listed .wide2 .ensures .0) (yes .fill-finishing .ensures) (chosen .cheapest-goal .ensures) (counted .total-count .ensures) (nothing .if1 .taken) (answered .refusal .ensures)
 
 index-1-write-plan : tie.Need-index-1-write-plan
 index-1-write-plan c = search needs
@@ -78,11 +78,11 @@ write-plan-requires c κs =
     let chosen : tie.After-cheapest-goal = search in
     let listed : tie.After-wide2 = search in
     let based : tie.After-wide = search in
-    let yes : tie.After-finishing = search in
+    let yes : tie.After-fill-finishing = search in
     let counted : tie.After-total-count = search in
     let start = start-of counted in
     let cheap : chosen .cheapest-goal .result .cost < unreached = omega (arith, chosen .cheapest-goal .ensures .bounded, found .if1 .left) in
-    (end-traceable (start .pre .0) (based .wide .ensures .0) (listed .wide2 .ensures .0) (yes .finishing .ensures) (chosen .cheapest-goal .ensures) cheap, omega (arith, start .pre .0 .tables .valid .end-inside, start .pre .1))
+    (end-traceable (start .pre .0) (based .wide .ensures .0) (listed .wide2 .ensures .0) (yes .fill-finishing .ensures) (chosen .cheapest-goal .ensures) cheap, omega (arith, start .pre .0 .tables .valid .end-inside, start .pre .1))
 
 accepted-requires : tie.Need-accepted-requires
 accepted-requires c κs = search needs
@@ -98,12 +98,12 @@ returns-2 c =
     let chosen : tie.After-cheapest-goal = search in
     let listed : tie.After-wide2 = search in
     let based : tie.After-wide = search in
-    let yes : tie.After-finishing = search in
+    let yes : tie.After-fill-finishing = search in
     let counted : tie.After-total-count = search in
     let start = start-of counted in
     let cheap : chosen .cheapest-goal .result .cost < unreached = omega (arith, chosen .cheapest-goal .ensures .bounded, found .if1 .left) in
-    let trail = end-traceable (start .pre .0) (based .wide .ensures .0) (listed .wide2 .ensures .0) (yes .finishing .ensures) (chosen .cheapest-goal .ensures) cheap in
-    concludes-some (start .pre .0) (based .wide .ensures .0) (listed .wide2 .ensures .0) (yes .finishing .ensures) (chosen .cheapest-goal .ensures) cheap
+    let trail = end-traceable (start .pre .0) (based .wide .ensures .0) (listed .wide2 .ensures .0) (yes .fill-finishing .ensures) (chosen .cheapest-goal .ensures) cheap in
+    concludes-some (start .pre .0) (based .wide .ensures .0) (listed .wide2 .ensures .0) (yes .fill-finishing .ensures) (chosen .cheapest-goal .ensures) cheap
     (counted .total-count .ensures) (written .write-plan .ensures trail) (omega (arith, written .write-plan .kept)) (answered .accepted .ensures)
 
 pub conclude-spec : {M : Type 1} → statement M
@@ -112,8 +112,8 @@ conclude-spec =
     (tie.spec
     cast-total-count
     total-count-requires
-    index-1-finishing
-    finishing-requires
+    index-1-fill-finishing
+    fill-finishing-requires
     cast-end
     mul-wide
     element-copy-out-wide

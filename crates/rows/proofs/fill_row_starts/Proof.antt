@@ -1,27 +1,29 @@
--- `rows::row_starts` meets its contract: the rows below s are filled.
+-- `rows::fill_row_starts` meets its contract: the rows below s are filled.
 use Prim.Native.Nat.{_-_, _≤_}
 use borrow.Author.Needs.{needs}
 use Rattle.rows.specs.Rows.{Filled, filled-none, filled-more, filled-all}
-use Rattle.rows.proofs.row_starts.Statement.{statement}
-use Rattle.rows.proofs.row_starts.Tie as tie
+use Rattle.rows.proofs.fill_row_starts.Statement.{statement}
+use Rattle.rows.proofs.fill_row_starts.Tie as tie
 
 abbrev Inv-loop : tie.InvT-loop
-Inv-loop stages width row₀ gap at₀ s₀ row at s = (s ≤ stages) × Filled stages width s at row
+Inv-loop row₀ stages width gap at₀ s₀ row at s = (s ≤ stages) × Filled stages width s at row
 
 abbrev μ-loop : tie.MeasureT-loop
-μ-loop stages width row₀ gap at₀ s₀ row at s = stages - s
+μ-loop row₀ stages width gap at₀ s₀ row at s = stages - s
 
 cast-gap : tie.Need-cast-gap Inv-loop μ-loop
 cast-gap c = search needs
 
 loop-holds : tie.Need-loop-holds Inv-loop μ-loop
-loop-holds c = (search needs, filled-none _ _)
+loop-holds c =
+    let start : tie.Start Inv-loop μ-loop = search in
+    (search needs, filled-none _ _ (start .pre .0))
 
 mul-row : tie.Need-mul-row Inv-loop μ-loop
 mul-row c = search needs
 
-array-write-row : tie.Need-array-write-row Inv-loop μ-loop
-array-write-row c = search needs
+element-write-row : tie.Need-element-write-row Inv-loop μ-loop
+element-write-row c = search needs
 
 add-at : tie.Need-add-at Inv-loop μ-loop
 add-at c = search needs
@@ -42,8 +44,8 @@ returns c =
     let head : tie.At-loop Inv-loop μ-loop = search in
     filled-all _ _ _ _ _ (search needs) (search needs) (head .loop .inv .1)
 
-pub row-starts-spec : {M : Type 1} → statement M
-row-starts-spec =
+pub fill-row-starts-spec : {M : Type 1} → statement M
+fill-row-starts-spec =
     tie.close
     (tie.spec
     Inv-loop
@@ -51,7 +53,7 @@ row-starts-spec =
     cast-gap
     loop-holds
     mul-row
-    array-write-row
+    element-write-row
     add-at
     add-s
     loop-less

@@ -1,24 +1,27 @@
--- `nodes::diagram_estimates` meets its contract.
+-- `nodes::fill_diagram_estimates` meets its contract.
 use borrow.Author.Needs.{needs}
-use Prim.Native.Nat.{_+_, _-_}
+use Prim.Native.Nat.{_+_, _-_, _<_}
 use mathlib.Core.Path.{_≡_}
+use native.Mathlib.Omega.{arith}
 use Rattle.diagram.specs.Files.{nodesIn}
-use Rattle.nodes.proofs.Children.{child-laws}
-use Rattle.nodes.proofs.Estimating.{Estimating, estimating-laws}
-use Rattle.nodes.proofs.estimates.diagram_estimates.Statement.{statement}
-use Rattle.nodes.proofs.estimates.diagram_estimates.Tie as tie
-use Rattle.nodes.proofs.estimates.inner_estimate.Reads as inner-estimate-reads
+use Rattle.nodes.proofs.Children.{child-inside, child-laws}
+use Rattle.nodes.proofs.Estimating.{Estimating, estimating-step, estimating-laws}
+use Rattle.nodes.proofs.estimates.fill_diagram_estimates.Statement.{statement}
+use Rattle.nodes.proofs.estimates.fill_diagram_estimates.Tie as tie
 
 abbrev Inv-loop : tie.InvT-loop
-Inv-loop inner cost count estimates₀ n₀ n-end estimates n =
+Inv-loop estimates₀ inner cost count n₀ n-end estimates n =
     let t = nodesIn inner in
     (n-end ≡ count + 2) × Estimating (t .step) (t .lo) (t .hi) cost count estimates n
 
 abbrev μ-loop : tie.MeasureT-loop
-μ-loop inner cost count estimates₀ n₀ n-end estimates n = n-end - n
+μ-loop estimates₀ inner cost count n₀ n-end estimates n = n-end - n
 
-array-write-estimates : tie.Need-array-write-estimates Inv-loop μ-loop
-array-write-estimates c = search needs
+element-write-estimates : tie.Need-element-write-estimates Inv-loop μ-loop
+element-write-estimates c = search needs
+
+element-write-estimates-2 : tie.Need-element-write-estimates-2 Inv-loop μ-loop
+element-write-estimates-2 c = search needs
 
 add-n-end : tie.Need-add-n-end Inv-loop μ-loop
 add-n-end c = search needs
@@ -54,13 +57,22 @@ index-2-hi : tie.Need-index-2-hi Inv-loop μ-loop
 index-2-hi c = search (estimating-laws, child-laws, needs)
 
 inner-estimate-requires : tie.Need-inner-estimate-requires Inv-loop μ-loop
-inner-estimate-requires c κs = search (estimating-laws, child-laws, needs)
+inner-estimate-requires c κs =
+    let turn : tie.In-loop Inv-loop μ-loop = search in
+    let head : tie.At-loop Inv-loop μ-loop = search in
+    let start : tie.Start Inv-loop μ-loop = search in
+    let found = head .loop .inv .1 in
+    let below : head .loop .n < start .args .z .nodes + 2 = omega (arith, turn .loop-test .taken, head .loop .inv .0) in (
+      estimating-step _ _ _ _ _ _ _ found (start .pre .0 .2) below,
+      child-inside _ _ _ (start .pre .0 .0) (found .inner) below,
+      child-inside _ _ _ (start .pre .0 .1) (found .inner) below,
+    )
 
 mul-estimates : tie.Need-mul-estimates Inv-loop μ-loop
 mul-estimates c = search needs
 
-array-write-estimates-2 : tie.Need-array-write-estimates-2 Inv-loop μ-loop
-array-write-estimates-2 c = search needs
+element-write-estimates-3 : tie.Need-element-write-estimates-3 Inv-loop μ-loop
+element-write-estimates-3 c = search needs
 
 add-n : tie.Need-add-n Inv-loop μ-loop
 add-n c = search needs
@@ -74,13 +86,14 @@ loop-again c = search (estimating-laws, needs)
 returns : tie.Need-returns Inv-loop μ-loop
 returns c = search (estimating-laws, needs)
 
-pub diagram-estimates-spec : {M : Type 1} → statement M
-diagram-estimates-spec =
+pub fill-diagram-estimates-spec : {M : Type 1} → statement M
+fill-diagram-estimates-spec =
     tie.close
     (tie.spec
     Inv-loop
     μ-loop
-    array-write-estimates
+    element-write-estimates
+    element-write-estimates-2
     add-n-end
     loop-holds
     mul-e
@@ -94,7 +107,7 @@ diagram-estimates-spec =
     index-2-hi
     inner-estimate-requires
     mul-estimates
-    array-write-estimates-2
+    element-write-estimates-3
     add-n
     loop-less
     loop-again

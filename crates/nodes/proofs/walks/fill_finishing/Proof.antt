@@ -1,19 +1,22 @@
--- `nodes::finishing` meets its contract.
+-- `nodes::fill_finishing` meets its contract.
 use borrow.Author.Needs.{needs}
 use Prim.Native.Nat.{_+_, _-_}
 use Rattle.nodes.proofs.Children.{child-laws}
 use Rattle.nodes.proofs.Finished.{Passed, passed-laws}
-use Rattle.nodes.proofs.walks.finishing.Statement.{statement}
-use Rattle.nodes.proofs.walks.finishing.Tie as tie
+use Rattle.nodes.proofs.walks.fill_finishing.Statement.{statement}
+use Rattle.nodes.proofs.walks.fill_finishing.Tie as tie
 
 abbrev Inv-loop : tie.InvT-loop
-Inv-loop lo count yes₀ n₀ n-end yes' n = Passed lo count yes' n
+Inv-loop yes₀ lo count n₀ n-end yes' n = Passed lo count yes' n
 
 abbrev μ-loop : tie.MeasureT-loop
-μ-loop lo count yes₀ n₀ n-end yes' n = count + 2 - n
+μ-loop yes₀ lo count n₀ n-end yes' n = count + 2 - n
 
-array-write-yes : tie.Need-array-write-yes Inv-loop μ-loop
-array-write-yes c = search needs
+element-write-yes : tie.Need-element-write-yes Inv-loop μ-loop
+element-write-yes c = search needs
+
+element-write-yes-2 : tie.Need-element-write-yes-2 Inv-loop μ-loop
+element-write-yes-2 c = search needs
 
 add-n-end : tie.Need-add-n-end Inv-loop μ-loop
 add-n-end c = search needs
@@ -30,11 +33,11 @@ element-copy-out-child c = search needs
 cast-child : tie.Need-cast-child Inv-loop μ-loop
 cast-child c = search child-laws
 
-array-read-yes : tie.Need-array-read-yes Inv-loop μ-loop
-array-read-yes c = search child-laws
+element-copy-out-yes : tie.Need-element-copy-out-yes Inv-loop μ-loop
+element-copy-out-yes c = search child-laws
 
-array-write-yes-2 : tie.Need-array-write-yes-2 Inv-loop μ-loop
-array-write-yes-2 c = search needs
+element-write-yes-3 : tie.Need-element-write-yes-3 Inv-loop μ-loop
+element-write-yes-3 c = search needs
 
 add-n : tie.Need-add-n Inv-loop μ-loop
 add-n c = search needs
@@ -48,20 +51,21 @@ loop-again c = search passed-laws
 returns : tie.Need-returns Inv-loop μ-loop
 returns c = search passed-laws
 
-pub finishing-spec : {M : Type 1} → statement M
-finishing-spec =
+pub fill-finishing-spec : {M : Type 1} → statement M
+fill-finishing-spec =
     tie.close
     (tie.spec
     Inv-loop
     μ-loop
-    array-write-yes
+    element-write-yes
+    element-write-yes-2
     add-n-end
     loop-holds
     mul-child
     element-copy-out-child
     cast-child
-    array-read-yes
-    array-write-yes-2
+    element-copy-out-yes
+    element-write-yes-3
     add-n
     loop-less
     loop-again

@@ -1,19 +1,17 @@
+-- `chart_stages::fill_first_steps` meets its contract: the entries of the stages below s are right.
 use Prim.Native.Nat.{_+_, _-_, _≤_}
 use mathlib.Core.Path.{_≡_}
 use lib.ListN.{length}
 use Rattle.chart_stages.proofs.Firsts.{FirstsBefore, firsts-laws}
 use borrow.Author.Needs.{needs}
-use Rattle.chart_stages.proofs.first.first_steps.Statement.{statement}
-use Rattle.chart_stages.proofs.first.first_steps.Tie as tie
-use Rattle.chart_stages.proofs.first.first_steps.Reads as reads
-use Rattle.chart_stages.proofs.first.first_steps.Lts as lts
-use Rattle.chart_stages.proofs.first.first_from.Reads as first-from-reads
+use Rattle.chart_stages.proofs.first.fill_first_steps.Statement.{statement}
+use Rattle.chart_stages.proofs.first.fill_first_steps.Tie as tie
 
 abbrev Inv-loop : tie.InvT-loop
-Inv-loop from count stages first₀ e₀ s₀ first e s = (s ≤ stages + 1) × (e ≤ count) × (length first ≡ 257) × FirstsBefore count from first e s
+Inv-loop first₀ from count stages e₀ s₀ first e s = (s ≤ stages + 1) × (e ≤ count) × (length first ≡ 257) × FirstsBefore count from first e s
 
 abbrev μ-loop : tie.MeasureT-loop
-μ-loop from count stages first₀ e₀ s₀ first e s = stages + 1 - s
+μ-loop first₀ from count stages e₀ s₀ first e s = stages + 1 - s
 
 loop-holds : tie.Need-loop-holds Inv-loop μ-loop
 loop-holds c = search (firsts-laws, needs)
@@ -30,8 +28,8 @@ cast-first-2 c = search needs
 mul-first : tie.Need-mul-first Inv-loop μ-loop
 mul-first c = search needs
 
-array-write-first : tie.Need-array-write-first Inv-loop μ-loop
-array-write-first c = search needs
+element-write-first : tie.Need-element-write-first Inv-loop μ-loop
+element-write-first c = search needs
 
 add-s : tie.Need-add-s Inv-loop μ-loop
 add-s c = search needs
@@ -45,8 +43,8 @@ loop-again c = search (firsts-laws, needs)
 returns : tie.Need-returns Inv-loop μ-loop
 returns c = search (firsts-laws, needs)
 
-pub first-steps-spec : {M : Type 1} → statement M
-first-steps-spec =
+pub fill-first-steps-spec : {M : Type 1} → statement M
+fill-first-steps-spec =
     tie.close
     (tie.spec
     Inv-loop
@@ -56,7 +54,7 @@ first-steps-spec =
     cast-first
     cast-first-2
     mul-first
-    array-write-first
+    element-write-first
     add-s
     loop-less
     loop-again
