@@ -154,7 +154,7 @@ fn targets(all: &[Measured]) -> String {
         let on = found.map_or("-", |found| &found.most_on);
         let most = number(found.map(|found| found.most), 2);
         let mean = number(found.map(|found| found.mean), 2);
-        let begin = format!("{} | {:.2}", verdict.aim(), verdict.limit());
+        let begin = format!("{} | {}", verdict.aim(), number(verdict.limit, 2));
         format!("{begin} | {} | {most} | {on} | {mean}", verdict.word())
     });
     table("Target | At most | Result | Largest | Largest on | Geometric mean", 1, rows)

@@ -166,7 +166,8 @@ fn run(options: &Options, loads: &[Load]) -> Result<(), String> {
         None => (options.csv.clone(), options.svg.clone()),
     };
     write(&table, csv(&all))?;
-    write(&plot, svg(&all, &names))?;
+    let drawn: Vec<&str> = names.iter().copied().filter(|name| *name != "control").collect();
+    write(&plot, svg(&all, &drawn))?;
     let Some(docs) = &options.docs else { return Ok(()) };
     let run = Run {
         planners: &names,
