@@ -46,6 +46,11 @@ impl Run<'_> {
              [PERFORMANCE.md](PERFORMANCE.md)."
                 .into(),
             self.machine(),
+            "\"/ before\" and \"/ same\" are the library's time in that of the earlier library and of \
+             `same`, \"textbook /\" is the textbook's time in the library's, \"ns a pair\" the \
+             library's time for each reached or settled pair, \"Lent KB\" what both searches are \
+             lent together."
+                .into(),
             "## Targets".into(),
             targets(&all),
             "## Ratios".into(),

@@ -141,15 +141,16 @@ mod tests {
 
     /// Times of the library that are so many times those of the others, on every load.
     fn all(factor: f64) -> Vec<Measured> {
-        let timing = |(planner, call, nanoseconds)| {
+        let timing = |planner, call, nanoseconds| {
             let placed = vec![nanoseconds];
             Timing { planner, call, nanoseconds, placed, count: 1 }
         };
         let measured = |load| {
             let mut measured = Measured::new(load).expect("sound files");
             for call in Call::ALL {
-                let times = [("library", call, factor), ("before", call, 1.0), ("same", call, 1.0)];
-                measured.add(0, 1, times.map(timing).into());
+                let times = [("library", factor), ("before", 1.0), ("control", 1.0), ("same", 1.0)];
+                let times = times.map(|(planner, time)| timing(planner, call, time));
+                measured.add(0, 1, times.into());
             }
             measured
         };
