@@ -1,6 +1,7 @@
-//! With the feature `before`: links a second archive of the library beside the present one. Its
-//! calls are renamed, `planner_sweep` to `before_planner_sweep` and so on; its other symbols become
-//! local. The environment variable PLANNER_BEFORE names the archive. Needs objcopy.
+//! With the feature `before`: links an earlier archive of the library twice beside the present one.
+//! Its calls are renamed, `planner_sweep` to `before_planner_sweep` and `control_planner_sweep` and
+//! so on; its other symbols become local. The environment variable PLANNER_BEFORE names the archive.
+//! Needs objcopy.
 
 use std::env;
 use std::path::{Path, PathBuf};
@@ -9,6 +10,7 @@ use std::process::{exit, Command};
 const NAME: &str = "PLANNER_BEFORE";
 /// The calls that `src/before.rs` declares.
 const CALLS: [&str; 3] = ["planner_sweep", "planner_guided", "planner_space_needed"];
+const COPIES: [&str; 2] = ["before", "control"];
 
 fn main() {
     println!("cargo:rerun-if-changed=build.rs");
@@ -21,17 +23,19 @@ fn main() {
     };
     println!("cargo:rerun-if-changed={}", archive.display());
     let folder = PathBuf::from(env::var_os("OUT_DIR").unwrap_or_default());
-    rename_calls(&archive, &folder.join("libplanner_before.a"));
     println!("cargo:rustc-link-search=native={}", folder.display());
-    println!("cargo:rustc-link-lib=static=planner_before");
+    for copy in COPIES {
+        rename_calls(&archive, copy, &folder.join(format!("libplanner_{copy}.a")));
+        println!("cargo:rustc-link-lib=static=planner_{copy}");
+    }
 }
 
 /// Writes the archive with its calls renamed.
-fn rename_calls(archive: &Path, renamed: &Path) {
+fn rename_calls(archive: &Path, copy: &str, renamed: &Path) {
     let mut objcopy = Command::new("objcopy");
     for call in CALLS {
-        objcopy.arg(format!("--redefine-sym={call}=before_{call}"));
-        objcopy.arg(format!("--keep-global-symbol=before_{call}"));
+        objcopy.arg(format!("--redefine-sym={call}={copy}_{call}"));
+        objcopy.arg(format!("--keep-global-symbol={copy}_{call}"));
     }
     match objcopy.arg(archive).arg(renamed).status() {
         Ok(status) if status.success() => {}

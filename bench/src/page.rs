@@ -46,6 +46,11 @@ impl Run<'_> {
              [PERFORMANCE.md](PERFORMANCE.md)."
                 .into(),
             self.machine(),
+            "\"/ before\" and \"/ same\" are the library's time in that of the earlier library and of \
+             `same`, \"textbook /\" is the textbook's time in the library's, \"ns a pair\" the \
+             library's time for each reached or settled pair, \"Lent KB\" what both searches are \
+             lent together."
+                .into(),
             "## Targets".into(),
             targets(&all),
             "## Ratios".into(),
@@ -154,7 +159,7 @@ fn targets(all: &[Measured]) -> String {
         let on = found.map_or("-", |found| &found.most_on);
         let most = number(found.map(|found| found.most), 2);
         let mean = number(found.map(|found| found.mean), 2);
-        let begin = format!("{} | {:.2}", verdict.aim(), verdict.limit());
+        let begin = format!("{} | {}", verdict.aim(), number(verdict.limit, 2));
         format!("{begin} | {} | {most} | {on} | {mean}", verdict.word())
     });
     table("Target | At most | Result | Largest | Largest on | Geometric mean", 1, rows)

@@ -228,13 +228,16 @@ pub fn all() -> Vec<Box<dyn Planner>> {
     ]
 }
 
-/// Those to be measured: the library writes its answers on the stack; an earlier one is beside it.
+/// Those to be measured: the library writes its answers on the stack; an earlier one is beside it,
+/// in two copies.
 pub fn timed() -> Vec<Box<dyn Planner>> {
     vec![
         #[cfg(feature = "library")]
         Box::new(crate::library::Library { guarded: false }),
         #[cfg(feature = "before")]
         Box::new(crate::before::Before),
+        #[cfg(feature = "before")]
+        Box::new(crate::before::Control),
         Box::new(crate::same::Same),
         Box::new(crate::textbook::Textbook),
     ]

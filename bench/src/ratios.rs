@@ -5,8 +5,13 @@ use crate::loads::{Group, Load};
 use crate::measure::{Call, Timing};
 
 /// The ratios that are told: of which times, to which.
-pub const RATIOS: [(&str, &str); 4] =
-    [("library", "before"), ("library", "same"), ("before", "same"), ("textbook", "library")];
+pub const RATIOS: [(&str, &str); 5] = [
+    ("library", "before"),
+    ("control", "before"),
+    ("library", "same"),
+    ("before", "same"),
+    ("textbook", "library"),
+];
 
 /// One load measured.
 #[derive(Clone, Debug)]

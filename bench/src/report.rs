@@ -73,11 +73,11 @@ pub fn summary(standard: &[Measured], all: &[Measured]) -> String {
 
 fn verdict_line(verdict: &Verdict) -> String {
     let begin = format!("{:<13} {}", verdict.word(), verdict.aim());
-    let limit = verdict.limit();
+    let limit = number(verdict.limit, 2);
     match &verdict.found {
-        None => format!("{begin}: at most {limit:.2}"),
+        None => format!("{begin}: at most {limit}"),
         Some(Spread { mean, most, most_on, loads, .. }) => format!(
-            "{begin}: at most {limit:.2}, largest {most:.2} ({most_on}), geometric mean {mean:.2}, \
+            "{begin}: at most {limit}, largest {most:.2} ({most_on}), geometric mean {mean:.2}, \
              {loads} times"
         ),
     }

@@ -25,7 +25,7 @@ before left in them. Reading both files is part of a search's time.
 usage: benchmark [OPTION...]
 
   --runs N              how often all loads are gone through (default 4)
-  --rounds N            samples of each call in each run and placement (default 16)
+  --rounds N            samples of each call in each run and placement (default 12)
   --elsewhere FILE      this program linked with other padding, one more placement; any number
   --only TEXT           only loads whose name has this text
   --csv FILE            where the times are written (default benchmark.csv)
@@ -104,7 +104,7 @@ fn main() -> ExitCode {
 fn parse(mut args: impl Iterator<Item = String>) -> Result<Options, String> {
     let mut options = Options {
         runs: 4,
-        rounds: 16,
+        rounds: 12,
         elsewhere: Vec::new(),
         only: String::new(),
         csv: PathBuf::from("benchmark.csv"),
@@ -166,7 +166,8 @@ fn run(options: &Options, loads: &[Load]) -> Result<(), String> {
         None => (options.csv.clone(), options.svg.clone()),
     };
     write(&table, csv(&all))?;
-    write(&plot, svg(&all, &names))?;
+    let drawn: Vec<&str> = names.iter().copied().filter(|name| *name != "control").collect();
+    write(&plot, svg(&all, &drawn))?;
     let Some(docs) = &options.docs else { return Ok(()) };
     let run = Run {
         planners: &names,
