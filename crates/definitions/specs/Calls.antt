@@ -169,3 +169,31 @@ guided-stack s = let e = differ (s .stack .1) 0 in omega arith
 pub guided-log : After w′ w′ w′ w′ w′ (1 ∷ 2 ∷ 6 ∷ []) → ⊥
 unfolding pick only fieldAt onField scan headFault readChart readDiagram readFiles load
 guided-log s = let e = differ (s .guided .1 .rest) 0 in omega arith
+
+-- the plan slice past the plan, which has no step
+pub sweep-plan : SweepCall chartFile rulesFile (sweepSlices w w w (7 ∷ [])) (sweepSlices (4294967295 ∷ 0 ∷ 6 ∷ []) w′ w′ (8 ∷ [])) (accepted 0 0 1) → ⊥
+unfolding pick only fieldAt onField scan headFault readChart readDiagram readFiles load smaller descend descendIn advance verdict saysYes waysIn ways leastWay cheapest variable
+sweep-plan s = let e = differ (s .swept .0 .1 .rest) 0 in omega arith
+
+pub guided-plan : GuidedCall chartFile rulesFile (guidedSlices w w w w w w (7 ∷ [])) (guidedSlices w′ w′ w′ w′ w′ (1 ∷ 5 ∷ 6 ∷ []) (8 ∷ [])) (accepted 0 0 1) → ⊥
+unfolding pick only fieldAt onField scan headFault readChart readDiagram readFiles load smaller descend descendIn advance verdict saysYes waysIn ways leastWay cheapest variable
+guided-plan s = let e = differ (s .guided .0 .1 .rest) 0 in omega arith
+
+-- two stages need a plan entry
+abbrev twoFile : List ℕ
+twoFile = chartBytes (record { stages = 2; start = 0; end = 1; steps = [] })
+
+abbrev v : List ℕ
+v = 5 ∷ 5 ∷ 5 ∷ 5 ∷ []
+
+pub plan-spaces : List (List ℕ)
+plan-spaces =
+    loadRefusal (sweepLoad twoFile rulesFile (sweepSlices v v v (7 ∷ [])))
+    ∷ loadRefusal (sweepLoad twoFile rulesFile (sweepSlices v v v []))
+    ∷ loadRefusal (guidedLoad twoFile rulesFile (guidedSlices v v v v v v (7 ∷ [])))
+    ∷ loadRefusal (guidedLoad twoFile rulesFile (guidedSlices v v v v v v []))
+    ∷ []
+
+pub plan-spaces-hold : plan-spaces ≡ [] ∷ seven ∷ [] ∷ seven ∷ []
+unfolding plan-spaces pick only fieldAt onField scan headFault readChart readDiagram readFiles load
+plan-spaces-hold = refl

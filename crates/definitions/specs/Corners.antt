@@ -11,8 +11,8 @@ use Rattle.definitions.specs.Charts.{headFault, stepFault, readChart}
 use Rattle.definitions.specs.Diagrams.{nodeFault, readDiagram}
 use Rattle.definitions.specs.Bytes.{chartBytes, diagramBytes}
 use Rattle.definitions.specs.Answers.{readFiles, load}
-use Rattle.definitions.specs.Marked.{nd, chart, rules}
-use Rattle.definitions.specs.Examples.{rooted, rulesRefusal, loadRefusal}
+use Rattle.definitions.specs.Marked.{st, nd, chart, rules}
+use Rattle.definitions.specs.Examples.{rooted, steps, chartRefusal, rulesRefusal, loadRefusal}
 
 -- the smaller, the larger and the sum, where one is none
 pub options : List (Option ℕ)
@@ -62,3 +62,17 @@ places =
 pub places-hold : places ≡ (1 ∷ 1 ∷ 20 ∷ []) ∷ (1 ∷ 2 ∷ 14 ∷ []) ∷ (6 ∷ 2 ∷ 14 ∷ []) ∷ (1 ∷ 1 ∷ 20 ∷ []) ∷ []
 unfolding places pick only fieldAt onField scan headFault stepFault readChart nodeFault readDiagram readFiles load
 places-hold = refl
+
+-- a child that is the node itself, at lo and at hi; a child that does not test a later step, and one that does; a third step that leaves a stage below the second's
+pub neighbours : List (List ℕ)
+neighbours =
+    rulesRefusal (diagramBytes (rooted 2 (nd 2 2 0 ∷ []))) 6
+    ∷ rulesRefusal (diagramBytes (rooted 2 (nd 2 0 2 ∷ []))) 6
+    ∷ rulesRefusal (diagramBytes (rooted 4 (nd 4 0 1 ∷ nd 3 0 1 ∷ nd 3 3 1 ∷ []))) 6
+    ∷ rulesRefusal (diagramBytes (rooted 4 (nd 4 0 1 ∷ nd 3 0 1 ∷ nd 2 3 1 ∷ []))) 6
+    ∷ chartRefusal (steps (st 0 1 7 ∷ st 2 3 7 ∷ st 1 2 7 ∷ []))
+    ∷ []
+
+pub neighbours-hold : neighbours ≡ (6 ∷ 5 ∷ []) ∷ (6 ∷ 5 ∷ []) ∷ (6 ∷ 23 ∷ []) ∷ (0 ∷ 0 ∷ []) ∷ (5 ∷ 31 ∷ []) ∷ []
+unfolding neighbours pick only fieldAt onField scan headFault stepFault readChart nodeFault readDiagram
+neighbours-hold = refl

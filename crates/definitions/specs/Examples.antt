@@ -18,10 +18,10 @@ abbrev pub rooted : ℕ → List InnerNode → Diagram
 rooted root nodes = record { root = root; nodes = nodes }
 
 -- a chart of five stages with these steps
-abbrev steps : List ChartStep → List ℕ
+abbrev pub steps : List ChartStep → List ℕ
 steps ss = headBytes 5 0 4 ++ each stepBytes ss
 
-abbrev chartRefusal : List ℕ → List ℕ
+abbrev pub chartRefusal : List ℕ → List ℕ
 chartRefusal s = readChart s .number ∷ readChart s .place ∷ []
 
 abbrev pub rulesRefusal : List ℕ → ℕ → List ℕ

@@ -238,6 +238,25 @@ skips s =
     also (λ f. each 6 (Apart 1 1) (apart .1) (f .step) (f .exists) (f .leaves) (f .enters))
     also tt) (t .0) (t .1) (t .2)
 
+-- pair 9 has the least cost 240; step 2 leads to it from pair 5, at 290
+abbrev Priced : ℕ → ℕ → Type 0
+Priced m e = g .cost e ≡ m → ⊥
+
+unpriced : Each 6 (Priced 240) × Each 6 (Priced 150)
+unpriced = (
+  (λ l. omega arith) also (λ l. omega arith) also (λ l. omega arith) also (λ l. omega arith) also (λ l. omega arith) also (λ l. omega arith) also tt,
+  (λ l. omega arith) also (λ l. omega arith) also (λ l. omega arith) also (λ l. omega arith) also (λ l. omega arith) also (λ l. omega arith) also tt,
+)
+
+pub not-least : Settled g a h (3 ∷ 5 ∷ 9 ∷ []) → ⊥
+unfolding costs
+not-least s =
+    let t = s .follows 2 (omega arith) (omega arith) in
+    each 2 (λ i. Follows g a h (getD (3 ∷ 5 ∷ 9 ∷ []) i 0) 9 → ⊥)
+    ((λ f. each 6 (Priced 240) (unpriced .0) (f .step) (f .exists) (omega (arith, some-same (sym (cost-of 3) ∙ f .least-before), some-same (sym (cost-of 9) ∙ f .least))))
+    also (λ f. each 6 (Priced 150) (unpriced .1) (f .step) (f .exists) (omega (arith, some-same (sym (cost-of 5) ∙ f .least-before), some-same (sym (cost-of 9) ∙ f .least))))
+    also tt) (t .0) (t .1) (t .2)
+
 pub empty : Found g a h 170 [] → ⊥
 empty f = omega (arith, f .some-entry)
 
@@ -279,3 +298,8 @@ cuts l = omega (arith, l .long)
 
 pub no-space : Logged g a h (some 170) 5 (0 ∷ 0 ∷ 0 ∷ 0 ∷ []) good → ⊥
 no-space l = omega (arith, l .fits)
+
+-- six pairs are reached
+pub too-many : Logged g a h (some 170) 7 (0 ∷ 0 ∷ 0 ∷ 0 ∷ 0 ∷ 0 ∷ 0 ∷ []) (3 ∷ 5 ∷ 6 ∷ 9 ∷ 13 ∷ 17 ∷ 3 ∷ []) → ⊥
+unfolding pick smaller descend descendIn advance waysIn ways leastWay stands leastCost reached reachedPairs variable
+too-many l = omega (arith, l .few)

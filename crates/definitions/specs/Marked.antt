@@ -29,7 +29,7 @@ rules = record { root = 3; nodes = nd 2 0 1 ∷ nd 0 1 2 ∷ [] }
 abbrev pub single : Chart
 single = record { stages = 1; start = 0; end = 0; steps = [] }
 
-abbrev backward : Chart
+abbrev pub backward : Chart
 backward = record { stages = 2; start = 1; end = 0; steps = [] }
 
 abbrev pub leaf : ℕ → Diagram

@@ -14,7 +14,7 @@ use Rattle.definitions.specs.Plans.{variable, saysYes, cheapest}
 use Rattle.definitions.specs.Answers.{ready, refused, refusal, accepted}
 use Rattle.definitions.specs.Promises.{Planned, Outcome, Scratch, leastCosts, Swept, Guided}
 use Rattle.definitions.specs.declared.Answer.{Answer}
-use Rattle.definitions.specs.Marked.{chart, rules, single, leaf}
+use Rattle.definitions.specs.Marked.{chart, rules, single, leaf, backward}
 use Rattle.definitions.specs.Logs.{false-true, good-logged}
 
 -- two lists that differ at a place
@@ -135,3 +135,7 @@ guided-holds = ((refl, good-planned), good-logged)
 pub guided-cost : Guided (ready chart rules) (7 ∷ 7 ∷ 7 ∷ 7 ∷ []) (1 ∷ 3 ∷ 5 ∷ 7 ∷ []) (0 ∷ 0 ∷ 0 ∷ 0 ∷ 9 ∷ []) (3 ∷ 5 ∷ 13 ∷ 17 ∷ 9 ∷ []) (accepted 171 3 4) → ⊥
 unfolding pick smaller descend descendIn verdict saysYes waysIn ways leastWay cheapest variable
 guided-cost s = let e = ap (λ (r : Answer). r .cost) (s .0 .0) in omega arith
+
+-- no steps lead from the second stage back to the first
+pub no-way-back : Planned backward (leaf 1) 0 0 [] [] → ⊥
+no-way-back p = omega (arith, p .legal .0 .1)
