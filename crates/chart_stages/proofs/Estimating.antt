@@ -8,6 +8,7 @@ use lib.ListN.{length, getD, set, replicate}
 use native.Mathlib.Omega.{arith}
 use mir.Val.{Fits}
 use mir.Syntax.{w16, w32, w64}
+use Rattle.definitions.specs.Basics.{NONE}
 use Rattle.definitions.specs.Ways.{Graph}
 use Rattle.definitions.specs.Plans.{graph, chartEstimate}
 use Rattle.definitions.specs.declared.Shape.{Shape}
@@ -19,7 +20,7 @@ use Rattle.chart_stages.specs.Estimates.{EstimateTable, WayFrom, WayBy, 
 use Rattle.chart_stages.specs.Leaving.{Staged, Leaving}
 
 -- a sum that is looked at fits
-pub sum-fits : (c rest : ℕ) → Adds c rest → (rest ≡ 4294967295 → ⊥) → Fits w32 (c + rest)
+pub sum-fits : (c rest : ℕ) → Adds c rest → (rest ≡ NONE → ⊥) → Fits w32 (c + rest)
 sum-fits c rest (inl e) n = absurd (n e)
 sum-fits c rest (inr h) n = record { fits = omega arith }
 
@@ -35,7 +36,7 @@ module _ {t : Steps} {start until : ℕ} {estimates : List ℕ} (x : Leaving t s
   pub steps-end : until ≤ 1024
   steps-end = omega (arith, first-inside g (x .valid) (x .s + 1), x .valid .few, x .ends)
 
-  pub none-yet : Shows (WayBy g start (x .s)) 4294967295
+  pub none-yet : Shows (WayBy g start (x .s)) NONE
   none-yet = rw (x .begins) (by-none g (x .valid) (x .s))
 
   module _ {e : ℕ} (from-start : start ≤ e) (turns : e < until) where
@@ -79,7 +80,7 @@ module _ {z : Shape} {t : Steps} {first : List ℕ} (on : Staged z t first) wher
   pub first-small : (s : ℕ) → s ≤ z .end .0 → getD first s 0 ≤ 1024
   first-small s h = omega (arith, firsts .at s (omega (arith, on .valid .end-inside)), first-inside G (on .valid) s, on .valid .few)
 
-  pub stages-start : {end : ℕ} → z .end .0 ≡ end → Told G end (set (replicate 256 4294967295) end 0)
+  pub stages-start : {end : ℕ} → z .end .0 ≡ end → Told G end (set (replicate 256 NONE) end 0)
   stages-start q = rw (← q) (told-start G (on .valid))
 
   -- one stage before s

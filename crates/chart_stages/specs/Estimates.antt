@@ -11,7 +11,7 @@ use lib.ListN.{length, getD, set, replicate, getD-replicate, length-replicate}
 use lib.Seq.{getD-set-same, getD-set-other}
 use native.Mathlib.Omega.{arith}
 use borrow.Author.Tests.{eqb-true, eq-eqb}
-use Rattle.definitions.specs.Basics.{smaller, sumOf}
+use Rattle.definitions.specs.Basics.{NONE, smaller, sumOf}
 use Rattle.definitions.specs.Ways.{Graph, IsWay, endOf, wayCost}
 use Rattle.definitions.specs.Charts.{Chart}
 use Rattle.definitions.specs.Pairs.{toEnd}
@@ -23,7 +23,7 @@ use Rattle.theory.specs.Least.{IsLeast, More, least-of, least-unique, least-sam
 use Rattle.theory.specs.Ways.{way-climbs, way-cheap, step-cheap, leastWay-lower, leastWay-attained}
 use Rattle.chart_stages.specs.FirstSteps.{firstStep, leaves-first}
 
--- the table of the estimates: at each stage from the start on the chart estimate, 4,294,967,295 where there is none, and there is none past the stages
+-- the table of the estimates: at each stage from the start on the chart estimate, NONE where there is none, and there is none past the stages
 pub record EstimateTable (c : Chart) (estimates : List ℕ) : Type 0 where
   pub at : (s : ℕ) → c .start ≤ s → s < 256 → getD estimates s 0 ≡ shown (chartEstimate c s)
   pub long : length estimates ≡ 256
@@ -53,12 +53,12 @@ pub record Told (g : Graph) (s : ℕ) (estimates : List ℕ) : Type 0 where
 
 -- a cost can be added to the rest: there is none, or the sum is below its mark
 abbrev pub Adds : ℕ → ℕ → Type 0
-Adds c rest = (rest ≡ 4294967295) ⊎ (c + rest < 4294967295)
+Adds c rest = (rest ≡ NONE) ⊎ (c + rest < NONE)
 
--- the smaller of what is known and of c more than the rest, where 4,294,967,295 shows none
+-- the smaller of what is known and of c more than the rest, where NONE shows none
 pub record Lowered (known c rest r : ℕ) : Type 0 where
-  pub kept : rest ≡ 4294967295 → r ≡ known
-  pub less : rest < 4294967295 → r ≡ min known (c + rest)
+  pub kept : rest ≡ NONE → r ≡ known
+  pub less : rest < NONE → r ≡ min known (c + rest)
 
 -- P is what is known, Q the rest
 module _ (P Q : ℕ → Type 0) (few : (m : ℕ) → Q m → m ≤ 510000000) (c : ℕ) (small : c ≤ 510000000) where
@@ -118,22 +118,22 @@ module _ (g : Graph) (v : Valid g) where
 
   -- ---- at first: the way without steps
 
-  pub told-start : Told g (g .end) (set (replicate 256 4294967295) (g .end) 0)
+  pub told-start : Told g (g .end) (set (replicate 256 NONE) (g .end) 0)
   told-start = record { at = λ t h l. go t h l (same-or-not t (g .end)) }
     where
-      long : length {A = ℕ} (replicate 256 4294967295) ≡ 256
-      long = length-replicate {A = ℕ} 256 4294967295
+      long : length {A = ℕ} (replicate 256 NONE) ≡ 256
+      long = length-replicate {A = ℕ} 256 NONE
 
-      go : (t : ℕ) → g .end ≤ t → t < 256 → (t ≡ g .end) ⊎ (t ≡ g .end → ⊥) → Shows (WayFrom g t) (getD (set (replicate 256 4294967295) (g .end) 0) t 0)
+      go : (t : ℕ) → g .end ≤ t → t < 256 → (t ≡ g .end) ⊎ (t ≡ g .end → ⊥) → Shows (WayFrom g t) (getD (set (replicate 256 NONE) (g .end) 0) t 0)
       go t h l (inl q) = rw q (
         some 0,
         (record { steps = []; way = tt; ends = refl; costs = refl }, λ m w. omega arith),
-        getD-set-same (replicate 256 4294967295) (g .end) 0 0 (omega (arith, long, v .end-inside, v .few-stages)),
+        getD-set-same (replicate 256 NONE) (g .end) 0 0 (omega (arith, long, v .end-inside, v .few-stages)),
       )
       go t h l (inr n) = (
         none,
         λ m w. omega (arith, not-past t m w),
-        getD-set-other (replicate 256 4294967295) (g .end) t 0 0 n ∙ getD-replicate 256 t 4294967295 0 l,
+        getD-set-other (replicate 256 NONE) (g .end) t 0 0 n ∙ getD-replicate 256 t NONE 0 l,
       )
 
   -- ---- one stage more, s
@@ -149,7 +149,7 @@ module _ (g : Graph) (v : Valid g) where
         go t h l (inr n) = rw (getD-set-other estimates s t r 0 n) (told .at t (omega arith) l)
 
     -- no step below its first one leaves it
-    pub by-none : Shows (WayBy g (firstStep g s) s) 4294967295
+    pub by-none : Shows (WayBy g (firstStep g s) s) NONE
     by-none = (none, λ m w. omega (arith, leaves-first g v s (w .step) (w .exists) (w .leaves), w .below), refl)
 
     -- one step more, e

@@ -35,6 +35,10 @@ abbrev pub isSome : Option ℕ → Bool
 isSome none = false
 isSome (some x) = true
 
+-- the number that stands for none where tables hold optional costs
+abbrev pub NONE : ℕ
+NONE = 4294967295
+
 -- ---- lists
 
 -- the members that pass a test

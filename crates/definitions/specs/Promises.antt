@@ -9,7 +9,7 @@ use mathlib.Core.List.{List, [], _∷_, _++_, map, List·Memᴰ}
 use mathlib.Core.Option.{Option, none, some}
 use lib.Dec.{eqb}
 use lib.ListN.{length, getD, take, drop}
-use Rattle.definitions.specs.Basics.{upto}
+use Rattle.definitions.specs.Basics.{NONE, upto}
 use Rattle.definitions.specs.Charts.{Chart}
 use Rattle.definitions.specs.Diagrams.{Diagram}
 use Rattle.definitions.specs.Ways.{Graph, wayCost}
@@ -44,9 +44,9 @@ Scratch (ready c d) work work′ = (length work′ ≡ length work) × (drop (wo
 
 -- ---- the sweep (dynamic programming in topological order)
 
--- what the cost slice holds at a pair: the least cost if it is reached, else 4,294,967,295
+-- what the cost slice holds at a pair: the least cost if it is reached, else NONE
 abbrev pub shown : Option ℕ → ℕ
-shown none = 4294967295
+shown none = NONE
 shown (some m) = m
 
 unfoldable pub leastCosts : Graph → Automaton → List ℕ

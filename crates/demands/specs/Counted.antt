@@ -8,7 +8,7 @@ use mathlib.Core.Option.{Option, none, some}
 use native.Mathlib.Omega.{arith}
 use lib.ListN.{length, getD, drop, length-append, length-drop, List·getD-append}
 use lib.Seq.{drop-at}
-use Rattle.definitions.specs.Basics.{keep, run, upto}
+use Rattle.definitions.specs.Basics.{NONE, keep, run, upto}
 use Rattle.definitions.specs.Charts.{Chart}
 use Rattle.definitions.specs.Diagrams.{Diagram, size}
 use Rattle.definitions.specs.Pairs.{leastCost, reached, reachedPairs}
@@ -110,10 +110,10 @@ module _ (c : Chart) (d : Diagram) (v : Valid (graph c)) where
     pub cost-least : (p m : ℕ) → Reached c d p m → getD cost′ p 0 ≡ m
     cost-least p m r = entry p (reached-inside c d v p m r) ∙ ap (λ (o : Option ℕ). shown o) (reached-is c d v p m r)
 
-    pub cost-unreached : (p : ℕ) → p < need c d → ((m : ℕ) → Reached c d p m → ⊥) → getD cost′ p 0 ≡ 4294967295
+    pub cost-unreached : (p : ℕ) → p < need c d → ((m : ℕ) → Reached c d p m → ⊥) → getD cost′ p 0 ≡ NONE
     cost-unreached p h z = entry p h ∙ go (leastCost (graph c) (automaton c d) (p / size d) (p % size d)) refl
       where
-        go : (o : Option ℕ) → leastCost (graph c) (automaton c d) (p / size d) (p % size d) ≡ o → shown o ≡ 4294967295
+        go : (o : Option ℕ) → leastCost (graph c) (automaton c d) (p / size d) (p % size d) ≡ o → shown o ≡ NONE
         go none q = refl
         go (some m) q = absurd (z m (is-reached c d v p m q))
 

@@ -8,6 +8,7 @@ use mathlib.Core.List.{List, [], _∷_, _++_}
 use mathlib.Core.Logic.{_⊎_, _↔_}
 use mathlib.Core.Option.{some}
 use lib.ListN.{length, getD, drop}
+use Rattle.definitions.specs.Basics.{NONE}
 use Rattle.definitions.specs.Charts.{Chart, readChart}
 use Rattle.definitions.specs.Diagrams.{Diagram, DiagramRead, readDiagram, size, advance, finish}
 use Rattle.definitions.specs.Ways.{IsWay, endOf, wayCost}
@@ -176,10 +177,10 @@ module _ (c : Chart) (d : Diagram) where
     pub reached : Reached p cost
     pub least : Reached q (cost + graph c .cost step)
 
-  -- the sweep: its cost slice has at each pair the least cost if it is reached, else 4,294,967,295; its count is the number of reached pairs
+  -- the sweep: its cost slice has at each pair the least cost if it is reached, else NONE; its count is the number of reached pairs
   pub record Sweeps (cost′ : List ℕ) (r : Answer) : Type 0 where
     pub least : (p m : ℕ) → Reached p m → getD cost′ p 0 ≡ m
-    pub unreached : (p : ℕ) → p < need c d → ((m : ℕ) → Reached p m → ⊥) → getD cost′ p 0 ≡ 4294967295
+    pub unreached : (p : ℕ) → p < need c d → ((m : ℕ) → Reached p m → ⊥) → getD cost′ p 0 ≡ NONE
     pub pairs : List ℕ
     pub all : (p m : ℕ) → Reached p m → (i : ℕ) × At pairs i p
     pub only : (i p : ℕ) → At pairs i p → (m : ℕ) × Reached p m

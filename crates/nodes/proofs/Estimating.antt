@@ -8,7 +8,7 @@ use lib.Seq.{getD-set-same, getD-set-other}
 use native.Mathlib.Omega.{arith}
 use native.Mathlib.Decide.{decLt}
 use borrow.Author.Count.{below-more}
-use Rattle.definitions.specs.Basics.{smaller, sumOf}
+use Rattle.definitions.specs.Basics.{NONE, smaller, sumOf}
 use Rattle.definitions.specs.Charts.{Chart}
 use Rattle.definitions.specs.Diagrams.{Diagram, size, inner}
 use Rattle.theory.specs.Limits.{Ordered, Sound}
@@ -24,11 +24,11 @@ use Rattle.nodes.proofs.Children.{child-below}
 
 -- each inner node below adds at most one step's cost, so that an estimate of node n is at most 1,000,000 × n, far below the mark
 abbrev Small : ℕ → ℕ → Type 0
-Small n v = v < 4294967295 → v ≤ 1000000 * n
+Small n v = v < NONE → v ≤ 1000000 * n
 
 -- v shows the estimate of node n
 abbrev Shows : ℕ → ℕ → Option ℕ → Type 0
-Shows n v none = v ≡ 4294967295
+Shows n v none = v ≡ NONE
 Shows n v (some m) = (v ≡ m) × (m ≤ 1000000 * n)
 
 shows-is : (n v : ℕ) (o : Option ℕ) → Shows n v o → v ≡ shown o
@@ -38,9 +38,9 @@ shows-is n v (some m) s = s .0
 -- what is joined of two nodes below n
 module _ (k low high r i j n : ℕ) (join : Joins low high k r) (cheap : k ≤ 1000000) (li : i < n) (lj : j < n) (few : n < 512) where
   joined-small : Small i low → Small j high → Small n r
-  joined-small si sj g = go (decLt (high + k) 4294967295)
+  joined-small si sj g = go (decLt (high + k) NONE)
     where
-      go : Dec (high + k < 4294967295) → r ≤ 1000000 * n
+      go : Dec (high + k < NONE) → r ≤ 1000000 * n
       go (yes h) = either (lt-or-le low (high + k)) (λ q. omega (arith, join .both h, si (omega arith))) (λ q. omega (arith, join .both h, sj (omega arith)))
       go (no h) = omega (arith, join .alone (omega arith), si (omega (arith, join .alone (omega arith))))
 
@@ -62,25 +62,25 @@ pub record Estimating (step lo hi cost : List ℕ) (count : ℕ) (r : List ℕ) 
 
 module _ (step lo hi cost : List ℕ) (count : ℕ) where
   abbrev start : List ℕ → List ℕ
-  start old = set (set old 0 4294967295) 1 0
+  start old = set (set old 0 NONE) 1 0
 
   pub estimating-start : (old : List ℕ) → length old ≡ 512 → Estimating step lo hi cost count (start old) 2
   estimating-start old long = record {
-    long = length-set (set old 0 4294967295) 1 0 ∙ long′;
+    long = length-set (set old 0 NONE) 1 0 ∙ long′;
     few = omega arith;
     inner = omega arith;
     small = leaf-small;
     shows = λ c d p h s f. leaf-shows c d (h .ordered);
   }
     where
-      long′ : length (set old 0 4294967295) ≡ 512
-      long′ = length-set old 0 4294967295 ∙ long
+      long′ : length (set old 0 NONE) ≡ 512
+      long′ = length-set old 0 NONE ∙ long
 
-      none-at : getD (start old) 0 0 ≡ 4294967295
-      none-at = getD-set-other (set old 0 4294967295) 1 0 0 0 (omega arith) ∙ getD-set-same old 0 4294967295 0 (omega arith)
+      none-at : getD (start old) 0 0 ≡ NONE
+      none-at = getD-set-other (set old 0 NONE) 1 0 0 0 (omega arith) ∙ getD-set-same old 0 NONE 0 (omega arith)
 
       zero-at : getD (start old) 1 0 ≡ 0
-      zero-at = getD-set-same (set old 0 4294967295) 1 0 0 (omega (arith, long′))
+      zero-at = getD-set-same (set old 0 NONE) 1 0 0 (omega (arith, long′))
 
       leaf-small : (k : ℕ) → k < 2 → Small k (getD (start old) k 0)
       leaf-small zero l g = absurd (omega (arith, none-at))

@@ -5,6 +5,7 @@ use mathlib.Core.Path.{_≡_}
 use mathlib.Core.List.{List}
 use mathlib.Core.Option.{some}
 use lib.ListN.{length, getD}
+use Rattle.definitions.specs.Basics.{NONE}
 use Rattle.definitions.specs.Charts.{Chart}
 use Rattle.definitions.specs.Diagrams.{Diagram, size}
 use Rattle.theory.specs.Limits.{Sound}
@@ -17,18 +18,18 @@ pub record Priced (step cost : List ℕ) (count : ℕ) : Type 0 where
   pub inside : (n : ℕ) → 2 ≤ n → n < count + 2 → getD step n 0 < 1024
   pub cheap : (n : ℕ) → 2 ≤ n → n < count + 2 → getD cost (getD step n 0) 0 ≤ 1000000
 
--- a node's estimate from that at its lo, that at its hi and the cost of its step, where 4,294,967,295 stands for none
+-- a node's estimate from that at its lo, that at its hi and the cost of its step, where NONE stands for none
 pub record Joins (low high cost r : ℕ) : Type 0 where
-  pub alone : 4294967295 ≤ high + cost → r ≡ low
-  pub both : high + cost < 4294967295 → r ≡ min low (high + cost)
+  pub alone : NONE ≤ high + cost → r ≡ low
+  pub both : high + cost < NONE → r ≡ min low (high + cost)
 
 -- a table has what it costs to set each variable of a chart
 abbrev pub Costs : Chart → List ℕ → Type 0
 Costs c cost = (k : ℕ) → k < length (c .steps) → variableCost c k ≡ some (getD cost k 0)
 
--- A table has the estimate of each node, 4,294,967,295 where there is none, of each diagram of at most `count` inner nodes that stands in the tables,
+-- A table has the estimate of each node, NONE where there is none, of each diagram of at most `count` inner nodes that stands in the tables,
 -- over each chart whose costs stand in the cost table
 pub record Estimated (step lo hi cost : List ℕ) (count : ℕ) (r : List ℕ) : Type 0 where
   pub is : (c : Chart) (d : Diagram) → Costs c cost → Held d step lo hi → Sound (length (c .steps)) d → length (d .nodes) ≤ count
       → (n : ℕ) → n < size d → getD r n 0 ≡ shown (diagramEstimate c d n)
-  pub small : (n : ℕ) → n < count + 2 → getD r n 0 < 4294967295 → getD r n 0 ≤ 1000000 * n
+  pub small : (n : ℕ) → n < count + 2 → getD r n 0 < NONE → getD r n 0 ≤ 1000000 * n

@@ -6,12 +6,12 @@ use mathlib.Core.List.{List}
 use native.Mathlib.Omega.{arith}
 use lib.Dec.{eqb}
 use lib.ListN.{length, getD, set, drop, replicate, length-append, length-replicate, length-drop, getD-replicate, List·getD-append}
-use Rattle.definitions.specs.Basics.{pick}
+use Rattle.definitions.specs.Basics.{NONE, pick}
 use Rattle.definitions.specs.Ways.{Graph}
 use Rattle.definitions.specs.Pairs.{Automaton, pair, pairs}
 use Rattle.definitions.specs.declared.Shape.{Shape}
 use Rattle.theory.specs.Pairs.{pair-inside}
-use Rattle.sweep_model.specs.Model.{unreached, Rows, rows, begun, swept, relaxRows}
+use Rattle.sweep_model.specs.Model.{Rows, rows, begun, swept, relaxRows}
 use Rattle.sweep_model.specs.Rows.{Table}
 use Rattle.sweep_model.specs.Result.{Fresh, begun-table}
 use Rattle.checks.specs.Ready.{Walk, Ready, graphIn, automatonIn, width-is, lawful-in, few-stages, row-start}
@@ -42,8 +42,8 @@ module _ {z : Shape} {on : Walk} (y : Ready z on) where
   module _ {r : Rows} (blank : Blank z r) where
     cleared-long : length (clearedCosts z (r .cost)) ≡ length (r .cost)
     cleared-long =
-        length-append (replicate (pairsIn z) unreached) (drop (pairsIn z) (r .cost))
-        ∙ omega (arith, length-replicate (pairsIn z) unreached, length-drop (pairsIn z) (r .cost), blank .cost-fits)
+        length-append (replicate (pairsIn z) NONE) (drop (pairsIn z) (r .cost))
+        ∙ omega (arith, length-replicate (pairsIn z) NONE, length-drop (pairsIn z) (r .cost), blank .cost-fits)
 
     pub cleared-fresh : Fresh g a (cleared z r)
     cleared-fresh = record {
@@ -53,8 +53,8 @@ module _ {z : Shape} {on : Walk} (y : Ready z on) where
       counts-fits = omega (arith, blank .counts-long, few-stages z (on .read) (y .tables));
       no-cost = λ p h.
           let k : p < pairsIn z = omega (arith, pairs-is) in
-          List·getD-append (replicate (pairsIn z) unreached) (drop (pairsIn z) (r .cost)) 0 p (omega (arith, length-replicate (pairsIn z) unreached))
-          ∙ getD-replicate (pairsIn z) p unreached 0 k;
+          List·getD-append (replicate (pairsIn z) NONE) (drop (pairsIn z) (r .cost)) 0 p (omega (arith, length-replicate (pairsIn z) NONE))
+          ∙ getD-replicate (pairsIn z) p NONE 0 k;
       no-node = λ s h. blank .no-node s (omega (arith, few-stages z (on .read) (y .tables)));
     }
 

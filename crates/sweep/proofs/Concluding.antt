@@ -8,6 +8,7 @@ use mathlib.Core.Option.{Option, none, some}
 use native.Mathlib.Omega.{arith}
 use lib.ListN.{length, getD, take, drop, length-append, length-drop}
 use lib.Seq.{take-append-seam, drop-append-seam}
+use Rattle.definitions.specs.Basics.{NONE}
 use Rattle.definitions.specs.Charts.{Chart}
 use Rattle.definitions.specs.Diagrams.{Diagram, size}
 use Rattle.definitions.specs.Ways.{Graph, wayCost}
@@ -25,7 +26,7 @@ use Rattle.nodes.specs.Walks.{Falls, Finishing}
 use Rattle.nodes.specs.Falling.{lo-falls}
 use Rattle.rows.specs.Rows.{row-at}
 use Rattle.trace.specs.Trails.{Trail, Traceable}
-use Rattle.sweep_model.specs.Model.{unreached, Rows, costAt, nodeAt, countAt}
+use Rattle.sweep_model.specs.Model.{Rows, costAt, nodeAt, countAt}
 use Rattle.sweep_model.specs.Rows.{Table, count-fits}
 use Rattle.sweep_model.specs.Totals.{total}
 use Rattle.sweep_model.specs.Paths.{Traced, traced}
@@ -36,7 +37,7 @@ use Rattle.sweep_ends.specs.Goals.{Listed, Chosen}
 use Rattle.sweep.specs.Runs.{Final, Concludes}
 use Rattle.sweep_ends.specs.declared.goals.Best.{Best}
 
-shown-some : (o : Option ℕ) (m : ℕ) → m ≡ shown o → m < unreached → o ≡ some m
+shown-some : (o : Option ℕ) (m : ℕ) → m ≡ shown o → m < NONE → o ≡ some m
 shown-some none m e h = absurd (omega arith)
 shown-some (some x) m e h = ap (λ (k : ℕ). some k) (sym e)
 
@@ -113,16 +114,16 @@ module _ {z : Shape} {t : Read} {row : List ℕ} {r : Rows} (f : Final z t row r
           let here : getD (r .cost) (base + getD (r .nodes) (base + j .0) 0) 0 ≡ k = ap₂ (λ (b m : ℕ). getD (r .cost) (b + m) 0) base-is node ∙ cost in
           omega (arith, ch .least (j .0) (omega (arith, j .1)) yes′)
 
-      none-found : best .cost ≡ unreached → cheapest c d ≡ none
+      none-found : best .cost ≡ NONE → cheapest c d ≡ none
       none-found h =
           cheapest-none c d valid ordered
           (λ k x. omega (arith, low k x, way-inside g a valid l end (x .0) k (cost-attained g a end (x .0) k (x .2))))
 
-      pub concludes-none : {count : ℕ} {plan : List ℕ} {ans : Answer} → count ≡ total (at (r .counts)) (z .stages) → best .cost ≡ unreached → ans ≡ refusal 8 0 0 count
+      pub concludes-none : {count : ℕ} {plan : List ℕ} {ans : Answer} → count ≡ total (at (r .counts)) (z .stages) → best .cost ≡ NONE → ans ≡ refusal 8 0 0 count
           → Concludes z t plan plan ans
       concludes-none en h e = record { outcome = rw (none-found h) (e ∙ ap (λ (k : ℕ). refusal 8 0 0 k) (en ∙ f .finished .count-is), refl) }
 
-      module _ (h : best .cost < unreached) where
+      module _ (h : best .cost < NONE) where
         abbrev node : ℕ
         node = best .node .0
 

@@ -6,6 +6,7 @@ use mathlib.Core.List.{List, [], _∷_, _++_}
 use native.Mathlib.Omega.{arith}
 use lib.ListN.{length, drop, replicate, length-replicate, getD-replicate}
 use lib.Seq.{drop-append-seam}
+use Rattle.definitions.specs.Basics.{NONE}
 use Rattle.definitions.specs.Charts.{Chart}
 use Rattle.definitions.specs.Diagrams.{Diagram}
 use Rattle.definitions.specs.Ways.{Graph}
@@ -18,7 +19,7 @@ use Rattle.chart_stages.specs.FirstSteps.{SortedTable, FirstTable}
 use Rattle.chart_stages.specs.HeldGraph.{held-sorted}
 use Rattle.diagram.specs.Held.{length-held}
 use Rattle.rows.specs.Rows.{rowStarts}
-use Rattle.sweep_model.specs.Model.{unreached, Rows, rows, swept}
+use Rattle.sweep_model.specs.Model.{Rows, rows, swept}
 use Rattle.sweep_model.specs.Rows.{Past}
 use Rattle.sweep_model.specs.Result.{Fresh, Finished, finished, final-past, final-costs}
 use Rattle.sweep_model.specs.Sweeps.{FirstSteps}
@@ -90,8 +91,8 @@ module _ {z : Shape} {t : Read} (in-tables : Tables z t) where
         -- what was cleared does not matter past the pairs
         cleared-past : drop (pairs g a) (clearedCosts z (before .cost)) ≡ drop (pairsIn z) (before .cost)
         cleared-past =
-            ap (λ (k : ℕ). drop k (clearedCosts z (before .cost))) (same ∙ sym (length-replicate (pairsIn z) unreached))
-            ∙ drop-append-seam (replicate (pairsIn z) unreached) (drop (pairsIn z) (before .cost))
+            ap (λ (k : ℕ). drop k (clearedCosts z (before .cost))) (same ∙ sym (length-replicate (pairsIn z) NONE))
+            ∙ drop-append-seam (replicate (pairsIn z) NONE) (drop (pairsIn z) (before .cost))
 
         -- a slice is left as it was past the space that the pairs need
         untouched : (x x′ : List ℕ) → drop (pairs g a) x′ ≡ drop (pairs g a) x → drop (workNeed (chartIn z t) (diagramIn z t)) x′ ≡ drop (workNeed (chartIn z t) (diagramIn z t)) x

@@ -4,6 +4,7 @@ use Prim.Native.Nat.{ℕ, _+_, _-_, _*_, _≤_, _<_}
 use mathlib.Core.Path.{_≡_}
 use mathlib.Core.List.{List, _++_}
 use lib.ListN.{length, getD, drop, replicate}
+use Rattle.definitions.specs.Basics.{NONE}
 use Rattle.definitions.specs.Answers.{Load}
 use Rattle.definitions.specs.Pairs.{reachedPairs}
 use Rattle.definitions.specs.Plans.{cheapest}
@@ -11,7 +12,7 @@ use Rattle.definitions.specs.Promises.{Outcome, Swept, Scratch, SweepSlices}
 use Rattle.definitions.specs.declared.Answer.{Answer}
 use Rattle.definitions.specs.declared.Shape.{Shape}
 use Rattle.rows.specs.Rows.{rowStarts}
-use Rattle.sweep_model.specs.Model.{unreached, Rows, rows}
+use Rattle.sweep_model.specs.Model.{Rows, rows}
 use Rattle.sweep_model.specs.Result.{Finished}
 use Rattle.checks.specs.Tables.{Read, Tables, chartIn, diagramIn}
 use Rattle.checks.specs.Ready.{graphIn, automatonIn}
@@ -37,7 +38,7 @@ pub record Blank (z : Shape) (r : Rows) : Type 0 where
 
 -- the costs with no pair reached, and the tables with them
 abbrev pub clearedCosts : Shape → List ℕ → List ℕ
-clearedCosts z costs = replicate (pairsIn z) unreached ++ drop (pairsIn z) costs
+clearedCosts z costs = replicate (pairsIn z) NONE ++ drop (pairsIn z) costs
 
 abbrev pub cleared : Shape → Rows → Rows
 cleared z r = rows (clearedCosts z (r .cost)) (r .via) (r .nodes) (r .counts)

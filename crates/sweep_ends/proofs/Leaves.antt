@@ -8,9 +8,10 @@ use native.Mathlib.Omega.{arith}
 use native.Mathlib.Numerals.{add-one}
 use lib.ListN.{getD, set}
 use borrow.Author.Tests.{eq-eqb, ne-eqb}
+use Rattle.definitions.specs.Basics.{NONE}
 use Rattle.theory.specs.Basics.{pick-true, pick-false, either, lt-or-le, same-or-not, true-not-false}
 use Rattle.sweep_model.specs.Totals.{total}
-use Rattle.sweep_model.specs.Model.{unreached, Rows, rows}
+use Rattle.sweep_model.specs.Model.{Rows, rows}
 use Rattle.sweep_ends.specs.Begin.{begunAt}
 use Rattle.sweep_ends.specs.Goals.{Better, Chosen}
 use Rattle.sweep_ends.specs.declared.goals.Best.{Best}
@@ -32,7 +33,7 @@ module _ (best : Best) (n v : ℕ) where
   better-no ok y = record { taken = λ _ d. absurd (true-not-false (sym d ∙ y)); dearer = λ _. refl; no-goal = λ _. refl }
 
 module _ (base : ℕ) (costs nodes : List ℕ) (goals : List Bool) where
-  pub chosen-none : (best : Best) → best .cost ≡ unreached → Chosen base 0 costs nodes goals best
+  pub chosen-none : (best : Best) → best .cost ≡ NONE → Chosen base 0 costs nodes goals best
   chosen-none best e = record { bounded = omega arith; least = λ k h. absurd (omega arith); one = λ h. absurd (omega arith) }
 
   module _ (k : ℕ) (best r : Best) (c : Chosen base k costs nodes goals best) (n m v : ℕ) (en : n ≡ getD nodes (base + k) 0) (em : m ≡ n)
@@ -48,7 +49,7 @@ module _ (base : ℕ) (costs nodes : List ℕ) (goals : List Bool) where
     here : getD goals n false ≡ true → r .cost ≤ v
     here e = either (lt-or-le v (best .cost)) (λ h. omega (arith, b .taken h e .0)) (λ h. omega (arith, ap (λ (x : Best). x .cost) (b .dearer h)))
 
-    old : r ≡ best → r .cost < unreached
+    old : r ≡ best → r .cost < NONE
         → (j : ℕ) × (j < k + 1) × (getD nodes (base + j) 0 ≡ r .node .0) × (getD goals (r .node .0) false ≡ true) × (getD costs (base + r .node .0) 0 ≡ r .cost)
     old e h = let x = c .one (omega (arith, ap (λ (x : Best). x .cost) e)) in rw e (x .0, omega (arith, x .1), x .2, x .3, x .4)
 
@@ -69,7 +70,7 @@ module _ (base : ℕ) (costs nodes : List ℕ) (goals : List Bool) where
       one = λ h. either (lt-or-le v (best .cost)) (λ l. go h l (getD goals n false) refl) (λ l. old (b .dearer l) h);
     }
       where
-        go : r .cost < unreached → v < best .cost → (y : Bool) → getD goals n false ≡ y
+        go : r .cost < NONE → v < best .cost → (y : Bool) → getD goals n false ≡ y
             → (j : ℕ) × (j < k + 1) × (getD nodes (base + j) 0 ≡ r .node .0) × (getD goals (r .node .0) false ≡ true) × (getD costs (base + r .node .0) 0 ≡ r .cost)
         go h l true e = new l e
         go h l false e = old (b .no-goal e) h

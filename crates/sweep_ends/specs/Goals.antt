@@ -5,7 +5,7 @@ use mathlib.Core.Path.{_≡_}
 use mathlib.Core.Bool.{Bool, true, false}
 use mathlib.Core.List.{List}
 use lib.ListN.{length, getD}
-use Rattle.sweep_model.specs.Model.{unreached}
+use Rattle.definitions.specs.Basics.{NONE}
 use Rattle.sweep_ends.specs.declared.goals.Best.{Best}
 
 -- the better of the best so far and node n at cost v, if that is a goal
@@ -22,6 +22,6 @@ pub record Listed (base count : ℕ) (costs nodes : List ℕ) : Type 0 where
 
 -- r is a goal of least cost among the first `count` nodes of the list, or has the mark where none of them is one
 pub record Chosen (base count : ℕ) (costs nodes : List ℕ) (yes : List Bool) (r : Best) : Type 0 where
-  pub bounded : r .cost ≤ unreached
+  pub bounded : r .cost ≤ NONE
   pub least : (k : ℕ) → k < count → getD yes (getD nodes (base + k) 0) false ≡ true → r .cost ≤ getD costs (base + getD nodes (base + k) 0) 0
-  pub one : r .cost < unreached → (k : ℕ) × (k < count) × (getD nodes (base + k) 0 ≡ r .node .0) × (getD yes (r .node .0) false ≡ true) × (getD costs (base + r .node .0) 0 ≡ r .cost)
+  pub one : r .cost < NONE → (k : ℕ) × (k < count) × (getD nodes (base + k) 0 ≡ r .node .0) × (getD yes (r .node .0) false ≡ true) × (getD costs (base + r .node .0) 0 ≡ r .cost)

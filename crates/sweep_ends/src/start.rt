@@ -3,7 +3,8 @@ ghost use mathlib.Core.Path.{_≡_};
 ghost use mathlib.Core.List.{List, _++_};
 ghost use Prim.Native.Nat.{ℕ, _+_, _≤_, _<_};
 ghost use lib.ListN.{length, drop, replicate};
-ghost use Rattle.sweep_model.specs.Model.{unreached, rows};
+ghost use Rattle.definitions.specs.Basics.{NONE};
+ghost use Rattle.sweep_model.specs.Model.{rows};
 ghost use Rattle.sweep_ends.specs.Begin.{begunAt};
 use definitions::NONE;
 use definitions::Node;
@@ -12,7 +13,7 @@ use definitions::Stage;
 // The first `pairs` costs become NONE.
 pub fn clear(costs: &mut [u32], pairs: usize)
     requires { ⌜ pairs ≤ length (now costs) ⌝ }
-    ensures { λ _. ⌜ now (costs .exit) ≡ replicate pairs unreached ++ drop pairs (now (costs .entry)) ⌝ }
+    ensures { λ _. ⌜ now (costs .exit) ≡ replicate pairs NONE ++ drop pairs (now (costs .entry)) ⌝ }
 {
     let mut i: usize = 0;
     while i < pairs {

@@ -5,14 +5,12 @@ use Prim.Native.Nat.{ℕ, zero, suc, _+_, _-_, _*_}
 use mathlib.Core.List.{List}
 use lib.Dec.{leb, eqb}
 use lib.ListN.{getD, set}
-use Rattle.definitions.specs.Basics.{pick}
+use Rattle.definitions.specs.Basics.{NONE, pick}
 use Rattle.definitions.specs.Ways.{Graph}
 use Rattle.definitions.specs.Pairs.{Automaton, pair}
 use Rattle.trace.specs.Trails.{packed}
 
 -- the mark of a pair that is not reached
-abbrev pub unreached : ℕ
-unreached = 4294967295
 
 -- by pair: its cost, and the step and node by which it got it; by row: the reached nodes, in the order in which they were; by stage: how many they are
 pub record Rows : Type 0 where
@@ -40,7 +38,7 @@ joined base s t r = rows (r .cost) (r .via) (set (r .nodes) (base + countAt r s)
 unfoldable pub offer : ℕ → ℕ → ℕ → ℕ → ℕ → Rows → Rows
 offer base s t v mark r =
     pick (leb (getD (r .cost) (base + t) 0) v) r
-    (pick (eqb (getD (r .cost) (base + t) 0) unreached) (lowered (base + t) v mark (joined base s t r))
+    (pick (eqb (getD (r .cost) (base + t) 0) NONE) (lowered (base + t) v mark (joined base s t r))
     (lowered (base + t) v mark r))
 
 -- rows of `width` pairs

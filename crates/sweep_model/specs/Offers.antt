@@ -10,7 +10,7 @@ use lib.Dec.{leb, eqb}
 use lib.ListN.{length, getD, set, drop, length-set}
 use lib.Seq.{getD-set-same, getD-set-other, drop-set-lt}
 use borrow.Author.Tests.{leb-true, leb-false, eqb-true, eqb-false, lt-ltb, le-ltb}
-use Rattle.definitions.specs.Basics.{pick}
+use Rattle.definitions.specs.Basics.{NONE, pick}
 use Rattle.definitions.specs.Ways.{Graph}
 use Rattle.definitions.specs.Pairs.{Automaton, pair, pairs}
 use Rattle.theory.specs.Limits.{Valid}
@@ -20,7 +20,7 @@ use Rattle.theory.specs.Pairs.{Lawful, WayTo, way-next, pair-apart, pair-inside
 use Rattle.theory.specs.Counting.{room}
 use Rattle.sweep_model.specs.Totals.{total, total-same, total-bump}
 use Rattle.trace.specs.Trails.{packed}
-use Rattle.sweep_model.specs.Model.{unreached, Rows, costAt, nodeAt, countAt, lowered, joined, offer}
+use Rattle.sweep_model.specs.Model.{Rows, costAt, nodeAt, countAt, lowered, joined, offer}
 use Rattle.sweep_model.specs.Rows.{one, Entry, Table, Later, Past, later-same, past-same, entry-low, count-fits}
 
 -- what an offer leaves
@@ -32,7 +32,7 @@ pub record Offered (g : Graph) (a : Automaton) (s to t v : ℕ) (r r′ : Rows) 
 
 -- the offer of node n of stage s, at cost x, by step e
 module _ (g : Graph) (a : Automaton) (v : Valid g) (l : Lawful g a) (s n e x : ℕ) (r : Rows) (tab : Table g a (suc s) r)
-    (hs : s < g .stages) (hn : n < a .size) (costs : costAt (a .size) r s n ≡ x) (low : x < unreached) (he : e < g .count) (hf : g .from e ≡ s)
+    (hs : s < g .stages) (hn : n < a .size) (costs : costAt (a .size) r s n ≡ x) (low : x < NONE) (he : e < g .count) (hf : g .from e ≡ s)
     (nz : a .next e n ≡ 0 → ⊥) where
   -- the pair that is offered the cost y: stage S, node T, numbered q
   abbrev S : ℕ
@@ -66,7 +66,7 @@ module _ (g : Graph) (a : Automaton) (v : Valid g) (l : Lawful g a) (s n e x : �
   new-way : WayTo g a S T y
   new-way = way-next g a s n x e (subst (WayTo g a s n) costs (source .way)) he hf
 
-  y-low : y < unreached
+  y-low : y < NONE
   y-low = omega (arith, entry-low g a v r (suc s) s n source, step-cheap g v e he)
 
   -- a table whose cost and via have the offer in them
@@ -94,10 +94,10 @@ module _ (g : Graph) (a : Automaton) (v : Valid g) (l : Lawful g a) (s n e x : �
         go (here b c d f) = absurd (omega (arith, later-stage))
         go (other b c d) = c
 
-    cell′ : (s′ n′ : ℕ) → s′ < g .stages → n′ < a .size → (costAt (a .size) r′ s′ n′ ≡ unreached) ⊎ Entry g a r′ (suc s) s′ n′
+    cell′ : (s′ n′ : ℕ) → s′ < g .stages → n′ < a .size → (costAt (a .size) r′ s′ n′ ≡ NONE) ⊎ Entry g a r′ (suc s) s′ n′
     cell′ s′ n′ h i = go (at s′ n′ i)
       where
-        go : At s′ n′ → (costAt (a .size) r′ s′ n′ ≡ unreached) ⊎ Entry g a r′ (suc s) s′ n′
+        go : At s′ n′ → (costAt (a .size) r′ s′ n′ ≡ NONE) ⊎ Entry g a r′ (suc s) s′ n′
         go (here b c d f) = inr (record {
           nonzero = λ z. nz (sym c ∙ z);
           way = subst (WayTo g a s′ n′) (sym d) (subst (λ (i : ℕ). WayTo g a i n′ y) (sym b) (subst (λ (j : ℕ). WayTo g a S j y) (sym c) new-way));
@@ -133,7 +133,7 @@ module _ (g : Graph) (a : Automaton) (v : Valid g) (l : Lawful g a) (s n e x : �
               }));
             }))
 
-    lower′ : costAt (a .size) r S T ≤ unreached → y < costAt (a .size) r S T → (s′ n′ : ℕ) → s′ < g .stages → n′ < a .size → costAt (a .size) r′ s′ n′ ≤ costAt (a .size) r s′ n′
+    lower′ : costAt (a .size) r S T ≤ NONE → y < costAt (a .size) r S T → (s′ n′ : ℕ) → s′ < g .stages → n′ < a .size → costAt (a .size) r′ s′ n′ ≤ costAt (a .size) r s′ n′
     lower′ b less s′ n′ h i = go (at s′ n′ i)
       where
         go : At s′ n′ → costAt (a .size) r′ s′ n′ ≤ costAt (a .size) r s′ n′
@@ -155,10 +155,10 @@ module _ (g : Graph) (a : Automaton) (v : Valid g) (l : Lawful g a) (s n e x : �
     cost-here = ap (λ (z : List ℕ). getD z q 0) ec ∙ getD-set-same (r .cost) q y 0 (omega (arith, tab .cost-fits, pair-fits))
 
     -- which pairs are reached afterwards
-    reached-before : (s′ n′ : ℕ) → n′ < a .size → costAt (a .size) r s′ n′ < unreached → costAt (a .size) r′ s′ n′ < unreached
+    reached-before : (s′ n′ : ℕ) → n′ < a .size → costAt (a .size) r s′ n′ < NONE → costAt (a .size) r′ s′ n′ < NONE
     reached-before s′ n′ i h = go (at s′ n′ i)
       where
-        go : At s′ n′ → costAt (a .size) r′ s′ n′ < unreached
+        go : At s′ n′ → costAt (a .size) r′ s′ n′ < NONE
         go (here b c d f) = omega (arith, y-low)
         go (other b c d) = omega arith
 
@@ -174,7 +174,7 @@ module _ (g : Graph) (a : Automaton) (v : Valid g) (l : Lawful g a) (s n e x : �
     }
 
   -- the pair has a higher cost already
-  better : costAt (a .size) r S T < unreached → y < costAt (a .size) r S T → Offered g a s S T y r (lowered q y (packed e n) r)
+  better : costAt (a .size) r S T < NONE → y < costAt (a .size) r S T → Offered g a s S T y r (lowered q y (packed e n) r)
   better k h = record {
     table = record {
       cost-fits = omega (arith, tab .cost-fits, length-set (r .cost) q y);
@@ -200,20 +200,20 @@ module _ (g : Graph) (a : Automaton) (v : Valid g) (l : Lawful g a) (s n e x : �
       r′ : Rows
       r′ = lowered q y (packed e n) r
 
-      was : (s′ n′ : ℕ) → n′ < a .size → costAt (a .size) r′ s′ n′ < unreached → At r′ refl refl s′ n′ → costAt (a .size) r s′ n′ < unreached
+      was : (s′ n′ : ℕ) → n′ < a .size → costAt (a .size) r′ s′ n′ < NONE → At r′ refl refl s′ n′ → costAt (a .size) r s′ n′ < NONE
       was s′ n′ i b (here c d f z) = omega (arith, ap₂ (λ (i j : ℕ). costAt (a .size) r i j) c d)
       was s′ n′ i b (other c d f) = omega arith
 
       same-one : one (getD (r′ .cost) q 0) ≡ one (getD (r .cost) q 0)
       same-one =
-          ap (λ (z : ℕ). one z) (cost-here r′ refl refl) ∙ pick-true _ _ _ (lt-ltb y unreached y-low)
-          ∙ sym (pick-true _ _ _ (lt-ltb (costAt (a .size) r S T) unreached k))
+          ap (λ (z : ℕ). one z) (cost-here r′ refl refl) ∙ pick-true _ _ _ (lt-ltb y NONE y-low)
+          ∙ sym (pick-true _ _ _ (lt-ltb (costAt (a .size) r S T) NONE k))
 
   abbrev k₀ : ℕ
   k₀ = countAt r S
 
   -- the pair is reached for the first time
-  module _ (new : costAt (a .size) r S T ≡ unreached) where
+  module _ (new : costAt (a .size) r S T ≡ NONE) where
     pub roomy : k₀ < a .size
     roomy =
         room (a .size) k₀ T (λ (j : ℕ). nodeAt (a .size) r S j) (λ j i. tab .lists S j stage-inside i .0) (λ j k i c. tab .once S j k stage-inside i c) node-inside
@@ -272,10 +272,10 @@ module _ (g : Graph) (a : Automaton) (v : Valid g) (l : Lawful g a) (s n e x : �
             let z : j < countAt r s′ = omega (arith, count-other s′ b) in
             at-place z (place s′ j (omega (arith, count-fits g a (suc s) r tab s′ h))) (λ d _. b d)
 
-    lists″ : (s′ j : ℕ) → s′ < g .stages → j < countAt r″ s′ → (nodeAt (a .size) r″ s′ j < a .size) × (costAt (a .size) r″ s′ (nodeAt (a .size) r″ s′ j) < unreached)
+    lists″ : (s′ j : ℕ) → s′ < g .stages → j < countAt r″ s′ → (nodeAt (a .size) r″ s′ j < a .size) × (costAt (a .size) r″ s′ (nodeAt (a .size) r″ s′ j) < NONE)
     lists″ s′ j h i = go (member s′ j h i)
       where
-        go : Member s′ j → (nodeAt (a .size) r″ s′ j < a .size) × (costAt (a .size) r″ s′ (nodeAt (a .size) r″ s′ j) < unreached)
+        go : Member s′ j → (nodeAt (a .size) r″ s′ j < a .size) × (costAt (a .size) r″ s′ (nodeAt (a .size) r″ s′ j) < NONE)
         go (last b c d) = rw d (node-inside, omega (arith, y-low, ap (λ (i : ℕ). costAt (a .size) r″ i T) b, taken′ r″ refl refl))
         go (older b c d) = let u = tab .lists s′ j h b in rw d (u .0, reached-before r″ refl refl s′ (nodeAt (a .size) r s′ j) (u .0) (u .1))
 
@@ -292,7 +292,7 @@ module _ (g : Graph) (a : Automaton) (v : Valid g) (l : Lawful g a) (s n e x : �
         go (older b f z) (last b′ f′ z′) = absurd (not-new s′ j h b′ b (sym z ∙ d ∙ z′))
         go (older b f z) (older b′ f′ z′) = tab .once s′ j k h b b′ (sym z ∙ d ∙ z′)
 
-    listed″ : (s′ n′ : ℕ) → s′ < g .stages → n′ < a .size → costAt (a .size) r″ s′ n′ < unreached → (k : ℕ) × (k < countAt r″ s′) × (nodeAt (a .size) r″ s′ k ≡ n′)
+    listed″ : (s′ n′ : ℕ) → s′ < g .stages → n′ < a .size → costAt (a .size) r″ s′ n′ < NONE → (k : ℕ) × (k < countAt r″ s′) × (nodeAt (a .size) r″ s′ k ≡ n′)
     listed″ s′ n′ h i low′ = go (at r″ refl refl s′ n′ i)
       where
         new-place : s′ ≡ S → n′ ≡ T → In s′ k₀ → (k : ℕ) × (k < countAt r″ s′) × (nodeAt (a .size) r″ s′ k ≡ n′)
@@ -319,8 +319,8 @@ module _ (g : Graph) (a : Automaton) (v : Valid g) (l : Lawful g a) (s n e x : �
       where
         one-more : one (getD (r″ .cost) q 0) ≡ one (getD (r .cost) q 0) + 1
         one-more =
-            let b : one (getD (r″ .cost) q 0) ≡ 1 = ap (λ (z : ℕ). one z) (cost-here r″ refl refl) ∙ pick-true _ _ _ (lt-ltb y unreached y-low) in
-            let c : one (getD (r .cost) q 0) ≡ 0 = pick-false _ _ _ (le-ltb (costAt (a .size) r S T) unreached (omega arith)) in
+            let b : one (getD (r″ .cost) q 0) ≡ 1 = ap (λ (z : ℕ). one z) (cost-here r″ refl refl) ∙ pick-true _ _ _ (lt-ltb y NONE y-low) in
+            let c : one (getD (r .cost) q 0) ≡ 0 = pick-false _ _ _ (le-ltb (costAt (a .size) r S T) NONE (omega arith)) in
             omega arith
 
     fresh : Offered g a s S T y r r″
@@ -353,16 +353,16 @@ module _ (g : Graph) (a : Automaton) (v : Valid g) (l : Lawful g a) (s n e x : �
   -- what an offer leaves, in each case
   pub offered : Offered g a s S T y r (offer (S * a .size) S T y (packed e n) r)
   unfolding offer pick
-  offered = go (leb (costAt (a .size) r S T) y) refl (eqb (costAt (a .size) r S T) unreached) refl
+  offered = go (leb (costAt (a .size) r S T) y) refl (eqb (costAt (a .size) r S T) NONE) refl
     where
-      in-table : (costAt (a .size) r S T ≡ unreached) ⊎ Entry g a r (suc s) S T
+      in-table : (costAt (a .size) r S T ≡ NONE) ⊎ Entry g a r (suc s) S T
       in-table = tab .cell S T stage-inside node-inside
 
-      go : (b : Bool) → leb (costAt (a .size) r S T) y ≡ b → (c : Bool) → eqb (costAt (a .size) r S T) unreached ≡ c
+      go : (b : Bool) → leb (costAt (a .size) r S T) y ≡ b → (c : Bool) → eqb (costAt (a .size) r S T) NONE ≡ c
           → Offered g a s S T y r (pick b r (pick c (lowered q y (packed e n) (joined (S * a .size) S T r)) (lowered q y (packed e n) r)))
       go true d c f = record { table = tab; later = later-same g a s r; past = past-same g a r; taken = leb-true (costAt (a .size) r S T) y d }
-      go false d true f = fresh (eqb-true (costAt (a .size) r S T) unreached f)
+      go false d true f = fresh (eqb-true (costAt (a .size) r S T) NONE f)
       go false d false f =
           better
-          (either in-table (λ u. absurd (eqb-false (costAt (a .size) r S T) unreached f u)) (λ u. omega (arith, entry-low g a v r (suc s) S T u)))
+          (either in-table (λ u. absurd (eqb-false (costAt (a .size) r S T) NONE f u)) (λ u. omega (arith, entry-low g a v r (suc s) S T u)))
           (leb-false (costAt (a .size) r S T) y d)

@@ -6,6 +6,7 @@ use mathlib.Core.List.{List, [], _∷_}
 use mathlib.Core.Logic.{_⊎_, inl, inr}
 use native.Mathlib.Omega.{arith}
 use lib.ListN.{length, getD}
+use Rattle.definitions.specs.Basics.{NONE}
 use Rattle.definitions.specs.Ways.{Graph, wayCost}
 use Rattle.definitions.specs.Pairs.{Automaton}
 use Rattle.theory.specs.Limits.{Valid}
@@ -13,7 +14,7 @@ use Rattle.theory.specs.Basics.{either}
 use Rattle.theory.specs.Ways.{way-climbs}
 use Rattle.theory.specs.Pairs.{WayTo, way-start, way-next}
 use Rattle.trace.specs.Trails.{packed, Trail, begin, more}
-use Rattle.sweep_model.specs.Model.{unreached, Rows, costAt}
+use Rattle.sweep_model.specs.Model.{Rows, costAt}
 use Rattle.sweep_model.specs.Rows.{Via, Entry, Table}
 
 -- the steps of a trail to a pair are a way to it, at this cost
@@ -62,7 +63,7 @@ module _ (g : Graph) (a : Automaton) (v : Valid g) (below : ℕ) (r : Rows) (t :
       subst (Traced g a (r .via) from s n) (sym (x .costs))
       (step-traced s n (x .step) (x .node) (costAt (a .size) r (g .from (x .step)) (x .node)) (x .exists) (x .inside) (x .enters) (x .packs) (x .advances) (ih x))
 
-  traced-to : (fuel s n : ℕ) → s ≤ fuel → s < g .stages → n < a .size → costAt (a .size) r s n < unreached
+  traced-to : (fuel s n : ℕ) → s ≤ fuel → s < g .stages → n < a .size → costAt (a .size) r s n < NONE
       → Traced g a (r .via) from s n (costAt (a .size) r s n)
   traced-to zero s n f hs hn low =
       either (t .cell s n hs hn) (λ u. absurd (omega arith)) (λ e. came s n e (e .came) (λ x. absurd (omega (arith, v .forward (x .step) (x .exists), x .enters))))
@@ -73,5 +74,5 @@ module _ (g : Graph) (a : Automaton) (v : Valid g) (below : ℕ) (r : Rows) (t :
       traced-to fuel (g .from (x .step)) (x .node) (omega (arith, x .enters)) (omega (arith, x .enters)) (x .inside) (x .reached)))
 
   -- every reached pair of the table
-  pub traced : (s n : ℕ) → s < g .stages → n < a .size → costAt (a .size) r s n < unreached → Traced g a (r .via) from s n (costAt (a .size) r s n)
+  pub traced : (s n : ℕ) → s < g .stages → n < a .size → costAt (a .size) r s n < NONE → Traced g a (r .via) from s n (costAt (a .size) r s n)
   traced s n = traced-to s s n (omega arith)

@@ -11,7 +11,7 @@ use lib.Dec.{ltb, eqb}
 use lib.ListN.{length, getD, set, take, drop, length-set, length-take, take-append-drop}
 use lib.Seq.{getD-set-same, getD-set-other, drop-set-lt, ext-getD, getD-take}
 use borrow.Author.Tests.{eqb-true, eqb-false, lt-ltb, le-ltb}
-use Rattle.definitions.specs.Basics.{pick, isSome, upto}
+use Rattle.definitions.specs.Basics.{NONE, pick, isSome, upto}
 use Rattle.definitions.specs.Ways.{Graph, IsWay, endOf, wayCost}
 use Rattle.definitions.specs.Pairs.{Automaton, stands, pair, pairs, stageOf, nodeOf, leastCost, reached, reachedPairs}
 use Rattle.theory.specs.Limits.{Valid}
@@ -21,7 +21,7 @@ use Rattle.theory.specs.Least.{least-unique}
 use Rattle.theory.specs.Ways.{way-bounded}
 use Rattle.theory.specs.Pairs.{Lawful, WayTo, way-start, way-inside, pair-apart, pair-inside, pair-of, nodeOf-inside, stageOf-inside, stands-dead, leastCost-zero, leastCost-least, cost-attained}
 use Rattle.sweep_model.specs.Totals.{total, total-same, total-bump, keep-total}
-use Rattle.sweep_model.specs.Model.{unreached, Rows, rows, costAt, nodeAt, countAt, begun, swept}
+use Rattle.sweep_model.specs.Model.{Rows, rows, costAt, nodeAt, countAt, begun, swept}
 use Rattle.sweep_model.specs.Rows.{one, Entry, Table, Past, past-same, past-trans}
 use Rattle.sweep_model.specs.Sweeps.{FirstSteps, Done, Swept, rows-made}
 
@@ -31,7 +31,7 @@ pub record Fresh (g : Graph) (a : Automaton) (r : Rows) : Type 0 where
   pub via-fits : pairs g a ≤ length (r .via)
   pub nodes-fits : pairs g a ≤ length (r .nodes)
   pub counts-fits : g .stages ≤ length (r .counts)
-  pub no-cost : (p : ℕ) → p < pairs g a → getD (r .cost) p 0 ≡ unreached
+  pub no-cost : (p : ℕ) → p < pairs g a → getD (r .cost) p 0 ≡ NONE
   pub no-node : (s : ℕ) → s < g .stages → getD (r .counts) s 0 ≡ 0
 
 -- tables after the sweep: each pair has its least cost, and the lists have the reached pairs
@@ -46,17 +46,17 @@ total-zero f zero h = refl
 total-zero f (suc n) h = omega (arith, total-zero f n (λ i l. h i (omega arith)), h n (omega arith))
 
 -- a shown cost is below the mark where there is one
-mark-of : (o : Option ℕ) → ((m : ℕ) → o ≡ some m → m < unreached) → one (shown o) ≡ pick (isSome o) 1 0
+mark-of : (o : Option ℕ) → ((m : ℕ) → o ≡ some m → m < NONE) → one (shown o) ≡ pick (isSome o) 1 0
 unfolding pick
 mark-of none h = refl
-mark-of (some m) h = pick-true (ltb m unreached) 1 0 (lt-ltb m unreached (h m refl))
+mark-of (some m) h = pick-true (ltb m NONE) 1 0 (lt-ltb m NONE (h m refl))
 
 module _ (g : Graph) (a : Automaton) (v : Valid g) (l : Lawful g a) (r : Rows) (new : Fresh g a r) where
-  blank : (s n : ℕ) → s < g .stages → n < a .size → costAt (a .size) r s n ≡ unreached
+  blank : (s n : ℕ) → s < g .stages → n < a .size → costAt (a .size) r s n ≡ NONE
   blank s n h i = new .no-cost (pair a s n) (pair-inside g a s n h i)
 
   no-marks : total (λ p. one (getD (r .cost) p 0)) (pairs g a) ≡ 0
-  no-marks = total-zero _ (pairs g a) (λ p h. pick-false _ _ _ (le-ltb (getD (r .cost) p 0) unreached (omega (arith, new .no-cost p h))))
+  no-marks = total-zero _ (pairs g a) (λ p h. pick-false _ _ _ (le-ltb (getD (r .cost) p 0) NONE (omega (arith, new .no-cost p h))))
 
   -- the root is 0: nothing is reached
   empty-table : Table g a (g .start) r
@@ -107,7 +107,7 @@ module _ (g : Graph) (a : Automaton) (v : Valid g) (l : Lawful g a) (r : Rows) (
         either (same-or-not s (g .start)) (λ b. (b, omega (arith, start-count, ap (countAt r₁) b)))
         (λ b. absurd (omega (arith, other-count s b, new .no-node s h)))
 
-    begun-cell : (s n : ℕ) → s < g .stages → n < a .size → (costAt (a .size) r₁ s n ≡ unreached) ⊎ ((s ≡ g .start) × (n ≡ a .root))
+    begun-cell : (s n : ℕ) → s < g .stages → n < a .size → (costAt (a .size) r₁ s n ≡ NONE) ⊎ ((s ≡ g .start) × (n ≡ a .root))
     begun-cell s n h i =
         either (same-or-not (pair a s n) q) (λ b. inr (pair-apart a s n (g .start) (a .root) i (l .root-inside) b))
         (λ b. inl (other-cost (pair a s n) b ∙ blank s n h i))
@@ -139,15 +139,15 @@ module _ (g : Graph) (a : Automaton) (v : Valid g) (l : Lawful g a) (r : Rows) (
           came = inl (b, c);
         }
 
-        first-entry : (s k : ℕ) → s ≡ g .start → k ≡ 0 → (nodeAt (a .size) r₁ s k < a .size) × (costAt (a .size) r₁ s (nodeAt (a .size) r₁ s k) < unreached)
+        first-entry : (s k : ℕ) → s ≡ g .start → k ≡ 0 → (nodeAt (a .size) r₁ s k < a .size) × (costAt (a .size) r₁ s (nodeAt (a .size) r₁ s k) < NONE)
         first-entry s k b c =
             let z : nodeAt (a .size) r₁ s k ≡ a .root = ap₂ (λ (i j : ℕ). nodeAt (a .size) r₁ i j) b c ∙ start-node in
             rw z (l .root-inside, omega (arith, start-cost, ap (λ (i : ℕ). costAt (a .size) r₁ i (a .root)) b))
 
         one-more : one (getD (r₁ .cost) q 0) ≡ one (getD (r .cost) q 0) + 1
         one-more =
-            let b : one (getD (r₁ .cost) q 0) ≡ 1 = ap (λ (z : ℕ). one z) start-cost ∙ pick-true _ _ _ (lt-ltb 0 unreached (omega arith)) in
-            let c : one (getD (r .cost) q 0) ≡ 0 = pick-false _ _ _ (le-ltb (getD (r .cost) q 0) unreached (omega (arith, new .no-cost q q-inside))) in
+            let b : one (getD (r₁ .cost) q 0) ≡ 1 = ap (λ (z : ℕ). one z) start-cost ∙ pick-true _ _ _ (lt-ltb 0 NONE (omega arith)) in
+            let c : one (getD (r .cost) q 0) ≡ 0 = pick-false _ _ _ (le-ltb (getD (r .cost) q 0) NONE (omega (arith, new .no-cost q q-inside))) in
             omega arith
 
   module _ (first : ℕ → ℕ) (F : FirstSteps g first) where
@@ -206,7 +206,7 @@ module _ (g : Graph) (a : Automaton) (v : Valid g) (l : Lawful g a) (r : Rows) (
     final-past = past-trans g a r (begun g a r) final (begins .past) (all-rows .past)
 
     -- along a way from a pair of cost at most k the costs are at most k and the cost of the way
-    along : (w : List ℕ) (s n k : ℕ) → IsWay g s w → s < g .stages → n < a .size → costAt (a .size) final s n ≤ k → k + wayCost g w < unreached
+    along : (w : List ℕ) (s n k : ℕ) → IsWay g s w → s < g .stages → n < a .size → costAt (a .size) final s n ≤ k → k + wayCost g w < NONE
         → (stands a n w ≡ 0 → ⊥) → costAt (a .size) final (endOf g s w) (stands a n w) ≤ k + wayCost g w
     unfolding stands
     along [] s n k i h j c b z = omega arith
@@ -233,7 +233,7 @@ module _ (g : Graph) (a : Automaton) (v : Valid g) (l : Lawful g a) (r : Rows) (
             sym (ap shown (least-unique (WayTo g a s n) (leastCost g a s n) (some (costAt (a .size) final s n)) (leastCost-least g a v s n (e .nonzero))
             (e .way, λ k w. lower-bound s n k (e .nonzero) w)))
 
-        unseen : costAt (a .size) final s n ≡ unreached → costAt (a .size) final s n ≡ shown (leastCost g a s n)
+        unseen : costAt (a .size) final s n ≡ NONE → costAt (a .size) final s n ≡ shown (leastCost g a s n)
         unseen u = either (same-or-not n 0) (λ z. u ∙ sym (ap shown (ap (leastCost g a s) z ∙ leastCost-zero g a s)))
             (λ z. u ∙ sym (ap shown (least-unique (WayTo g a s n) (leastCost g a s n) none (leastCost-least g a v s n z)
             (λ k w. omega (arith, lower-bound s n k z w, way-inside g a v l s n k w)))))

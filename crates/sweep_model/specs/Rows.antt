@@ -6,7 +6,7 @@ use mathlib.Core.Logic.{_⊎_, inl, inr}
 use native.Mathlib.Omega.{arith}
 use lib.Dec.{ltb}
 use lib.ListN.{length, getD, drop}
-use Rattle.definitions.specs.Basics.{pick}
+use Rattle.definitions.specs.Basics.{NONE, pick}
 use Rattle.definitions.specs.Ways.{Graph}
 use Rattle.definitions.specs.Pairs.{Automaton, pair, pairs}
 use Rattle.theory.specs.Limits.{Valid}
@@ -16,11 +16,11 @@ use Rattle.theory.specs.Pairs.{WayTo}
 use Rattle.theory.specs.Counting.{pigeons}
 use Rattle.sweep_model.specs.Totals.{total}
 use Rattle.trace.specs.Trails.{packed}
-use Rattle.sweep_model.specs.Model.{unreached, Rows, costAt, nodeAt, countAt}
+use Rattle.sweep_model.specs.Model.{Rows, costAt, nodeAt, countAt}
 
 -- 1 where a cost is not the mark
 abbrev pub one : ℕ → ℕ
-one cost = pick (ltb cost unreached) 1 0
+one cost = pick (ltb cost NONE) 1 0
 
 module _ (g : Graph) (a : Automaton) where
   -- the step and the node by which the pair of stage s and node n got its cost; the step leaves a stage below `below`
@@ -32,7 +32,7 @@ module _ (g : Graph) (a : Automaton) where
     pub leaves : g .from step < below
     pub enters : g .to step ≡ s
     pub inside : node < a .size
-    pub reached : costAt (a .size) r (g .from step) node < unreached
+    pub reached : costAt (a .size) r (g .from step) node < NONE
     pub advances : a .next step node ≡ n
     pub costs : costAt (a .size) r s n ≡ costAt (a .size) r (g .from step) node + g .cost step
 
@@ -47,10 +47,10 @@ module _ (g : Graph) (a : Automaton) where
     pub via-fits : pairs g a ≤ length (r .via)
     pub nodes-fits : pairs g a ≤ length (r .nodes)
     pub counts-fits : g .stages ≤ length (r .counts)
-    pub cell : (s n : ℕ) → s < g .stages → n < a .size → (costAt (a .size) r s n ≡ unreached) ⊎ Entry r below s n
-    pub lists : (s k : ℕ) → s < g .stages → k < countAt r s → (nodeAt (a .size) r s k < a .size) × (costAt (a .size) r s (nodeAt (a .size) r s k) < unreached)
+    pub cell : (s n : ℕ) → s < g .stages → n < a .size → (costAt (a .size) r s n ≡ NONE) ⊎ Entry r below s n
+    pub lists : (s k : ℕ) → s < g .stages → k < countAt r s → (nodeAt (a .size) r s k < a .size) × (costAt (a .size) r s (nodeAt (a .size) r s k) < NONE)
     pub once : (s j k : ℕ) → s < g .stages → j < countAt r s → k < countAt r s → nodeAt (a .size) r s j ≡ nodeAt (a .size) r s k → j ≡ k
-    pub listed : (s n : ℕ) → s < g .stages → n < a .size → costAt (a .size) r s n < unreached → (k : ℕ) × (k < countAt r s) × (nodeAt (a .size) r s k ≡ n)
+    pub listed : (s n : ℕ) → s < g .stages → n < a .size → costAt (a .size) r s n < NONE → (k : ℕ) × (k < countAt r s) × (nodeAt (a .size) r s k ≡ n)
     pub counted : total (countAt r) (g .stages) ≡ total (λ p. one (getD (r .cost) p 0)) (pairs g a)
 
   -- r′ comes after r while row s is relaxed: no cost has risen, and the rows up to s are as they were

@@ -6,14 +6,14 @@ use mathlib.Core.Bool.{Bool, true, false}
 use native.Mathlib.Omega.{arith}
 use lib.Dec.{eqb}
 use borrow.Author.Tests.{eqb-true, eqb-false}
-use Rattle.definitions.specs.Basics.{pick}
+use Rattle.definitions.specs.Basics.{NONE, pick}
 use Rattle.definitions.specs.Ways.{Graph}
 use Rattle.definitions.specs.Pairs.{Automaton}
 use Rattle.theory.specs.Limits.{Valid}
 use Rattle.theory.specs.Basics.{either, same-or-not}
 use Rattle.theory.specs.Pairs.{Lawful}
 use Rattle.trace.specs.Trails.{packed}
-use Rattle.sweep_model.specs.Model.{unreached, Rows, costAt, nodeAt, countAt, offer, relaxStep, relaxSteps, relaxNode, relaxNodes, relaxRows}
+use Rattle.sweep_model.specs.Model.{Rows, costAt, nodeAt, countAt, offer, relaxStep, relaxSteps, relaxNode, relaxNodes, relaxRows}
 use Rattle.sweep_model.specs.Rows.{Table, Later, Past, later-same, later-trans, past-same, past-trans, table-more, count-fits}
 use Rattle.sweep_model.specs.Offers.{offered}
 
@@ -37,7 +37,7 @@ module _ (g : Graph) (a : Automaton) (v : Valid g) (l : Lawful g a) where
     pub past : Past g a r r′
     pub made : (n x f : ℕ) → Made n x f → Offer r′ n x f
 
-  module _ (s n x : ℕ) (hs : s < g .stages) (hn : n < a .size) (low : x < unreached) where
+  module _ (s n x : ℕ) (hs : s < g .stages) (hn : n < a .size) (low : x < NONE) where
     pub step-made : (e : ℕ) (r : Rows) → Table g a (suc s) r → costAt (a .size) r s n ≡ x → e < g .count → g .from e ≡ s
         → Relaxed s (λ m y f. (m ≡ n) × (y ≡ x) × (f ≡ e)) r (relaxStep g a n x e r)
     unfolding relaxStep pick
@@ -143,7 +143,7 @@ module _ (g : Graph) (a : Automaton) (v : Valid g) (l : Lawful g a) where
 
     -- every step from every reached pair of a stage below s has been offered
     abbrev pub Done : ℕ → Rows → Type 0
-    Done s r = (t n f : ℕ) → t < s → n < a .size → costAt (a .size) r t n < unreached → f < g .count → g .from f ≡ t → Offer r n (costAt (a .size) r t n) f
+    Done s r = (t n f : ℕ) → t < s → n < a .size → costAt (a .size) r t n < NONE → f < g .count → g .from f ≡ t → Offer r n (costAt (a .size) r t n) f
 
     pub record Swept (s : ℕ) (r r′ : Rows) : Type 0 where
       pub table : Table g a s r′
@@ -159,7 +159,7 @@ module _ (g : Graph) (a : Automaton) (v : Valid g) (l : Lawful g a) where
           table = x .table;
           done = λ u n f hu hn k he hf.
               let same = x .later .cost-same u n (omega arith) hn in
-              let k′ : costAt (a .size) r u n < unreached = omega arith in
+              let k′ : costAt (a .size) r u n < NONE = omega arith in
               either (same-or-not u s)
               (λ q.
               let w = t .listed s n hs hn (omega (arith, ap (λ (i : ℕ). costAt (a .size) r i n) q)) in

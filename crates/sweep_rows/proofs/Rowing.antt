@@ -5,10 +5,11 @@ use mathlib.Core.Path.{_≡_, refl, sym, _∙_, ap, ap₂, subst}
 use mathlib.Core.List.{List}
 use native.Mathlib.Omega.{arith}
 use lib.ListN.{length, getD}
+use Rattle.definitions.specs.Basics.{NONE}
 use Rattle.definitions.specs.Ways.{Graph}
 use Rattle.definitions.specs.Pairs.{Automaton}
 use Rattle.theory.specs.Pairs.{pair-inside}
-use Rattle.sweep_model.specs.Model.{unreached, Rows, costAt, nodeAt, countAt, relaxSteps, relaxNode, relaxNodes, relaxRows}
+use Rattle.sweep_model.specs.Model.{Rows, costAt, nodeAt, countAt, relaxSteps, relaxNode, relaxNodes, relaxRows}
 use Rattle.sweep_model.specs.Rows.{Table, table-more, count-fits}
 use Rattle.sweep_model.specs.Sweeps.{steps-made, nodes-made}
 use Rattle.checks.specs.Ready.{Walk, Ready, graphIn, automatonIn, width-is, lawful-in, few-stages, few-nodes, row-start}
@@ -72,7 +73,7 @@ module _ (z : Shape) (on : Walk) where
     narrow = omega (arith, width-is z (on .read) (x .ready .tables), few-nodes z (on .read) (x .ready .tables))
 
     module _ (more : k < count) where
-      listed : (nodeAt w r s k < w) × (costAt w r s (nodeAt w r s k) < unreached)
+      listed : (nodeAt w r s k < w) × (costAt w r s (nodeAt w r s k) < NONE)
       listed = x .table .lists s k (x .stage) (omega (arith, x .counted))
 
       pub row-place : base + k < length (r .nodes)

@@ -8,7 +8,7 @@ use lib.Dec.{eqb}
 use lib.ListN.{getD}
 use borrow.Author.Tests.{eq-eqb}
 use Rattle.theory.specs.Ways.{step-cheap}
-use Rattle.definitions.specs.Basics.{pick}
+use Rattle.definitions.specs.Basics.{NONE, pick}
 use Rattle.definitions.specs.Diagrams.{Diagram, size, advance}
 use Rattle.definitions.specs.Ways.{Graph}
 use Rattle.definitions.specs.Pairs.{Automaton}
@@ -20,7 +20,7 @@ use Rattle.diagram.specs.Tables.{Marked}
 use Rattle.nodes.specs.Falling.{lo-falls}
 use Rattle.nodes.specs.Walks.{lowered, Falls, Lowers, BranchesTo}
 use Rattle.nodes.specs.Lowered.{advance-lowered}
-use Rattle.sweep_model.specs.Model.{unreached, Rows, costAt, countAt, offer, relaxStep, relaxSteps}
+use Rattle.sweep_model.specs.Model.{Rows, costAt, countAt, offer, relaxStep, relaxSteps}
 use Rattle.sweep_model.specs.Rows.{Entry, entry-low}
 use Rattle.sweep_model.specs.Offers.{pair-fits, roomy, place-fits}
 use Rattle.sweep_model.specs.Sweeps.{step-made}
@@ -122,7 +122,7 @@ module _ {z : Shape} {on : Walk} {s n v begin until : ℕ} {r₀ r : Rows} {e m 
           let nz : a .next e n ≡ 0 → ⊥ = λ q. nt (et ∙ q) in
           let l = lawful-in z (on .read) tables in
           let fits = pair-fits g a (tables .valid) l s n e v r (standing .table) (standing .stage) (standing .node) (standing .costs) (standing .low) exists (leaving .1) nz in
-          let is-new : getD (r .cost) (getD row (getD to e 0) 0 + t) 0 ≡ unreached → costAt (a .size) r (g .to e) (a .next e n) ≡ unreached =
+          let is-new : getD (r .cost) (getD row (getD to e 0) 0 + t) 0 ≡ NONE → costAt (a .size) r (g .to e) (a .next e n) ≡ NONE =
           λ q. ap₂ (λ (i j : ℕ). getD (r .cost) (i + j) 0) (sym base-is) (sym et) ∙ q in
           let count-is′ : getD (r .counts) (getD to e 0) 0 ≡ countAt r (g .to e) = ap (λ (i : ℕ). getD (r .counts) i 0) to-is in
           record {

@@ -4,7 +4,8 @@ use Prim.Native.Nat.{ℕ, suc, _+_, _≤_, _<_}
 use mathlib.Core.Path.{_≡_}
 use mathlib.Core.List.{List}
 use lib.ListN.{getD}
-use Rattle.sweep_model.specs.Model.{unreached, Rows, costAt}
+use Rattle.definitions.specs.Basics.{NONE}
+use Rattle.sweep_model.specs.Model.{Rows, costAt}
 use Rattle.sweep_model.specs.Rows.{Table}
 use Rattle.checks.specs.Tables.{Read}
 use Rattle.checks.specs.Ready.{Walk, walk, Ready, graphIn, automatonIn}
@@ -17,7 +18,7 @@ pub record Standing (z : Shape) (on : Walk) (s n v : ℕ) (r : Rows) : Type 0 wh
   pub stage : s < z .stages
   pub node : n < automatonIn z (on .read) .size
   pub costs : costAt (automatonIn z (on .read) .size) r s n ≡ v
-  pub low : v < unreached
+  pub low : v < NONE
 
 -- node n stands in the tables at the cost v, as a node of some stage of some chart and diagram; the steps that leave the stage are those from `begin` to before `until`
 pub record Stands (t : Read) (row : List ℕ) (n v begin until : ℕ) (r : Rows) : Type 0 where

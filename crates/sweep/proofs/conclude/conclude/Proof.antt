@@ -2,7 +2,7 @@
 use Prim.Native.Nat.{_<_}
 use native.Mathlib.Omega.{arith}
 use borrow.Author.Needs.{needs}
-use Rattle.sweep_model.specs.Model.{unreached}
+use Rattle.definitions.specs.Basics.{NONE}
 use Rattle.sweep.proofs.Concluding.{end-falls, end-listed, end-traceable, concludes-none, concludes-some}
 use Rattle.sweep.proofs.conclude.conclude.Statement.{statement}
 use Rattle.sweep.proofs.conclude.conclude.Tie as tie
@@ -81,7 +81,7 @@ write-plan-requires c κs =
     let yes : tie.After-fill-finishing = search in
     let counted : tie.After-total-count = search in
     let start = start-of counted in
-    let cheap : chosen .cheapest-goal .result .cost < unreached = omega (arith, chosen .cheapest-goal .ensures .bounded, found .if1 .left) in
+    let cheap : chosen .cheapest-goal .result .cost < NONE = omega (arith, chosen .cheapest-goal .ensures .bounded, found .if1 .left) in
     (end-traceable (start .pre .0) (based .wide .ensures .0) (listed .wide2 .ensures .0) (yes .fill-finishing .ensures) (chosen .cheapest-goal .ensures) cheap, omega (arith, start .pre .0 .tables .valid .end-inside, start .pre .1))
 
 accepted-requires : tie.Need-accepted-requires
@@ -101,7 +101,7 @@ returns-2 c =
     let yes : tie.After-fill-finishing = search in
     let counted : tie.After-total-count = search in
     let start = start-of counted in
-    let cheap : chosen .cheapest-goal .result .cost < unreached = omega (arith, chosen .cheapest-goal .ensures .bounded, found .if1 .left) in
+    let cheap : chosen .cheapest-goal .result .cost < NONE = omega (arith, chosen .cheapest-goal .ensures .bounded, found .if1 .left) in
     let trail = end-traceable (start .pre .0) (based .wide .ensures .0) (listed .wide2 .ensures .0) (yes .fill-finishing .ensures) (chosen .cheapest-goal .ensures) cheap in
     concludes-some (start .pre .0) (based .wide .ensures .0) (listed .wide2 .ensures .0) (yes .fill-finishing .ensures) (chosen .cheapest-goal .ensures) cheap
     (counted .total-count .ensures) (written .write-plan .ensures trail) (omega (arith, written .write-plan .kept)) (answered .accepted .ensures)

@@ -6,18 +6,18 @@ use native.Mathlib.Omega.{arith}
 use borrow.Author.Needs.{needs}
 use lib.ListN.{length, drop, replicate, set}
 use borrow.Author.Fill.{fill-none, fill-more}
-use Rattle.sweep_model.specs.Model.{unreached}
+use Rattle.definitions.specs.Basics.{NONE}
 use Rattle.sweep_ends.proofs.start.clear.Statement.{statement}
 use Rattle.sweep_ends.proofs.start.clear.Tie as tie
 
 abbrev Inv-loop : tie.InvT-loop
-Inv-loop costs₀ pairs i₀ costs i = (i ≤ pairs) × (costs ≡ replicate i unreached ++ drop i costs₀) × (length costs ≡ length costs₀)
+Inv-loop costs₀ pairs i₀ costs i = (i ≤ pairs) × (costs ≡ replicate i NONE ++ drop i costs₀) × (length costs ≡ length costs₀)
 
 abbrev μ-loop : tie.MeasureT-loop
 μ-loop costs₀ pairs i₀ costs i = pairs - i
 
 loop-holds : tie.Need-loop-holds Inv-loop μ-loop
-loop-holds c = (search needs, fill-none (c .args .costs .now) unreached, refl)
+loop-holds c = (search needs, fill-none (c .args .costs .now) NONE, refl)
 
 mul-costs : tie.Need-mul-costs Inv-loop μ-loop
 mul-costs c = search needs
@@ -35,7 +35,7 @@ loop-again : tie.Need-loop-again Inv-loop μ-loop
 loop-again c =
     let head : tie.At-loop Inv-loop μ-loop = search in
     let start : tie.Start Inv-loop μ-loop = search in
-    (search needs, ap (λ l. set l (head .loop .i) unreached) (head .loop .inv .1) ∙ fill-more (head .loop .i) unreached (start .args .costs .now) (omega (arith, start .pre)), search needs)
+    (search needs, ap (λ l. set l (head .loop .i) NONE) (head .loop .inv .1) ∙ fill-more (head .loop .i) NONE (start .args .costs .now) (omega (arith, start .pre)), search needs)
 
 same-length : tie.Need-same-length Inv-loop μ-loop
 same-length c = search needs
@@ -45,7 +45,7 @@ returns c =
     let head : tie.At-loop Inv-loop μ-loop = search in
     let start : tie.Start Inv-loop μ-loop = search in
     let e : head .loop .i ≡ start .args .pairs = omega (arith, head .loop .inv .0) in
-    head .loop .inv .1 ∙ ap (λ (k : ℕ). replicate k unreached ++ drop k (start .args .costs .now)) e
+    head .loop .inv .1 ∙ ap (λ (k : ℕ). replicate k NONE ++ drop k (start .args .costs .now)) e
 
 pub clear-spec : {M : Type 1} → statement M
 clear-spec =
