@@ -5,8 +5,8 @@
     tools/run_files.py --check   writes nothing; says which files differ from those in the repository (exit status 1)
 
 Each case states its charts and diagrams as stages, steps and nodes, or byte by byte where a field is faulty. A refusal's line
-is written by hand. The lines of a plan and of refusal 8 are computed here by enumerating all ways, from document 01's
-definitions alone; a case in which they leave the plan or the settled count free is an error.
+is written by hand. The lines of a plan and of refusal 8 are computed here by enumerating all ways, by the
+rules of docs/REFERENCE.md alone; a case in which they leave the plan or the settled count free is an error.
 """
 import re
 import shutil
@@ -68,7 +68,7 @@ class Diagram(NamedTuple):
         return root(self.root) + b"".join(node(*n) for n in self.nodes)
 
 
-# ---- document 01's definitions
+# ---- the rules of docs/REFERENCE.md
 
 class Planned:
     """All ways of a chart from its start, the pairs they reach, and the estimates."""
@@ -179,10 +179,10 @@ class Planned:
 
 # ---- the cases
 
-DOCUMENT_CHART = Chart(5, 0, 4, ((0, 1, 40), (0, 1, 90), (1, 2, 200), (1, 3, 30), (2, 3, 20), (3, 4, 50)))
-DOCUMENT_RULES = Diagram(3, ((2, 0, 1), (0, 1, 2)))  # step 0 needs step 2
-DOCUMENT_LINES = ["cost 170", "step 1", "step 3", "step 5", "settled 4 reached 6"]
-CHART, RULES = DOCUMENT_CHART.file(), DOCUMENT_RULES.file()
+EXAMPLE_CHART = Chart(5, 0, 4, ((0, 1, 40), (0, 1, 90), (1, 2, 200), (1, 3, 30), (2, 3, 20), (3, 4, 50)))
+EXAMPLE_RULES = Diagram(3, ((2, 0, 1), (0, 1, 2)))  # step 0 needs step 2
+EXAMPLE_LINES = ["cost 170", "step 1", "step 3", "step 5", "settled 4 reached 6"]
+CHART, RULES = EXAMPLE_CHART.file(), EXAMPLE_RULES.file()
 
 ANYTHING = Diagram(1)  # every set of steps is allowed
 ONE_STAGE = Chart(1, 0, 0)
@@ -240,7 +240,7 @@ STEP_0, NODE_2 = step(0, 1, 40), node(2, 0, 1)
 
 # each case: what it shows, the chart, the diagram, and the line of a refusal. A file is a Chart or a Diagram, bytes, None (missing) or "folder"
 CASES = [
-    ("document 01's chart", DOCUMENT_CHART, DOCUMENT_RULES),
+    ("the example's chart", EXAMPLE_CHART, EXAMPLE_RULES),
     ("the header of a step is cut", *bad_chart(STEP_0 + b"\x02\x08", "refused 1 file 1 place 20")),
     ("the body of a step is cut", CHART[:-1], RULES, "refused 1 file 1 place 64"),
     ("the header of the chart's head is cut", b"\x01", RULES, "refused 1 file 1 place 0"),
@@ -288,7 +288,7 @@ CASES = [
     ("the 511th node, in a longer file", *bad_rules(NODE_2 * 2000, "refused 6 file 2 place 4595")),
     ("129 stages, N 32", TOO_WIDE, odd_of(dearer(TOO_WIDE)), "refused 7 file 0 place 0"),
     ("128 stages, N 32", FULL, odd_of(dearer(FULL))),
-    ("two steps that no way has both of", DOCUMENT_CHART, all_of([(0, True), (1, True)])),
+    ("two steps that no way has both of", EXAMPLE_CHART, all_of([(0, True), (1, True)])),
     ("one stage, no steps, root 1", ONE_STAGE, ANYTHING),
     ("the same with root 0", ONE_STAGE, Diagram(0)),
     ("a goal pair whose node is inner", Chart(3, 0, 2, ((0, 2, 5), (1, 2, 1))), Diagram(2, ((1, 1, 0),))),
@@ -296,9 +296,9 @@ CASES = [
     ("256 stages, 255 steps, N 16", line_chart(256, lambda s: 1000000), all_of([(e * 18, True) for e in range(14)])),
 ]
 
-# what document 01 says of its own examples, by the case's title
+# what docs/REFERENCE.md says of its example, by the case's title
 STATED = {
-    "document 01's chart": DOCUMENT_LINES,
+    "the example's chart": EXAMPLE_LINES,
     "one stage, no steps, root 1": ["cost 0", "settled 1 reached 1"],
     "the same with root 0": ["refused 8 file 0 place 0"],
     "a goal pair whose node is inner": ["cost 5", "step 0", "settled 2 reached 2"],
@@ -333,7 +333,7 @@ def all_files():
         output += "\n".join([f"case {i:02}"] + expected(title, chart, rules, *refusal)) + "\n"
     files["crates/plan_run/stdout"] = output.encode()
     files |= case_files("crates/plan/data", CHART, RULES)
-    files["crates/plan/stdout"] = ("\n".join(DOCUMENT_LINES) + "\n").encode()
+    files["crates/plan/stdout"] = ("\n".join(EXAMPLE_LINES) + "\n").encode()
     return files | case_files("example", CHART, RULES)
 
 

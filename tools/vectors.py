@@ -4,9 +4,9 @@
     tools/vectors.py           writes crates/vectors/stdout
     tools/vectors.py --check   writes nothing; says where the file in the repository differs (exit status 1)
 
-crates/vectors/data/readers.txt says how a case is written. The answers are computed here from document 01 alone: the readers
+crates/vectors/data/readers.txt says how a case is written. The answers are computed here from docs/REFERENCE.md alone: the readers
 field by field, the sweep's costs stage by stage, the guided search as it is told there. Where all ways can be enumerated they
-are, and must give the same. A case in which document 01 leaves free what would be written is an error, and so is a case that is
+are, and must give the same. A case in which REFERENCE leaves free what would be written is an error, and so is a case that is
 marked as free and is not.
 """
 import re

@@ -40,7 +40,7 @@ impl Cases {
     pub fn new(seed: u64) -> Cases {
         let mut random = Random::of(seed, u64::MAX);
         let mut files = at_limits();
-        files.extend(systematic(&document_problem()));
+        files.extend(systematic(&example_problem()));
         for _ in 0..3 {
             files.extend(systematic(&small_problem(&mut random)));
         }
@@ -81,8 +81,8 @@ fn written(Problem { chart, diagram }: &Problem) -> Files {
     (write_chart(chart), write_diagram(diagram))
 }
 
-/// The chart and the diagram that document 01 gives whole.
-pub fn document_problem() -> Problem {
+/// The shipped example: its chart and its diagram.
+pub fn example_problem() -> Problem {
     let steps = [(0, 1, 40), (0, 1, 90), (1, 2, 200), (1, 3, 30), (2, 3, 20), (3, 4, 50)];
     let steps = steps.iter().map(|(from, to, cost)| Step { from: *from, to: *to, cost: *cost });
     let chart = Chart { stages: 5, start: 0, end: 4, steps: steps.collect() };

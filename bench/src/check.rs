@@ -1,5 +1,5 @@
-//! Holds what a search returned and wrote against every sentence of document 01 that speaks of it.
-//! An error text quotes the sentence that fails.
+//! Holds what a search returned and wrote against every rule of docs/REFERENCE.md that speaks of it.
+//! An error text names the section and the rule that fails.
 
 mod log;
 
@@ -12,20 +12,18 @@ use crate::reference::{self, Expected, Facts, Judged};
 
 pub type Checked = Result<(), String>;
 
-const LEFT: &str = "Left as it was: every lent slice";
-const PLAN_LEFT: &str = "no legal plan: Left as it was: the plan slice";
-const STAY: &str = "log entries past the count and all slices past their needed length stay";
-const PLAN_HELD: &str =
-    "The plan slice holds the plan's step numbers in order, its further entries stay.";
-const COST_SLICE: &str =
-    "The sweep's cost slice holds at each pair the least cost if reached, else 4,294,967,295.";
+const LEFT: &str = "3.3: after refusals 1 to 7 every slice stays";
+const PLAN_LEFT: &str = "3.3: after refusal 8 the plan slice stays";
+const STAY: &str = "7.1, 8.1: what lies behind the used part of a slice stays";
+const PLAN_HELD: &str = "7.1: the plan slice begins with the steps of a legal plan, the rest stays";
+const COST_SLICE: &str = "7.1: cost has each reached pair's least cost, 4,294,967,295 elsewhere";
 
-/// Fails with the sentence and what was found instead, where `holds` is false.
-fn demand(holds: bool, sentence: &str, found: impl FnOnce() -> String) -> Checked {
+/// Fails with the rule and what was found instead, where `holds` is false.
+fn demand(holds: bool, rule: &str, found: impl FnOnce() -> String) -> Checked {
     if holds {
         return Ok(());
     }
-    Err(format!("\"{sentence}\": {}", found()))
+    Err(format!("\"{rule}\": {}", found()))
 }
 
 /// The first entry at which two lists differ, in words; those before `from` are not looked at.
@@ -43,20 +41,20 @@ fn first_difference<T: PartialEq + Display>(
 }
 
 /// Demands that two lists are equal.
-fn same<T: PartialEq + Display>(sentence: &str, name: &str, want: &[T], found: &[T]) -> Checked {
-    same_from(0, sentence, name, want, found)
+fn same<T: PartialEq + Display>(rule: &str, name: &str, want: &[T], found: &[T]) -> Checked {
+    same_from(0, rule, name, want, found)
 }
 
 /// Demands that two lists are equal from an entry on.
 fn same_from<T: PartialEq + Display>(
     from: usize,
-    sentence: &str,
+    rule: &str,
     name: &str,
     want: &[T],
     found: &[T],
 ) -> Checked {
     let equal = want[from..] == found[from..];
-    demand(equal, sentence, || first_difference(name, from, want, found))
+    demand(equal, rule, || first_difference(name, from, want, found))
 }
 
 /// Checks a sweep.
@@ -68,7 +66,7 @@ pub fn sweep(
 ) -> Checked {
     let work = before.work_lengths();
     let expected = reference::sweep_answer(judged, &work, before.plan.len());
-    check_answer(&expected, answer, "Its count is the number of reached pairs.")?;
+    check_answer(&expected, answer, "7.2: the sweep counts the reached pairs")?;
     let facts = match judged {
         Ok(facts) if matches!(expected.number, 0 | 8) => facts,
         _ => return sweep_untouched(before, after),
@@ -89,11 +87,7 @@ pub fn guided(
 ) -> Checked {
     let work = before.work_lengths();
     let expected = reference::guided_answer(judged, &work, before.plan.len());
-    check_answer(
-        &expected,
-        answer,
-        "its count is the number of settlings, which is the log's length",
-    )?;
+    check_answer(&expected, answer, "8.3: the guided search counts the settled pairs")?;
     let facts = match judged {
         Ok(facts) if matches!(expected.number, 0 | 8) => facts,
         _ => return guided_untouched(before, after),
@@ -106,8 +100,8 @@ pub fn guided(
 /// Checks the space that two files are said to need.
 pub fn space(judged: &Judged, found: Space) -> Checked {
     let want = reference::space_needed(judged);
-    let sentence = if want.number == 0 { number_sentence(7) } else { number_sentence(want.number) };
-    demand(found == want, sentence, || format!("{found:?} and not {want:?}"))
+    let rule = if want.number == 0 { number_rule(7) } else { number_rule(want.number) };
+    demand(found == want, rule, || format!("{found:?} and not {want:?}"))
 }
 
 /// A refused-field call: where the field is, and what is lent.
@@ -123,46 +117,45 @@ pub struct FieldCall<'a> {
 /// they fit, and the rest as it was.
 pub fn refused_field(call: FieldCall, before: &[u8], after: &[u8], length: usize) -> Checked {
     let FieldCall { chart, rules, mark, place } = call;
-    let sentence = match mark {
-        1 | 2 => "three header bytes and the body by its length, cut at the file's end",
-        _ => "a file mark other than 1 and 2, gives an empty part of the chart",
+    let rule = match mark {
+        1 | 2 => "12: header and body, as far as the file has them",
+        _ => "12: nothing for a mark that is neither 1 nor 2",
     };
     let want = reference::refused_field(chart, rules, mark, place);
     let name = format!("field at mark {mark} place {place}");
-    demand(length == want.len(), sentence, || {
+    demand(length == want.len(), rule, || {
         format!("{name} has length {length} and not {}", want.len())
     })?;
     let fits = length.min(before.len());
-    same(sentence, &name, &want[..fits], &after[..fits])?;
+    same(rule, &name, &want[..fits], &after[..fits])?;
     same_from(fits, STAY, &name, before, after)
 }
 
-fn check_answer(expected: &Expected, answer: Answer, count_sentence: &str) -> Checked {
+fn check_answer(expected: &Expected, answer: Answer, count_rule: &str) -> Checked {
     let at = (expected.number, expected.file, expected.place);
-    demand(answer.number == expected.number, number_sentence(expected.number), || {
+    demand(answer.number == expected.number, number_rule(expected.number), || {
         format!("number is {} and not {}, file and place {:?}", answer.number, at.0, (at.1, at.2))
     })?;
     demand(
         (answer.file, answer.place) == (expected.file, expected.place),
-        "File is 1 for the chart, 2 for the diagram; a place is the byte position of the field's \
-         tag. Where no field of a given file is at fault both are 0.",
+        "3.1: the file of the field at fault and where the field begins, 0 and 0 without one",
         || format!("found {answer:?} and not {expected:?}"),
     )?;
-    let refusal = "A refusal has cost 0 and length 0, and count 0 except under 8.";
+    let refusal = "3.3: a refusal's cost and length are 0, its count too but for 8";
     let accepted = expected.number == 0;
     demand(
         answer.cost == expected.cost,
-        if accepted { "Left free: which of several cheapest plans is given" } else { refusal },
+        if accepted { "10.1: the plan may be any one of the cheapest cost" } else { refusal },
         || format!("cost is {} and not {}", answer.cost, expected.cost),
     )?;
     demand(
         within(answer.length, expected.length),
-        if accepted { "length (the steps of its plan)" } else { refusal },
+        if accepted { "3.3: the length is the plan's number of steps" } else { refusal },
         || format!("length is {} and not within {:?}", answer.length, expected.length),
     )?;
     demand(
         within(answer.count, expected.count),
-        if matches!(expected.number, 0 | 8) { count_sentence } else { refusal },
+        if matches!(expected.number, 0 | 8) { count_rule } else { refusal },
         || format!("count is {} and not within {:?}", answer.count, expected.count),
     )
 }
@@ -171,23 +164,18 @@ fn within(value: u32, bounds: (u32, u32)) -> bool {
     (bounds.0..=bounds.1).contains(&value)
 }
 
-/// The row of the table of refusals, or the sentence on accepted answers.
-fn number_sentence(number: u32) -> &'static str {
+/// The rule that gives a number.
+fn number_rule(number: u32) -> &'static str {
     match number {
-        0 => "An accepted answer has number, file and place 0.",
-        1 => "the file ends inside a field | 1",
-        2 => {
-            "the file is empty (place 0), or a field's tag isn't of this file, or the head isn't \
-             first, or comes again | 2"
-        }
-        3 => "the length isn't that of the tag | 3",
-        4 => "a chart head beyond a limit | 4",
-        5 => "a step beyond a limit, the 1,025th step included | 5",
-        6 => "a node beyond a limit, the 511th included; or a root not below N (place 0) | 6",
-        7 => {
-            "a work slice below stage count × N entries, or a plan slice below stage count − 1 | 7"
-        }
-        _ => "no legal plan | 8",
+        0 => "3.3: number, file and place of an accepted answer are 0",
+        1 => "3.1, 1: the file ends before the field does",
+        2 => "3.1, 2: an empty file, a foreign tag, no head in front, or a second head",
+        3 => "3.1, 3: the length does not fit the tag",
+        4 => "3.1, 4: the chart's head breaks a limit",
+        5 => "3.1, 5: a step breaks a limit",
+        6 => "3.1, 6: an inner node or the root breaks a limit",
+        7 => "3.1, 7: a lent slice is too short",
+        _ => "3.1, 8: no plan is legal",
     }
 }
 

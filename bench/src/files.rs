@@ -1,4 +1,4 @@
-//! Both files of document 01: what they hold, how they are read and refused, how they are written.
+//! Both files: what they hold, how they are read and refused, how they are written.
 
 pub const MAX_STAGES: u16 = 256;
 pub const MAX_STEPS: usize = 1_024;
@@ -56,7 +56,7 @@ pub struct Diagram {
 }
 
 impl Diagram {
-    /// N of document 01: the inner nodes and the two constants.
+    /// N of REFERENCE: the inner nodes and the two constants.
     pub fn references(&self) -> usize {
         self.nodes.len() + 2
     }

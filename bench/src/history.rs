@@ -46,7 +46,7 @@ mod tests {
 
     #[test]
     fn a_line_has_the_means() {
-        let mut measured = Measured::new(&standard()[0]).expect("document 01's files");
+        let mut measured = Measured::new(&standard()[0]).expect("the example's files");
         for (planner, nanoseconds) in
             [("library", 2.0), ("before", 4.0), ("same", 1.0), ("textbook", 8.0)]
         {

@@ -1,4 +1,4 @@
-//! An independent reference of the socket-cycle planner, written from document 01, with the
+//! An independent reference of the socket-cycle planner, written from docs/REFERENCE.md, with the
 //! checkers, generators and timed implementations that the tests and benchmarks are made of.
 
 pub mod files;

@@ -1,6 +1,6 @@
 //! The benchmark's loads: charts and diagrams of many shapes and of growing size.
 
-use crate::cases::document_problem;
+use crate::cases::example_problem;
 use crate::files::{write_chart, write_diagram, Chart, Diagram, MAX_NODES};
 use crate::generate::charts::{long_steps, Costs, Ends, Shape, Spans};
 use crate::generate::diagrams::layers_of_width;
@@ -31,7 +31,7 @@ impl Load {
 /// What a load has in common with others that have a target of their own.
 #[derive(Clone, Copy, Debug, PartialEq, Eq)]
 pub enum Group {
-    /// Document 01's chart, and small charts.
+    /// The example's chart, and small charts.
     Small,
     /// Long steps, and the guided search settles less than one of a thousand pairs.
     LongSteps,
@@ -102,8 +102,8 @@ fn generated(stages: u32) -> Chart {
 
 /// Charts as users draw them, from 5 to 40 stages.
 fn small() -> Vec<Load> {
-    let document = document_problem();
-    let mut loads = vec![Load::new("document", &document.chart, &document.diagram)];
+    let example = example_problem();
+    let mut loads = vec![Load::new("example", &example.chart, &example.diagram)];
     let mut random = Random::new(1);
     for stages in [8, 12, 24, 40] {
         let shape = Shape {

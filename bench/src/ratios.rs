@@ -128,7 +128,7 @@ mod tests {
 
     #[test]
     fn the_least_over_placements_counts() {
-        let mut measured = Measured::new(&standard()[0]).expect("document 01's files");
+        let mut measured = Measured::new(&standard()[0]).expect("the example's files");
         measured.add(0, 2, vec![timing("library", 8.0), timing("same", 5.0)]);
         measured.add(1, 2, vec![timing("library", 6.0), timing("same", 10.0)]);
         measured.add(0, 2, vec![timing("library", 7.0), timing("same", 4.0)]);

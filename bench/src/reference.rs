@@ -1,4 +1,4 @@
-//! The slow and plain reference: what document 01 says, for any two files.
+//! The slow and plain reference: what docs/REFERENCE.md says, for any two files.
 
 mod counts;
 mod facts;
@@ -21,7 +21,7 @@ pub fn judge(chart: &[u8], rules: &[u8]) -> Judged {
     read_both(chart, rules).map(|problem| Facts::by_dynamic_programming(&problem))
 }
 
-/// An answer as far as document 01 fixes it: length and count lie between two bounds.
+/// An answer as far as REFERENCE fixes it: length and count lie between two bounds.
 #[derive(Clone, Copy, Debug, PartialEq, Eq)]
 pub struct Expected {
     pub number: u32,
@@ -68,7 +68,7 @@ fn answer(
     }
 }
 
-/// The space that two files need, or their fault: document 01's words under 7.
+/// The space that two files need, or their fault: REFERENCE 3.1, refusal 7.
 pub fn space_needed(judged: &Judged) -> Space {
     match judged {
         Err(fault) => {

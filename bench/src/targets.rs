@@ -24,7 +24,7 @@ impl On {
     fn name(self) -> String {
         match self {
             On::Every => "every load".into(),
-            On::Group(Group::Small) => "the document's chart and small charts".into(),
+            On::Group(Group::Small) => "the example's chart and small charts".into(),
             On::Group(Group::LongSteps) => "long steps, few settled".into(),
             On::Group(Group::Other) => "the other loads".into(),
             On::Steps(steps) => format!("{steps} steps"),

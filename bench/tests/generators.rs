@@ -2,7 +2,7 @@
 
 use std::collections::BTreeSet;
 
-use planner_bench::cases::{document_problem, Cases};
+use planner_bench::cases::{example_problem, Cases};
 use planner_bench::files::{
     read_both, read_chart, read_diagram, write_chart, write_diagram, Problem,
 };
@@ -81,7 +81,7 @@ fn eight_needs_take_all_nodes() {
 
 #[test]
 fn broken_files_have_every_number_in_every_file() {
-    let mut files = systematic(&document_problem());
+    let mut files = systematic(&example_problem());
     files.extend(at_limits());
     let found: BTreeSet<(u32, u32)> = files
         .iter()

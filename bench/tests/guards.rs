@@ -1,6 +1,6 @@
 //! Slices beside pages that fault: what they hold, and that a touch outside them shows.
 
-use planner_bench::cases::document_problem;
+use planner_bench::cases::example_problem;
 use planner_bench::compare::slices::drawn;
 use planner_bench::generate::Random;
 use planner_bench::guard::{Region, PAGE};
@@ -88,7 +88,7 @@ fn lengths((sweep, guided): &(SweepSlices, GuidedSlices)) -> (Vec<usize>, [usize
 
 #[test]
 fn lent_lengths_differ_or_are_just_enough() {
-    let problem = document_problem();
+    let problem = example_problem();
     let judged: Judged = Ok(Facts::by_dynamic_programming(&problem));
     let mut random = Random::new(43);
     let (mut exact, mut different) = (0, 0);
@@ -106,7 +106,7 @@ fn lent_lengths_differ_or_are_just_enough() {
 
 #[test]
 fn each_slice_is_at_times_too_short() {
-    let problem = document_problem();
+    let problem = example_problem();
     let judged: Judged = Ok(Facts::by_dynamic_programming(&problem));
     let mut random = Random::new(44);
     let mut short = [0; 11];

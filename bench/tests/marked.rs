@@ -1,6 +1,6 @@
-//! The chart that document 01 gives whole, and its marked cases (a) to (j).
+//! The shipped example, and the marked cases (a) to (j).
 
-use planner_bench::cases::document_problem;
+use planner_bench::cases::example_problem;
 use planner_bench::files::{write_chart, write_diagram, Chart, Diagram, Node, Problem, Step};
 use planner_bench::lent::Lent;
 use planner_bench::planner::{self, Answer, GuidedSlices, SweepSlices};
@@ -71,7 +71,7 @@ fn assert_answers(problem: &Problem, sweep: Answer, guided: Answer, plan: &[u16]
 
 #[test]
 fn a_the_cheapest_legal_plan_costs_170() {
-    let problem = document_problem();
+    let problem = example_problem();
     let facts = facts(&problem);
     assert_eq!(facts.cheapest.map(|cheapest| cheapest.cost), Some(170));
     let sweep = Answer::accepted(170, 3, 6);
@@ -81,7 +81,7 @@ fn a_the_cheapest_legal_plan_costs_170() {
 
 #[test]
 fn b_the_reached_pairs() {
-    let facts = facts(&document_problem());
+    let facts = facts(&example_problem());
     let reached: Vec<usize> = (0..20).filter(|pair| facts.least[*pair].is_some()).collect();
     assert_eq!(reached, [3, 5, 6, 9, 13, 17]);
     assert_eq!(facts.reached(), 6);
@@ -92,7 +92,7 @@ fn b_the_reached_pairs() {
 
 #[test]
 fn c_the_estimates() {
-    let facts = facts(&document_problem());
+    let facts = facts(&example_problem());
     let stages: Vec<u32> = facts.chart_estimate.iter().flatten().copied().collect();
     assert_eq!(stages, [120, 80, 70, 50, 0]);
     assert_eq!(facts.chart_estimate.len(), 256);
@@ -102,14 +102,14 @@ fn c_the_estimates() {
 
 #[test]
 fn d_the_sums() {
-    let facts = facts(&document_problem());
+    let facts = facts(&example_problem());
     let sums = [3, 5, 13, 17, 6, 9].map(|pair| facts.sum(pair));
     assert_eq!(sums, [120, 170, 170, 170, 240, 310].map(Some));
 }
 
 #[test]
 fn e_and_f_one_plan_is_legal_and_one_is_not() {
-    let problem = document_problem();
+    let problem = example_problem();
     assert_eq!(legal_cost(&problem, &[0, 3, 5]), (120, false));
     assert_eq!(legal_cost(&problem, &[0, 2, 4, 5]), (310, true));
 }

@@ -1,4 +1,4 @@
-//! Planners with the mistakes that document 01 names: the differential test must find each soon.
+//! Planners with the mistakes that REFERENCE rules out: the differential test must find each soon.
 
 use planner_bench::cases::Cases;
 use planner_bench::compare::run;

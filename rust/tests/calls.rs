@@ -1,4 +1,4 @@
-//! The wrapper's calls on document 01's chart: plans, refusals, lent slices, kept work space.
+//! The wrapper's calls on the shipped example: plans, refusals, lent slices, kept work space.
 
 use planner::lent::{self, Answer, GuidedSlices, Space, SweepSlices, UNREACHED};
 use planner::{plan, refused_field, space_needed, File, Refusal, Work};
@@ -29,13 +29,13 @@ fn rules_file(root: u16, nodes: &[[u16; 3]]) -> Vec<u8> {
 const STEPS: [(u16, u16, u32); 6] =
     [(0, 1, 40), (0, 1, 90), (1, 2, 200), (1, 3, 30), (2, 3, 20), (3, 4, 50)];
 
-fn document() -> (Vec<u8>, Vec<u8>) {
+fn example() -> (Vec<u8>, Vec<u8>) {
     (chart_file([5, 0, 4], &STEPS), rules_file(3, &[[2, 0, 1], [0, 1, 2]]))
 }
 
 #[test]
-fn the_plan_of_document_01() {
-    let (chart, rules) = document();
+fn the_plan_of_the_example() {
+    let (chart, rules) = example();
     let plan = plan(&chart, &rules).expect("a legal plan");
     assert_eq!((plan.cost, plan.steps), (170, vec![1, 3, 5]));
     assert_eq!((plan.settled, plan.reached), (4, 6));
@@ -43,7 +43,7 @@ fn the_plan_of_document_01() {
 
 #[test]
 fn every_refusal() {
-    let (chart, rules) = document();
+    let (chart, rules) = example();
     let bad_head = chart_file([0, 0, 0], &[]);
     let bad_step = chart_file([5, 0, 4], &[(0, 1, 1_000_001)]);
     let bad_node = rules_file(2, &[[6, 0, 1]]);
@@ -120,7 +120,7 @@ fn each_number_has_its_own_refusal() {
 
 #[test]
 fn a_number_without_a_name_is_kept() {
-    let (chart, rules) = document();
+    let (chart, rules) = example();
     for number in [9, 10, 255, usize::MAX] {
         let refusal = refusal_of(number, 2, 14).expect("a refusal");
         assert_eq!(refusal, Refusal::Other { number, file: 2, place: 14 });
@@ -133,7 +133,7 @@ fn a_number_without_a_name_is_kept() {
 
 #[test]
 fn a_file_without_a_name_is_kept() {
-    let (chart, rules) = document();
+    let (chart, rules) = example();
     for (number, file, place) in [(6, 3, 5), (4, 0, 0), (1, usize::MAX, 9), (12, 0, 0), (13, 3, 5)]
     {
         let refusal = refusal_of(number, file, place).expect("a refusal");
@@ -146,7 +146,7 @@ fn a_file_without_a_name_is_kept() {
 
 #[test]
 fn the_refused_field_is_a_part_of_the_callers_file() {
-    let (chart, rules) = document();
+    let (chart, rules) = example();
     let part = refused_field(&chart, &rules, File::Rules, 5);
     assert!(std::ptr::eq(part, &rules[5..14]));
     for place in [rules.len(), usize::MAX] {
@@ -160,7 +160,7 @@ fn the_refused_field_is_a_part_of_the_callers_file() {
 
 #[test]
 fn the_space_of_two_files() {
-    let (chart, rules) = document();
+    let (chart, rules) = example();
     let space = space_needed(&chart, &rules).expect("sound files");
     assert_eq!(space, Space { work: 20, plan: 4, ..Space::default() });
     let refusal = Refusal::Cut { file: File::Rules, place: 0 };
@@ -169,7 +169,7 @@ fn the_space_of_two_files() {
 
 #[test]
 fn work_that_is_kept() {
-    let (chart, rules) = document();
+    let (chart, rules) = example();
     let mut work = Work::default();
     assert_eq!(work.plan(&chart, &rules), Err(Refusal::Space));
     work.grow_for(&chart, &rules).expect("sound files");
@@ -186,7 +186,7 @@ fn work_that_is_kept() {
 
 /// Slices of these lengths, lent to both searches; the numbers of both answers.
 fn numbers(work: usize, plan: usize) -> (usize, usize) {
-    let (chart, rules) = document();
+    let (chart, rules) = example();
     let mut slices = vec![vec![7_u32; work]; 9];
     let mut plans = [vec![7_u16; plan], vec![7_u16; plan]];
     let [cost, cost_via, nodes, keys, via, heap, pos, stack, log] = &mut slices[..] else {
@@ -213,7 +213,7 @@ fn slices_of_any_length_may_be_lent() {
 
 #[test]
 fn calls_from_several_threads() {
-    let (chart, rules) = document();
+    let (chart, rules) = example();
     let expected = plan(&chart, &rules);
     std::thread::scope(|scope| {
         for _ in 0..4 {

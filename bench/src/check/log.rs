@@ -9,16 +9,15 @@ use crate::reference::Facts;
 /// Problems of up to this many pairs have their log replayed as well.
 const REPLAYED_PAIRS: usize = 4_096;
 
-const FIRST: &str = "The guided search begins from the pair of start and root";
-const NEVER_OPENED: &str = "pairs without an estimate are never opened";
-const SETTLED: &str = "the log lists the settled pairs in order";
-const NEVER_FALLS: &str = "the sum never falling from one to the next";
-const FOLLOWS: &str = "Each entry after the first follows by one step from an earlier entry, on a \
-                       way of least cost to it";
-const LAST: &str = "under an accepted answer the last entry is the only goal pair";
-const ALL: &str = "Under 8 the log has every reached pair with an estimate, each once.";
-const SMALLEST: &str = "It always settles an open pair of smallest least-cost-so-far plus estimate";
-const ENDS: &str = "The search ends at the settling of the first goal pair.";
+const FIRST: &str = "8.2: the log begins with the pair of start stage and root";
+const NEVER_OPENED: &str = "8.2: each entry is a reached pair that has an estimate";
+const SETTLED: &str = "8.2: each entry is a pair, and none is in the log twice";
+const NEVER_FALLS: &str = "8.2: sums do not fall along the log";
+const FOLLOWS: &str = "8.2: each later entry is one step behind an earlier one, at least cost";
+const LAST: &str = "8.2: an accepted search's last entry is a goal pair, and no other one is";
+const ALL: &str = "8.2: after refusal 8 the log has all reached pairs that have an estimate";
+const SMALLEST: &str = "8.2: the open pair settled next is one of least cost so far plus estimate";
+const ENDS: &str = "8.2: the first goal pair that is settled ends the search";
 
 /// Checks the log slice of an accepted answer or of an 8.
 pub fn check(facts: &Facts, before: &[u32], after: &[u32], answer: Answer) -> Checked {
@@ -88,9 +87,9 @@ fn check_complete(facts: &Facts, log: &[usize]) -> Checked {
             demand(*is_logged, ALL, || format!("pair {pair} is missing"))?;
             continue;
         };
-        let sentence = if sum < cheapest.cost { SMALLEST } else { ENDS };
+        let rule = if sum < cheapest.cost { SMALLEST } else { ENDS };
         let fits = if *is_logged { sum <= cheapest.cost } else { sum >= cheapest.cost };
-        demand(fits, sentence, || {
+        demand(fits, rule, || {
             format!("pair {pair} of sum {sum}, plan's cost {}, logged: {is_logged}", cheapest.cost)
         })?;
     }

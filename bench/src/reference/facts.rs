@@ -32,7 +32,7 @@ fn cheaper(known: Option<Cheapest>, found: Cheapest) -> Option<Cheapest> {
     Some(known.map_or(found, |before| before.or(found)))
 }
 
-/// All that document 01 defines about an accepted chart and diagram.
+/// All that REFERENCE defines about an accepted chart and diagram.
 #[derive(Clone, Debug, PartialEq, Eq)]
 pub struct Facts {
     pub problem: Problem,
