@@ -1,3 +1,4 @@
+mod Filling
 mod Relaxing
 mod Stepping
 mod Walking

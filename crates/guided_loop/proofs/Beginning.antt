@@ -1,30 +1,34 @@
--- Before the first turn: the pair of start and root is opened.
+-- Before the first turn: the row of the start stage is filled, and the pair of start and root is opened.
 -- Assumes nothing.
 use Prim.Native.Nat.{ℕ, _+_, _*_, _≤_, _<_}
-use mathlib.Core.Path.{_≡_, refl, _∙_, ap, subst}
-use mathlib.Core.Bool.{Bool}
+use mathlib.Core.Path.{_≡_, refl, sym, _∙_, ap, subst}
+use mathlib.Core.Bool.{Bool, true, false}
 use mathlib.Core.List.{List}
 use native.Mathlib.Omega.{arith}
 use native.Mathlib.Nat.{mul-le-mul-right}
-use lib.ListN.{length, getD, set, drop}
-use lib.Seq.{drop-set-lt}
+use lib.ListN.{length, getD, set, drop, replicate, length-set, length-replicate, getD-replicate}
+use lib.Seq.{getD-set-same, getD-set-other, drop-set-lt}
 use Rattle.definitions.specs.Ways.{Graph}
-use Rattle.definitions.specs.Pairs.{Automaton}
+use Rattle.definitions.specs.Pairs.{Automaton, stageOf, nodeOf}
 use Rattle.definitions.specs.declared.Shape.{Shape}
 use Rattle.theory.specs.Limits.{Sound}
 use Rattle.theory.specs.Basics.{either, same-or-not}
-use Rattle.theory.specs.Pairs.{pair-inside}
+use Rattle.theory.specs.Pairs.{pair-inside, pair-of, nodeOf-inside}
 use Rattle.theory.specs.Product.{startPair}
 use Rattle.queue.specs.declared.Counts.{Counts}
 use Rattle.queue.specs.Queue.{state, Contains, Queue, Empty, Inserted}
 use Rattle.queue.proofs.Facts.{queue-empty, contains-none}
 use Rattle.checks.specs.Tables.{chartIn, diagramIn, Tables}
 use Rattle.checks.specs.Ready.{Walk, graphIn, automatonIn, width-is, sound-in, few-stages, few-nodes, row-start}
+use Rattle.guided_model.specs.State.{unopened, Openable}
+use Rattle.guided_model.specs.Bounds.{stage-is}
 use Rattle.guided_model.specs.Charts.{Running, running-start}
 use Rattle.guided_expand.specs.Estimates.{Estimates}
-use Rattle.guided_expand.specs.Work.{Work, work, queueIn, marksIn, Past, past-same, past-more}
+use Rattle.guided_expand.specs.Fills.{Filled, past-until}
+use Rattle.guided_expand.specs.Seen.{seen, seen-long, seen-filled, seen-fresh, seen-set, row-keys}
+use Rattle.guided_expand.specs.Work.{Work, work, Progress, progress, queueIn, queueOf, seenIn, Past, past-same, past-more}
 use Rattle.guided_expand.specs.Guides.{Guides, pairsIn}
-use Rattle.guided_loop.specs.Search.{Start, Begun, Searched}
+use Rattle.guided_loop.specs.Search.{Start, startFilled, Begun, Searched}
 use Rattle.guided_loop.specs.declared.turns.Ended.{Ended}
 
 module _ {z : Shape} {on : Walk} {t : Estimates} (by : Guides z on t) where
@@ -60,53 +64,106 @@ module _ {z : Shape} {on : Walk} {t : Estimates} (by : Guides z on t) where
   begin-is e =
       omega (arith, e, row-start z on (by .ready) (z .start .0) (tables .valid .start-inside), ap (λ (k : ℕ). z .start .0 * k) width)
 
-module _ {z : Shape} {on : Walk} {t : Estimates} {yes-at : List Bool} {rest : ℕ} {x : Work} {log : List ℕ} (b : Start z on t yes-at rest x log)
-    {begin : ℕ} (e : begin ≡ getD (on .row) (z .start .0) 0 + z .root .0) {c : Counts} (no : Empty c) where
+module _ {z : Shape} {on : Walk} {t : Estimates} {yes-at : List Bool} {rest : ℕ} {x : Work} {log : List ℕ} (b : Start z on t yes-at rest x log) where
   abbrev by : Guides z on t
   by = b .prepared .by
 
-  begins : begin ≡ startPair (g by) (a by)
-  begins = begin-is by e
+  abbrev first : ℕ
+  first = getD (on .row) (z .start .0) 0
 
-  begin-inside : begin < pairsIn z
-  begin-inside =
-      omega (arith, begins, pairs-are by, pair-inside (g by) (a by) (z .start .0) (z .root .0) (tables by .valid .start-inside) (sound by .root-inside))
+  row-is : first ≡ z .start .0 * a by .size
+  row-is = row-start z on (by .ready) (z .start .0) (tables by .valid .start-inside) ∙ ap (λ (k : ℕ). z .start .0 * k) (sym (width by))
 
-  begin-queue : Queue (pairsIn z) 0 (queueIn x c)
-  begin-queue = queue-empty no (omega (arith, few-pairs by)) (b .space .keys-fit) (b .space .heap-fits) (b .space .pos-fits) (b .space .stack-fits)
+  row-end : first + (z .nodes + 2) ≤ pairsIn z
+  row-end =
+      let m : z .start .0 + 1 ≤ z .stages = omega (arith, tables by .valid .start-inside) in
+      omega (arith, row-is, width by, pairs-are by, mul-le-mul-right (a by .size) m)
 
-  pub begin-asks : Queue (pairsIn z) 0 (queueIn x c) × ((begin < pairsIn z) × (0 ≤ rest) × (Contains (queueIn x c) begin → ⊥))
-  begin-asks = (begin-queue, (begin-inside, omega arith, λ o. contains-none begin-queue (no .none-held) o))
+  -- the row of the start can be filled
+  pub begin-fills : (z .start .0 < 256) × (first + (z .nodes + 2) ≤ length (x .keys))
+  begin-fills = (start-small by, omega (arith, row-end, b .space .keys-fit))
 
-  module _ {keys′ heap′ pos′ stack′ : List ℕ} {c′ : Counts} (i : Inserted (pairsIn z) 0 begin rest (queueIn x c) (state keys′ heap′ pos′ stack′ c′)) where
-    abbrev x′ : Work
-    x′ = work keys′ (x .via) heap′ pos′ stack′
+  module _ {keys₁ : List ℕ} (long : length keys₁ ≡ length (x .keys)) (f : Filled first (first + (z .nodes + 2)) (x .keys) keys₁)
+      {begin : ℕ} (e : begin ≡ getD (on .row) (z .start .0) 0 + z .root .0) {c : Counts} (no : Empty c) where
+    abbrev x₁ : Work
+    x₁ = work keys₁ (x .via) (x .heap) (x .pos) (x .stack)
 
-    only-begin : (k : ℕ) → Contains (queueIn x′ c′) k → k ≡ begin
-    only-begin k o = either (same-or-not k begin) (λ q. q) (λ q. absurd (contains-none begin-queue (no .none-held) (i .only k o q)))
+    keys-fit : pairsIn z ≤ length keys₁
+    keys-fit = omega (arith, b .space .keys-fit)
 
-    pub begin-running : Running (chartIn z (on .read)) (diagramIn z (on .read)) (by .h) (marksIn x′ c′) log log 0 0
-    begin-running =
-        running-start (chartIn z (on .read)) (diagramIn z (on .read)) (sound by) (by .guide) (x .keys) log (marksIn x′ c′) rest (b .has) (b .clear)
-        (omega (arith, begins, begin-inside, b .space .keys-fit))
-        (i .stored ∙ ap (λ (k : ℕ). set (x .keys) k rest) begins)
-        (subst (Contains (queueIn x′ c′)) begins (i .here)) (λ k o. only-begin k o ∙ begins) (omega (arith, pairs-are by, b .space .log-fits))
+    begins : begin ≡ startPair (g by) (a by)
+    begins = begin-is by e
 
-    -- the loop may begin
-    abbrev pub begin-begun : Begun z on t yes-at x′ c′ log
-    begin-begun = record {
-      prepared = b .prepared;
-      turning = record { queue = i .queue; fits = b .space .via-fits; running = begin-running; past = past-same };
-    }
+    begin-inside : begin < pairsIn z
+    begin-inside =
+        omega (arith, begins, pairs-are by, pair-inside (g by) (a by) (z .start .0) (z .root .0) (tables by .valid .start-inside) (sound by .root-inside))
 
-    begin-past : Past (pairsIn z) x x′
-    begin-past = record {
-      keys-past = ap (drop (pairsIn z)) (i .stored) ∙ drop-set-lt (pairsIn z) (x .keys) begin rest begin-inside;
-      via-past = refl;
-      heap-past = i .past .heap-past;
-      pos-past = i .past .pos-past;
-      stack-past = i .past .stack-past;
-    }
+    begin-queue : Queue (pairsIn z) 0 (queueIn x₁ c)
+    begin-queue = queue-empty no (omega (arith, few-pairs by)) keys-fit (b .space .heap-fits) (b .space .pos-fits) (b .space .stack-fits)
 
-    pub begin-searched : {x″ : Work} {log″ : List ℕ} {r : Ended} → Searched (b .prepared .by) x′ log x″ log″ r → Searched (b .prepared .by) x log x″ log″ r
-    begin-searched s = record { goal = s .goal; no-goal = s .no-goal; past = past-more begin-past (s .past) }
+    pub begin-asks : Queue (pairsIn z) 0 (queueIn x₁ c) × ((begin < pairsIn z) × (0 ≤ rest) × (Contains (queueIn x₁ c) begin → ⊥))
+    begin-asks = (begin-queue, (begin-inside, omega arith, λ o. contains-none begin-queue (no .none-held) o))
+
+    -- no pair that may be opened has a key
+    start-marked : getD (startFilled z) (z .start .0) false ≡ true
+    start-marked = getD-set-same (replicate 256 false) (z .start .0) true false (omega (arith, start-small by, length-replicate {A = Bool} 256 false))
+
+    clear : (k : ℕ) → Openable (g by) (a by) (by .h) k → getD (seen (a by) (startFilled z) keys₁) k 0 ≡ unopened
+    clear k o =
+        let s = stageOf (a by) k in
+        let some-nodes : 0 < a by .size = omega (arith, width by) in
+        let in-chart = b .inside s (nodeOf (a by) k) (o .1 .0) (o .1 .1) in
+        let i : k < length keys₁
+        = omega (arith, keys-fit, pairs-are by, ap (λ (j : ℕ). j) (pair-of (a by) k), pair-inside (g by) (a by) s (nodeOf (a by) k) in-chart (nodeOf-inside (a by) k some-nodes)) in
+        either (same-or-not s (z .start .0))
+        (λ q. seen-filled (a by) (startFilled z) keys₁ k i (ap (λ (j : ℕ). getD (startFilled z) j false) q ∙ start-marked)
+        ∙ row-keys (a by) some-nodes row-is (ap (λ (j : ℕ). first + j) (sym (width by))) f k q)
+        (λ q. seen-fresh (a by) (startFilled z) keys₁ k i
+        (getD-set-other (replicate 256 false) (z .start .0) s true false q ∙ getD-replicate {A = Bool} 256 s false false (omega (arith, in-chart, few-stages z (on .read) (tables by)))))
+
+    module _ {keys′ heap′ pos′ stack′ : List ℕ} {c′ : Counts} (i : Inserted (pairsIn z) 0 begin rest (queueIn x₁ c) (state keys′ heap′ pos′ stack′ c′)) where
+      abbrev x′ : Work
+      x′ = work keys′ (x .via) heap′ pos′ stack′
+
+      abbrev begun : Progress
+      begun = progress x′ (startFilled z) c′
+
+      only-begin : (k : ℕ) → Contains (queueOf begun) k → k ≡ begin
+      only-begin k o = either (same-or-not k begin) (λ q. q) (λ q. absurd (contains-none begin-queue (no .none-held) (i .only k o q)))
+
+      stored : seen (a by) (startFilled z) keys′ ≡ set (seen (a by) (startFilled z) keys₁) (startPair (g by) (a by)) rest
+      stored =
+          ap (seen (a by) (startFilled z)) (i .stored ∙ ap (λ (k : ℕ). set keys₁ k rest) begins)
+          ∙ seen-set (a by) (startFilled z) keys₁ (startPair (g by) (a by)) rest (omega (arith, begins, begin-inside, keys-fit))
+          (ap (λ (k : ℕ). getD (startFilled z) k false) (stage-is (a by) (z .start .0) (z .root .0) (startPair (g by) (a by)) (sound by .root-inside) refl) ∙ start-marked)
+
+      pub begin-running : Running (chartIn z (on .read)) (diagramIn z (on .read)) (by .h) (seenIn (a by) begun) log log 0 0
+      begin-running =
+          running-start (chartIn z (on .read)) (diagramIn z (on .read)) (sound by) (by .guide) (seen (a by) (startFilled z) keys₁) log (seenIn (a by) begun) rest (b .has) clear
+          (omega (arith, begins, begin-inside, keys-fit, seen-long (a by) (startFilled z) keys₁)) stored
+          (subst (Contains (queueOf begun)) begins (i .here)) (λ k o. only-begin k o ∙ begins) (omega (arith, pairs-are by, b .space .log-fits))
+
+      -- the loop may begin
+      abbrev pub begin-begun : Begun z on t yes-at x′ c′ log
+      begin-begun = record {
+        prepared = b .prepared;
+        turning = record {
+          queue = i .queue;
+          fits = b .space .via-fits;
+          rows = length-set (replicate 256 false) (z .start .0) true ∙ length-replicate {A = Bool} 256 false;
+          running = begin-running;
+          past = past-same;
+        };
+      }
+
+      begin-past : Past (pairsIn z) x x′
+      begin-past = record {
+        keys-past = ap (drop (pairsIn z)) (i .stored) ∙ drop-set-lt (pairsIn z) keys₁ begin rest begin-inside ∙ past-until f row-end;
+        via-past = refl;
+        heap-past = i .past .heap-past;
+        pos-past = i .past .pos-past;
+        stack-past = i .past .stack-past;
+      }
+
+      pub begin-searched : {x″ : Work} {log″ : List ℕ} {r : Ended} → Searched (b .prepared .by) x′ log x″ log″ r → Searched (b .prepared .by) x log x″ log″ r
+      begin-searched s = record { goal = s .goal; no-goal = s .no-goal; past = past-more begin-past (s .past) }

@@ -5,17 +5,16 @@ use mathlib.Core.Path.{_≡_}
 use mathlib.Core.Bool.{Bool, true, false}
 use mathlib.Core.List.{List}
 use mathlib.Core.Option.{some}
-use lib.ListN.{length, getD}
+use lib.ListN.{length, getD, set, replicate}
 use Rattle.definitions.specs.Diagrams.{size}
 use Rattle.definitions.specs.declared.Shape.{Shape}
 use Rattle.queue.specs.declared.Counts.{Counts}
 use Rattle.queue.specs.Queue.{Queue}
 use Rattle.checks.specs.Tables.{chartIn, diagramIn}
-use Rattle.checks.specs.Ready.{Walk, graphIn, automatonIn}
-use Rattle.guided_model.specs.State.{unopened, Openable}
+use Rattle.checks.specs.Ready.{Walk, automatonIn}
 use Rattle.guided_model.specs.Charts.{Running, GoalSettled, NoneSettled}
 use Rattle.guided_expand.specs.Estimates.{Estimates}
-use Rattle.guided_expand.specs.Work.{Work, queueIn, marksIn, Past}
+use Rattle.guided_expand.specs.Work.{Work, Progress, progress, queueOf, seenIn, Past}
 use Rattle.guided_expand.specs.Guides.{Guides, pairsIn}
 use Rattle.guided_loop.specs.declared.turns.Ended.{Ended}
 
@@ -33,20 +32,25 @@ pub record Space (z : Shape) (x : Work) (log : List ℕ) : Type 0 where
   pub stack-fits : pairsIn z ≤ length (x .stack)
   pub log-fits : pairsIn z ≤ length log
 
--- the pair of start and root has the estimate `rest`, and no pair that may be opened has a key
+-- the pair of start and root has the estimate `rest`, and only pairs of the chart's stages have one
 pub record Start (z : Shape) (on : Walk) (t : Estimates) (yes-at : List Bool) (rest : ℕ) (x : Work) (log : List ℕ) : Type 0 where
   pub prepared : Prepared z on t yes-at
   pub space : Space z x log
   pub has : prepared .by .h (z .start .0) (z .root .0) ≡ some rest
-  pub clear : (k : ℕ) → Openable (graphIn z (on .read)) (automatonIn z (on .read)) (prepared .by .h) k → getD (x .keys) k 0 ≡ unopened
+  pub inside : (s n m : ℕ) → prepared .by .h s n ≡ some m → s < z .stages
+
+-- of the rows of keys only that of the start stage is filled
+abbrev pub startFilled : Shape → List Bool
+startFilled z = set (replicate 256 false) (z .start .0) true
 
 module _ {z : Shape} {on : Walk} {t : Estimates} (by : Guides z on t) where
   -- between two turns: from the slices x₀ and log₀ it came to x and log, in which `count` pairs are settled, the last one at the key `floor`, and those of the queue are open
-  pub record Turning (x₀ : Work) (log₀ : List ℕ) (x : Work) (log : List ℕ) (c : Counts) (floor count : ℕ) : Type 0 where
-    pub queue : Queue (pairsIn z) floor (queueIn x c)
-    pub fits : pairsIn z ≤ length (x .via)
-    pub running : Running (chartIn z (on .read)) (diagramIn z (on .read)) (by .h) (marksIn x c) log₀ log count floor
-    pub past : Past (pairsIn z) x₀ x
+  pub record Turning (x₀ : Work) (log₀ : List ℕ) (x : Progress) (log : List ℕ) (floor count : ℕ) : Type 0 where
+    pub queue : Queue (pairsIn z) floor (queueOf x)
+    pub fits : pairsIn z ≤ length (x .slices .via)
+    pub rows : length (x .filled) ≡ 256
+    pub running : Running (chartIn z (on .read)) (diagramIn z (on .read)) (by .h) (seenIn (automatonIn z (on .read)) x) log₀ log count floor
+    pub past : Past (pairsIn z) x₀ (x .slices)
 
   -- what the search leaves
   pub record Searched (x : Work) (log : List ℕ) (x′ : Work) (log′ : List ℕ) (r : Ended) : Type 0 where
@@ -58,4 +62,4 @@ module _ {z : Shape} {on : Walk} {t : Estimates} (by : Guides z on t) where
 -- nothing is settled yet, and the pairs of the queue are open
 pub record Begun (z : Shape) (on : Walk) (t : Estimates) (yes-at : List Bool) (x : Work) (c : Counts) (log : List ℕ) : Type 0 where
   pub prepared : Prepared z on t yes-at
-  pub turning : Turning (prepared .by) x log x log c 0 0
+  pub turning : Turning (prepared .by) x log (progress x (startFilled z) c) log 0 0

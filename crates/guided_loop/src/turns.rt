@@ -9,7 +9,9 @@ use crate::places::pair_of;
 use chart::TO;
 use definitions::Node;
 use definitions::Shape;
+use guided_expand::Size;
 use guided_expand::Source;
+use guided_expand::fill_row;
 use guided_expand::pair_estimate;
 use guided_expand::settle;
 use queue::Counts;
@@ -23,7 +25,8 @@ pub struct Ended {
     pub count: usize,
 }
 
-// Settles open pairs in turn and writes each to the log, until a goal pair is settled or none is open.
+// Settles open pairs in turn and writes each to the log, until a goal pair is settled or none is open. Of the rows of keys
+// only that of the start is filled; each other one is when its first pair is opened.
 fn settle_open<'a>(
     keys: &mut [u32],
     via: &mut [u32],
@@ -56,8 +59,12 @@ fn settle_open<'a>(
         → Searched (x .prepared .by) before (now (log .entry)) after (now (log .exit)) r)
         ⌝ }
 {
-    let p = z.stages as usize * (z.nodes + 2);
+    let width = z.nodes + 2;
+    let p = z.stages as usize * width;
+    let size = Size { pairs: p, width };
     let begin = pair_at(row, z.start, z.root);
+    let mut filled = [false; 256];
+    filled[z.start.0 as usize] = true;
     let mut counts = opened;
     let mut floor: u32 = 0;
     let mut count: usize = 0;
@@ -89,7 +96,8 @@ fn settle_open<'a>(
             heap,
             pos,
             stack,
-            p,
+            &mut filled,
+            size,
             next.counts,
             steps,
             first,
@@ -142,8 +150,10 @@ pub fn search<'a>(
         → Searched (x .prepared .by) before (now (log .entry)) after (now (log .exit)) r)
         ⌝ }
 {
-    let p = z.stages as usize * (z.nodes + 2);
+    let width = z.nodes + 2;
+    let p = z.stages as usize * width;
     let begin = pair_at(row, z.start, z.root);
+    fill_row(keys, row, z.start, width);
     let opened = queue::insert(keys, heap, pos, stack, p, queue::empty(), 0, begin, rest);
     settle_open(
         keys,

@@ -1,6 +1,6 @@
 -- `guided_loop::search` meets its contract: the pair of start and root is opened, then open pairs are settled.
 use native.Mathlib.Omega.{arith}
-use Rattle.guided_loop.proofs.Beginning.{narrow, few-pairs, start-small, begin-asks, begin-begun, begin-searched}
+use Rattle.guided_loop.proofs.Beginning.{narrow, few-pairs, start-small, begin-fills, begin-asks, begin-begun, begin-searched}
 use borrow.Author.Needs.{needs}
 use Rattle.guided_loop.proofs.turns.search.Statement.{statement}
 use Rattle.guided_loop.proofs.turns.search.Tie as tie
@@ -9,8 +9,11 @@ use Rattle.guided_loop.proofs.turns.search.Tie as tie
 abbrev start-of : tie.After-pair-at → tie.Start
 start-of c = search
 
-abbrev first-of : tie.After-empty → tie.After-pair-at
+abbrev first-of : tie.After-fill-row → tie.After-pair-at
 first-of c = search
+
+abbrev row-of : tie.After-empty → tie.After-fill-row
+row-of c = search
 
 abbrev none-of : tie.After-insert → tie.After-empty
 none-of c = search
@@ -18,13 +21,13 @@ none-of c = search
 abbrev opened-of : tie.After-settle-open → tie.After-insert
 opened-of c = search
 
-cast-p : tie.Need-cast-p
-cast-p c = search needs
-
-add-p : tie.Need-add-p
-add-p c =
+add-width : tie.Need-add-width
+add-width c =
     let start : tie.Start = search in
     omega (arith, narrow (start .pre .prepared .by))
+
+cast-p : tie.Need-cast-p
+cast-p c = search needs
 
 mul-p : tie.Need-mul-p
 mul-p c =
@@ -36,23 +39,30 @@ pair-at-requires c κs =
     let start : tie.Start = search in
     start-small (start .pre .prepared .by)
 
+fill-row-requires : tie.Need-fill-row-requires
+fill-row-requires c κs =
+    let start : tie.Start = search in
+    begin-fills (start .pre)
+
 empty-requires : tie.Need-empty-requires
 empty-requires c κs = search needs
 
 insert-requires : tie.Need-insert-requires
 insert-requires c κs =
     let none : tie.After-empty = search in
-    let first : tie.After-pair-at = search in
-    let start : tie.Start = search in
-    begin-asks (start .pre) (first .pair-at .ensures) (none .empty .ensures)
+    let row = row-of none in
+    let first = first-of row in
+    let start = start-of first in
+    begin-asks (start .pre) (row .fill-row .kept .0) (row .fill-row .ensures) (first .pair-at .ensures) (none .empty .ensures)
 
 settle-open-requires : tie.Need-settle-open-requires
 settle-open-requires c κs =
     let opened : tie.After-insert = search in
-    let none : tie.After-empty = search in
-    let first : tie.After-pair-at = search in
+    let none = none-of opened in
+    let row = row-of none in
+    let first = first-of row in
     let start = start-of first in
-    begin-begun (start .pre) (first .pair-at .ensures) (none .empty .ensures) (opened .insert .ensures)
+    begin-begun (start .pre) (row .fill-row .kept .0) (row .fill-row .ensures) (first .pair-at .ensures) (none .empty .ensures) (opened .insert .ensures)
 
 same-length : tie.Need-same-length
 same-length c = search needs
@@ -77,19 +87,22 @@ returns c =
     let settled : tie.After-settle-open = search in
     let opened = opened-of settled in
     let none = none-of opened in
-    let first = first-of none in
+    let row = row-of none in
+    let first = first-of row in
+    let long = row .fill-row .kept .0 in
     λ x.
-    let begun = begin-begun x (first .pair-at .ensures) (none .empty .ensures) (opened .insert .ensures) in
-    begin-searched x (first .pair-at .ensures) (none .empty .ensures) (opened .insert .ensures) (settled .settle-open .ensures begun)
+    let begun = begin-begun x long (row .fill-row .ensures) (first .pair-at .ensures) (none .empty .ensures) (opened .insert .ensures) in
+    begin-searched x long (row .fill-row .ensures) (first .pair-at .ensures) (none .empty .ensures) (opened .insert .ensures) (settled .settle-open .ensures begun)
 
 pub search-spec : {M : Type 1} → statement M
 search-spec =
     tie.close
     (tie.spec
+    add-width
     cast-p
-    add-p
     mul-p
     pair-at-requires
+    fill-row-requires
     empty-requires
     insert-requires
     settle-open-requires

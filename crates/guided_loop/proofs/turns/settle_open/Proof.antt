@@ -7,7 +7,7 @@ use lib.ListN.{length, length-set}
 use Rattle.checks.specs.Tables.{read}
 use Rattle.checks.specs.Ready.{walk}
 use Rattle.guided_expand.specs.Estimates.{estimates}
-use Rattle.guided_expand.specs.Work.{work}
+use Rattle.guided_expand.specs.Work.{work, progress}
 use Rattle.guided_loop.specs.Search.{Turning, Begun}
 use Rattle.guided_loop.proofs.Beginning.{narrow, few-pairs, start-small, begin-is}
 use Rattle.guided_loop.proofs.Turning.{turn-none, turn-room, turn-fits, turn-small, turn-placed, turn-inside, turn-estimate, turn-asks, turn-goal, turn-more}
@@ -16,9 +16,9 @@ use Rattle.guided_loop.proofs.turns.settle_open.Statement.{statement}
 use Rattle.guided_loop.proofs.turns.settle_open.Tie as tie
 
 abbrev Inv-search : tie.InvT-search
-Inv-search keys₀ via₀ heap₀ pos₀ stack₀ log₀ steps first row inner by-stage by-node yes' z p begin counts₀ floor₀ count₀ found₀ node₀ cost₀ keys via heap pos stack log counts floor count found node cost =
+Inv-search keys₀ via₀ heap₀ pos₀ stack₀ log₀ steps first row inner by-stage by-node yes' z width p size begin filled₀ counts₀ floor₀ count₀ found₀ node₀ cost₀ keys via heap pos stack log filled counts floor count found node cost =
     ((x : Begun z (walk (read steps inner) first row) (estimates by-stage by-node) yes' (work keys₀ via₀ heap₀ pos₀ stack₀) counts₀ log₀)
-    → Turning (x .prepared .by) (work keys₀ via₀ heap₀ pos₀ stack₀) log₀ (work keys via heap pos stack) log counts floor count)
+    → Turning (x .prepared .by) (work keys₀ via₀ heap₀ pos₀ stack₀) log₀ (progress (work keys via heap pos stack) filled counts) log floor count)
     × (count ≤ p)
     × (found ≡ false)
     × (length keys ≡ length keys₀)
@@ -29,7 +29,7 @@ Inv-search keys₀ via₀ heap₀ pos₀ stack₀ log₀ steps first row inner b
     × (length log ≡ length log₀)
 
 abbrev μ-search : tie.MeasureT-search
-μ-search keys₀ via₀ heap₀ pos₀ stack₀ log₀ steps first row inner by-stage by-node yes' z p begin counts₀ floor₀ count₀ found₀ node₀ cost₀ keys via heap pos stack log counts floor count found node cost = p - count
+μ-search keys₀ via₀ heap₀ pos₀ stack₀ log₀ steps first row inner by-stage by-node yes' z width p size begin filled₀ counts₀ floor₀ count₀ found₀ node₀ cost₀ keys via heap pos stack log filled counts floor count found node cost = p - count
 
 -- the places before a place
 abbrev start-of : tie.After-pair-at Inv-search μ-search → tie.Start Inv-search μ-search
@@ -59,13 +59,13 @@ goal-of-yes c = search
 abbrev no-of : tie.After-settle Inv-search μ-search → tie.Else2 Inv-search μ-search
 no-of c = search
 
-cast-p : tie.Need-cast-p Inv-search μ-search
-cast-p c = search needs
-
-add-p : tie.Need-add-p Inv-search μ-search
-add-p c =
+add-width : tie.Need-add-width Inv-search μ-search
+add-width c =
     let start : tie.Start Inv-search μ-search = search in
     omega (arith, narrow (start .pre .prepared .by))
+
+cast-p : tie.Need-cast-p Inv-search μ-search
+cast-p c = search needs
 
 mul-p : tie.Need-mul-p Inv-search μ-search
 mul-p c =
@@ -74,6 +74,14 @@ mul-p c =
 
 pair-at-requires : tie.Need-pair-at-requires Inv-search μ-search
 pair-at-requires c κs =
+    let start : tie.Start Inv-search μ-search = search in
+    start-small (start .pre .prepared .by)
+
+cast-filled : tie.Need-cast-filled Inv-search μ-search
+cast-filled c = search needs
+
+array-write-filled : tie.Need-array-write-filled Inv-search μ-search
+array-write-filled c =
     let start : tie.Start Inv-search μ-search = search in
     start-small (start .pre .prepared .by)
 
@@ -314,10 +322,12 @@ settle-open-spec =
     (tie.spec
     Inv-search
     μ-search
+    add-width
     cast-p
-    add-p
     mul-p
     pair-at-requires
+    cast-filled
+    array-write-filled
     search-holds
     take-requires
     cast-log
