@@ -1,4 +1,5 @@
 -- `guided_loop::search` meets its contract: the pair of start and root is opened, then open pairs are settled.
+use mathlib.Core.Path.{_∙_}
 use native.Mathlib.Omega.{arith}
 use Rattle.guided_loop.proofs.Beginning.{narrow, few-pairs, start-small, begin-fills, begin-asks, begin-begun, begin-searched}
 use borrow.Author.Needs.{needs}
@@ -65,7 +66,12 @@ settle-open-requires c κs =
     begin-begun (start .pre) (row .fill-row .kept .0) (row .fill-row .ensures) (first .pair-at .ensures) (none .empty .ensures) (opened .insert .ensures)
 
 same-length : tie.Need-same-length
-same-length c = search needs
+same-length c =
+    let settled : tie.After-settle-open = search in
+    let opened = opened-of settled in
+    let none = none-of opened in
+    let row = row-of none in
+    settled .settle-open .kept .0 ∙ opened .insert .kept .0 ∙ row .fill-row .kept .0
 
 same-length-2 : tie.Need-same-length-2
 same-length-2 c = search needs

@@ -92,7 +92,8 @@ take-requires : tie.Need-take-requires Inv-search μ-search
 take-requires c κs =
     let tested : tie.Then1 Inv-search μ-search = search in
     let head : tie.At-search Inv-search μ-search = search in
-    let start : tie.Start Inv-search μ-search = search in
+    let first = first-of head in
+    let start = start-of first in
     (head .search .inv .0 (start .pre) .queue, tested .if1 .taken)
 
 cast-log : tie.Need-cast-log Inv-search μ-search
