@@ -1,4 +1,3 @@
-mod Filling
 mod Relaxing
 mod Stepping
 mod Walking

@@ -7,9 +7,7 @@ use mathlib.Core.List.{List}
 use mathlib.Core.Logic.{inl}
 use mathlib.Core.Option.{some}
 use native.Mathlib.Omega.{arith}
-use native.Mathlib.Nat.{mul-le-mul-right}
-use lib.ListN.{length, getD, drop}
-use lib.Seq.{drop-drop}
+use lib.ListN.{length, getD}
 use Rattle.queue.specs.declared.Counts.{Counts}
 use Rattle.queue.specs.Queue.{Contains}
 use Rattle.queue.proofs.Facts.{keys-fit, contains-pair, contains-keys, queue-keys}
@@ -21,15 +19,16 @@ use Rattle.theory.specs.Ways.{step-cheap}
 use Rattle.trace.specs.Trails.{packed}
 use Rattle.chart.specs.Tables.{Steps}
 use Rattle.checks.specs.Tables.{Tables}
-use Rattle.checks.specs.Ready.{Walk, walk, graphIn, automatonIn, count-is, width-is, few-stages, few-nodes, few-steps, to-at, cost-at, row-start}
+use Rattle.checks.specs.Ready.{Walk, walk, graphIn, automatonIn, count-is, width-is, few-stages, few-nodes, few-steps, to-at, cost-at}
 use Rattle.guided_model.specs.State.{unopened}
 use Rattle.guided_model.specs.Bounds.{stage-is, estimate-none, estimate-some}
 use Rattle.guided_model.specs.Moves.{offerable, step-none, step-relaxed}
 use Rattle.guided_model.specs.Settling.{Target, target}
 use Rattle.guided_expand.specs.Estimates.{Estimates, paired}
-use Rattle.guided_expand.specs.Fills.{RowOpened, past-until}
-use Rattle.guided_expand.specs.Seen.{seen-row, offerable-seen, relaxed-seen, filled-keys, opened-seen}
+use Rattle.guided_rows.specs.Fills.{RowOpened, opened-past}
+use Rattle.guided_rows.specs.Seen.{seen-row, offerable-seen, relaxed-seen, filled-keys, opened-seen}
 use Rattle.guided_expand.specs.Work.{Work, work, Progress, progress, queueOf, seenIn, kept-same, Offering, Relaxes}
+use Rattle.guided_expand.specs.Guides.{row-begins, row-ends}
 use Rattle.guided_expand.specs.Opening.{sourceStage, sourceNode, Opened, opens-on, tablesOf, Leading}
 use Rattle.guided_expand.specs.declared.steps.Source.{Source}
 use Rattle.guided_expand.specs.declared.steps.Size.{Size}
@@ -74,9 +73,6 @@ module _ {steps : Steps} {row : List ℕ} {t : Estimates} {from : Source} {size 
   pub step-small : e < 1024
   step-small = omega (arith, l .exists, few-steps z (on .read) tables)
 
-  pub node-small : n < 512
-  node-small = omega (arith, l .opens .settling .node, narrow)
-
   to-stage : getD (steps .to) e 0 ≡ g .to e
   to-stage = to-at z (on .read) tables e (l .exists)
 
@@ -99,11 +95,17 @@ module _ {steps : Steps} {row : List ℕ} {t : Estimates} {from : Source} {size 
   cost-is = cost-at z (on .read) tables e (l .exists)
 
   pairs-are : z .stages * a .size ≡ size .pairs
-  pairs-are = ap (λ (k : ℕ). z .stages * k) width ∙ sym (l .opens .pairs)
+  pairs-are = ap (λ (k : ℕ). z .stages * k) width ∙ sym (l .opens .sized .pairs)
 
-  row-is : getD row (getD (steps .to) e 0) 0 ≡ getD (steps .to) e 0 * a .size
-  row-is =
-      row-start z on (l .by .ready) (getD (steps .to) e 0) (omega (arith, to-stage, stage-inside)) ∙ ap (λ (k : ℕ). getD (steps .to) e 0 * k) (sym width)
+  -- the row of the stage that the step enters
+  abbrev entered : ℕ
+  entered = getD (steps .to) e 0
+
+  entered-inside : entered < z .stages
+  entered-inside = omega (arith, to-stage, stage-inside)
+
+  row-is : getD row entered 0 ≡ entered * a .size
+  row-is = row-begins (l .by .ready) entered entered-inside
 
   module _ (rest : ℕ) (er : rest ≡ paired t (getD (steps .to) e 0) to) where
     shown-is : rest ≡ shown (h (g .to e) (a .next e n))
@@ -166,18 +168,13 @@ module _ {steps : Steps} {row : List ℕ} {t : Estimates} {from : Source} {size 
           rows = refl;
         }
 
-  -- ---- the row of the stage that the step enters
-
-  abbrev entered : ℕ
-  entered = getD (steps .to) e 0
+  -- ---- the row is filled
 
   abbrev begin : ℕ
   begin = getD row entered 0
 
   row-end : begin + size .width ≤ size .pairs
-  row-end =
-      let m : entered + 1 ≤ z .stages = omega (arith, to-stage, stage-inside) in
-      omega (arith, row-is, l .opens .width, width, pairs-are, mul-le-mul-right (a .size) m)
+  row-end = omega (arith, row-ends (l .by .ready) entered entered-inside, l .opens .sized .width, l .opens .sized .pairs)
 
   pub leads-row : (entered < 256) × (begin + size .width ≤ length (x .slices .keys)) × (length (x .filled) ≡ 256)
   leads-row = (stage-small, omega (arith, row-end, keys-fit (l .opens .queue)), l .opens .rows)
@@ -191,19 +188,12 @@ module _ {steps : Steps} {row : List ℕ} {t : Estimates} {from : Source} {size 
     some-nodes = omega (arith, width)
 
     ends : begin + size .width ≡ begin + a .size
-    ends = omega (arith, l .opens .width, width)
+    ends = omega (arith, l .opens .sized .width, width)
 
     open-same : (q : ℕ) → Contains (queueOf x) q → getD keys′ q 0 ≡ getD (x .slices .keys) q 0
     open-same q w =
         let i : q < length (x .slices .keys) = omega (arith, contains-pair (l .opens .queue) w, keys-fit (l .opens .queue)) in
         filled-keys a some-nodes row-is ends long o q (seen-row a (x .filled) (x .slices .keys) q i (l .opens .frontier .finite q w))
-
-    row-past : drop (size .pairs) keys′ ≡ drop (size .pairs) (x .slices .keys)
-    row-past = go (getD (x .filled) entered false) refl
-      where
-        go : (b : Bool) → getD (x .filled) entered false ≡ b → drop (size .pairs) keys′ ≡ drop (size .pairs) (x .slices .keys)
-        go true q = ap (drop (size .pairs)) (o .was q)
-        go false q = past-until (o .new q) row-end
 
     -- it is filled, and nothing else has changed
     pub row-opened : Opened (l .by) from size e e x x′
@@ -219,7 +209,7 @@ module _ {steps : Steps} {row : List ℕ} {t : Estimates} {from : Source} {size 
       };
       kept = record {
         queue = queue-keys keys′ (l .opens .queue) (omega (arith, keys-fit (l .opens .queue))) open-same;
-        past = record { keys-past = row-past; via-past = refl; heap-past = refl; pos-past = refl; stack-past = refl };
+        past = record { keys-past = opened-past o row-end; via-past = refl; heap-past = refl; pos-past = refl; stack-past = refl };
       };
       rows = o .long;
     }

@@ -17,7 +17,7 @@ use Rattle.guided_model.specs.Moves.{Frontier, frontier-moved, Expanded, expand
 use Rattle.guided_model.specs.Settling.{Settling}
 use Rattle.guided_expand.specs.Estimates.{Estimates}
 use Rattle.guided_expand.specs.Work.{Progress, queueOf, seenIn, Kept, kept-more}
-use Rattle.guided_expand.specs.Guides.{Guides, pairsIn}
+use Rattle.guided_expand.specs.Guides.{Guides, Sized}
 use Rattle.guided_expand.specs.declared.steps.Source.{Source}
 use Rattle.guided_expand.specs.declared.steps.Size.{Size}
 
@@ -36,8 +36,7 @@ module _ {z : Shape} {on : Walk} {t : Estimates} (by : Guides z on t) (from : So
   a = automatonIn z (on .read)
 
   pub record Opens (x : Progress) : Type 0 where
-    pub pairs : size .pairs ≡ pairsIn z
-    pub width : size .width ≡ z .nodes + 2
+    pub sized : Sized z size
     pub fits : size .pairs ≤ length (x .slices .via)
     pub rows : length (x .filled) ≡ 256
     pub queue : Queue (size .pairs) (from .key) (queueOf x)
@@ -53,8 +52,7 @@ module _ {z : Shape} {on : Walk} {t : Estimates} (by : Guides z on t) (from : So
   -- it may go on
   pub opens-on : {first until : ℕ} {x x′ : Progress} → length (x′ .slices .via) ≡ length (x .slices .via) → Opens x → Opened first until x x′ → Opens x′
   opens-on {first} {until} {x} {x′} l o m = record {
-    pairs = o .pairs;
-    width = o .width;
+    sized = o .sized;
     fits = omega (arith, o .fits);
     rows = m .rows ∙ o .rows;
     queue = m .kept .queue;

@@ -10,7 +10,7 @@ use Rattle.queue.specs.declared.Counts.{Counts}
 use Rattle.queue.specs.Queue.{State, state, Contains, Queue}
 use Rattle.guided_model.specs.State.{unopened, Marks, marks}
 use Rattle.guided_model.specs.Moves.{Offerable, Relaxed}
-use Rattle.guided_expand.specs.Seen.{seen}
+use Rattle.guided_rows.specs.Seen.{seen}
 
 pub record Work : Type 0 where
   pub keys : List ℕ

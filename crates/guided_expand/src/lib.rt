@@ -1,11 +1,9 @@
 // The steps from a pair that is settled: what they lead to is opened, or gets a lower key.
 mod estimate;
-mod fill;
 mod relax;
 mod steps;
 
 pub use estimate::pair_estimate;
-pub use fill::fill_row;
 pub use steps::Pair;
 pub use steps::Size;
 pub use steps::Source;

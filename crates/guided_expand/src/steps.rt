@@ -8,7 +8,7 @@ ghost use Rattle.guided_expand.specs.Estimates.{estimates};
 ghost use Rattle.guided_expand.specs.Work.{work, progress};
 ghost use Rattle.guided_expand.specs.Opening.{Opened, Opening, Leading};
 use crate::estimate::pair_estimate;
-use crate::fill::open_row;
+use guided_rows::open_row;
 use crate::relax::relax;
 use chart::COST;
 use chart::TO;

@@ -24,8 +24,8 @@ use Rattle.guided_model.specs.State.{unopened, Openable}
 use Rattle.guided_model.specs.Bounds.{stage-is}
 use Rattle.guided_model.specs.Charts.{Running, running-start}
 use Rattle.guided_expand.specs.Estimates.{Estimates}
-use Rattle.guided_expand.specs.Fills.{Filled, past-until}
-use Rattle.guided_expand.specs.Seen.{seen, seen-long, seen-filled, seen-fresh, seen-set, row-keys}
+use Rattle.guided_rows.specs.Fills.{Filled, past-until}
+use Rattle.guided_rows.specs.Seen.{seen, seen-long, seen-filled, seen-fresh, seen-set, row-keys}
 use Rattle.guided_expand.specs.Work.{Work, work, Progress, progress, queueIn, queueOf, seenIn, Past, past-same, past-more}
 use Rattle.guided_expand.specs.Guides.{Guides, pairsIn}
 use Rattle.guided_loop.specs.Search.{Start, startFilled, Begun, Searched}

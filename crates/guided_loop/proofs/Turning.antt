@@ -28,7 +28,7 @@ use Rattle.guided_model.specs.Chosen.{opened-low, chosen-frontier}
 use Rattle.guided_model.specs.Settling.{Located, Settling, located-start, located-via, chosen-settling, no-goal-stage, no-goal-node}
 use Rattle.guided_model.specs.Charts.{Running, running-room, running-turn, running-goal, running-empty}
 use Rattle.guided_expand.specs.Estimates.{Estimates, paired}
-use Rattle.guided_expand.specs.Seen.{seen, seen-filled, seen-row}
+use Rattle.guided_rows.specs.Seen.{seen, seen-filled, seen-row}
 use Rattle.guided_expand.specs.Work.{Work, work, Progress, progress, queueOf, seenIn, Past, past-more}
 use Rattle.guided_expand.specs.Guides.{Guides, pairsIn}
 use Rattle.guided_expand.specs.declared.steps.Pair.{Pair}

@@ -15,7 +15,7 @@ use Rattle.theory.specs.Basics.{either, lt-or-le, same-or-not, pick-true, pick-
 use Rattle.theory.specs.Pairs.{pair-of, nodeOf-inside}
 use Rattle.guided_model.specs.State.{unopened, Marks, marks}
 use Rattle.guided_model.specs.Moves.{Stayed, Fell, Offerable, Relaxed}
-use Rattle.guided_expand.specs.Fills.{Filled, RowOpened}
+use Rattle.guided_rows.specs.Fills.{Filled, RowOpened}
 
 -- the key of pair k: the one in the slice where its row is filled
 unfoldable pub seenAt : Automaton → List Bool → List ℕ → ℕ → ℕ

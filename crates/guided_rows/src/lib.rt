@@ -1,12 +1,11 @@
-// Rows of keys, filled one by one when the search first comes to them.
+// Rows of keys, each filled when its first pair is opened.
 ghost use mathlib.Core.Path.{_≡_};
 ghost use Prim.Native.Nat.{_+_, _≤_, _<_};
 ghost use lib.ListN.{length, getD};
-ghost use Rattle.guided_expand.specs.Fills.{Filled, RowOpened};
+ghost use Rattle.guided_rows.specs.Fills.{Filled, RowOpened};
+use convert::wide;
 use definitions::NONE;
-use definitions::Node;
 use definitions::Stage;
-use trace::pair_at;
 
 // Fills the keys from `first` to before `until`: none of these pairs was ever opened.
 fn fill_keys(keys: &mut [u32], first: usize, until: usize)
@@ -20,20 +19,14 @@ fn fill_keys(keys: &mut [u32], first: usize, until: usize)
     }
 }
 
-// Fills the row of stage s, of `width` keys.
-pub fn fill_row(keys: &mut [u32], row: &[u32; 256], s: Stage, width: usize)
-    requires { ⌜ (s .0 < 256) × (getD (now row) (s .0) 0 + width ≤ length (now keys)) ⌝ }
-    ensures { λ _. ⌜
-        (let first = getD (now (row .entry)) (s .0) 0 in
-        Filled first (first + width) (now (keys .entry)) (now (keys .exit)))
-        ⌝ }
-{
-    let first = pair_at(row, s, Node(0));
-    fill_keys(keys, first, first + width);
-}
-
-// Fills the row of stage s where that was not done before; `filled` marks the rows that are filled.
-pub fn open_row(keys: &mut [u32], filled: &mut [bool; 256], row: &[u32; 256], s: Stage, width: usize)
+// Fills the row of stage s, of `width` keys, unless that is done; `filled` marks the rows that are filled.
+pub fn open_row(
+    keys: &mut [u32],
+    filled: &mut [bool; 256],
+    row: &[u32; 256],
+    s: Stage,
+    width: usize,
+)
     requires { ⌜ (s .0 < 256) × (getD (now row) (s .0) 0 + width ≤ length (now keys)) × (length (now filled) ≡ 256) ⌝ }
     ensures { λ _. ⌜
         (let first = getD (now (row .entry)) (s .0) 0 in
@@ -44,6 +37,7 @@ pub fn open_row(keys: &mut [u32], filled: &mut [bool; 256], row: &[u32; 256], s:
     if filled[i] {
         return;
     }
-    fill_row(keys, row, s, width);
+    let first = wide(row[i]);
+    fill_keys(keys, first, first + width);
     filled[i] = true;
 }

@@ -1,7 +1,7 @@
 -- The loop that fills keys, and both ways of `open_row`.
 -- Assumes nothing.
 use Prim.Native.Nat.{ℕ, _+_, _≤_, _<_}
-use mathlib.Core.Path.{_≡_, refl, sym, _∙_, subst₂}
+use mathlib.Core.Path.{_≡_, refl, sym, _∙_, subst}
 use mathlib.Core.Bool.{Bool, true, false}
 use mathlib.Core.List.{List}
 use native.Mathlib.Omega.{arith}
@@ -9,7 +9,7 @@ use lib.ListN.{length, getD, set, drop, length-set}
 use lib.Seq.{getD-set-same, getD-set-other, drop-set-lt}
 use Rattle.theory.specs.Basics.{either, same-or-not, true-not-false}
 use Rattle.guided_model.specs.State.{unopened}
-use Rattle.guided_expand.specs.Fills.{Filled, RowOpened}
+use Rattle.guided_rows.specs.Fills.{Filled, RowOpened}
 
 -- keys filled so far
 pub record Filling (first k until : ℕ) (keys₀ keys : List ℕ) : Type 0 where
@@ -32,24 +32,19 @@ fill-more {first} {k} {until} {keys₀} {keys} c f l i = record {
 pub fill-all : {first k until : ℕ} {keys₀ keys : List ℕ} → Filling first k until keys₀ keys → until ≤ k → Filled first until keys₀ keys
 fill-all c l = record { fresh = λ j a b. c .fresh j a (omega arith); before = c .before; past = c .past }
 
--- by the number at which the code found that the row starts
-pub filled-row : (a width : ℕ) {first : ℕ} {keys keys′ : List ℕ} → first ≡ a + 0 → Filled first (first + width) keys keys′ → Filled a (a + width) keys keys′
-filled-row a width {first} {keys} {keys′} p c =
-    let i : first ≡ a = omega arith in
-    let j : first + width ≡ a + width = omega arith in
-    subst₂ (λ (k m : ℕ). Filled k m keys keys′) i j c
-
 -- ---- `open_row`
 
-module _ {s first until : ℕ} {keys : List ℕ} {filled : List Bool} where
-  pub row-was : getD filled s false ≡ true → RowOpened s first until keys filled keys filled
+module _ (width : ℕ) {s first : ℕ} {keys : List ℕ} {filled : List Bool} where
+  pub row-was : getD filled s false ≡ true → RowOpened s first (first + width) keys filled keys filled
   row-was q = record { marked = q; long = refl; other-marks = λ t n. refl; was = λ e. refl; new = λ e. absurd (true-not-false (sym q ∙ e)) }
 
-  pub row-new : getD filled s false ≡ false → s < length filled → {keys′ : List ℕ} → Filled first until keys keys′ → RowOpened s first until keys filled keys′ (set filled s true)
-  row-new q i c = record {
+  -- the code found that the row starts at `begin`
+  pub row-new : getD filled s false ≡ false → s < length filled → {begin : ℕ} → begin ≡ first → {keys′ : List ℕ} → Filled begin (begin + width) keys keys′
+      → RowOpened s first (first + width) keys filled keys′ (set filled s true)
+  row-new q i b {keys′} c = record {
     marked = getD-set-same filled s true false i;
     long = length-set filled s true;
     other-marks = λ t n. getD-set-other filled s t true false n;
     was = λ e. absurd (true-not-false (sym e ∙ q));
-    new = λ e. c;
+    new = λ e. subst (λ (k : ℕ). Filled k (k + width) keys keys′) b c;
   }

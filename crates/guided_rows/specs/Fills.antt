@@ -1,7 +1,7 @@
 -- What filling a row of keys leaves.
 -- Assumes nothing.
 use Prim.Native.Nat.{ℕ, _+_, _-_, _≤_, _<_}
-use mathlib.Core.Path.{_≡_, sym, _∙_, ap}
+use mathlib.Core.Path.{_≡_, refl, sym, _∙_, ap}
 use mathlib.Core.Bool.{Bool, true, false}
 use mathlib.Core.List.{List}
 use native.Mathlib.Omega.{arith}
@@ -16,7 +16,7 @@ pub record Filled (first until : ℕ) (keys keys′ : List ℕ) : Type 0 where
   pub past : drop until keys′ ≡ drop until keys
 
 -- nothing past that
-pub past-until : {first until p : ℕ} {keys keys′ : List ℕ} → Filled first until keys keys′ → until ≤ p → drop p keys′ ≡ drop p keys
+past-until : {first until p : ℕ} {keys keys′ : List ℕ} → Filled first until keys keys′ → until ≤ p → drop p keys′ ≡ drop p keys
 past-until {first} {until} {p} {keys} {keys′} f h =
     let q : until + (p - until) ≡ p = omega arith in
     rw (← q) (sym (drop-drop (p - until) until keys′) ∙ ap (drop (p - until)) (f .past) ∙ drop-drop (p - until) until keys)
@@ -28,3 +28,12 @@ pub record RowOpened (s first until : ℕ) (keys : List ℕ) (filled : List Bool
   pub other-marks : (t : ℕ) → (t ≡ s → ⊥) → getD filled′ t false ≡ getD filled t false
   pub was : getD filled s false ≡ true → keys′ ≡ keys
   pub new : getD filled s false ≡ false → Filled first until keys keys′
+
+-- nothing past the rows
+pub opened-past : {s first until p : ℕ} {keys : List ℕ} {filled : List Bool} {keys′ : List ℕ} {filled′ : List Bool} → RowOpened s first until keys filled keys′ filled′
+    → until ≤ p → drop p keys′ ≡ drop p keys
+opened-past {s} {first} {until} {p} {keys} {filled} {keys′} o h = go (getD filled s false) refl
+  where
+    go : (b : Bool) → getD filled s false ≡ b → drop p keys′ ≡ drop p keys
+    go true q = ap (drop p) (o .was q)
+    go false q = past-until (o .new q) h
