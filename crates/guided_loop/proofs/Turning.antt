@@ -42,7 +42,7 @@ use Rattle.guided_loop.proofs.Placing.{at-begin, at-step}
 use Rattle.guided_loop.proofs.Beginning.{g, a, tables, sound, width, narrow, pairs-are, few-pairs}
 
 module _ {z : Shape} {on : Walk} {t : Estimates} {yes-at : List Bool} (prepared : Prepared z on t yes-at)
-    {x₀ : Work} {log₀ : List ℕ} {x : Progress} {log : List ℕ} {floor count : ℕ} (w : Turning (prepared .by) x₀ log₀ x log floor count) where
+    {size : Size} {x₀ : Work} {log₀ : List ℕ} {x : Progress} {log : List ℕ} {floor count : ℕ} (w : Turning (prepared .by) size x₀ log₀ x log floor count) where
   abbrev by : Guides z on t
   by = prepared .by
 
@@ -55,7 +55,14 @@ module _ {z : Shape} {on : Walk} {t : Estimates} {yes-at : List Bool} (prepared 
   abbrev D : Diagram
   D = diagramIn z (on .read)
 
-  -- the keys of all pairs
+  -- all pairs
+  sized : z .stages * a by .size ≡ size .pairs
+  sized = pairs-are by ∙ sym (w .sized .pairs)
+
+  past-in : {y y′ : Work} → Past (size .pairs) y y′ → Past (pairsIn z) y y′
+  past-in {y} {y′} m = subst (λ (k : ℕ). Past k y y′) (w .sized .pairs) m
+
+  -- their keys
   abbrev keys : List ℕ
   keys = seen (a by) (x .filled) (x .slices .keys)
 
@@ -75,7 +82,7 @@ module _ {z : Shape} {on : Walk} {t : Estimates} {yes-at : List Bool} (prepared 
   }
 
   module _ {begin y key : ℕ} {heap′ pos′ : List ℕ} {c′ : Counts} (eb : begin ≡ startPair (g by) (a by))
-      (k : Taken (pairsIn z) floor y key (queueOf x) (state (x .slices .keys) heap′ pos′ (x .slices .stack) c′)) where
+      (k : Taken (size .pairs) floor y key (queueOf x) (state (x .slices .keys) heap′ pos′ (x .slices .stack) c′)) where
     abbrev x′ : Progress
     x′ = progress (work (x .slices .keys) (x .slices .via) heap′ pos′ (x .slices .stack)) (x .filled) c′
 
@@ -89,14 +96,14 @@ module _ {z : Shape} {on : Walk} {t : Estimates} {yes-at : List Bool} (prepared 
     others = record { kept = k .kept; only = k .only; gone = k .gone }
 
     -- there is room for it in the log, and its number is small
-    pub turn-room : count < pairsIn z
-    turn-room = omega (arith, running-room C D (sound by) (by .guide) (w .running) smallest, pairs-are by)
+    pub turn-room : count < size .pairs
+    turn-room = omega (arith, running-room C D (sound by) (by .guide) (w .running) smallest, sized)
 
     pub turn-fits : count < length log
-    turn-fits = omega (arith, turn-room, w .running .fits, pairs-are by)
+    turn-fits = omega (arith, turn-room, w .running .fits, sized)
 
     pub turn-small : (y < 131072) × (count < 131072)
-    turn-small = (omega (arith, k .pair, few-pairs by), omega (arith, turn-room, few-pairs by))
+    turn-small = (omega (arith, k .pair, w .sized .pairs, few-pairs by), omega (arith, turn-room, w .sized .pairs, few-pairs by))
 
     -- where it stands
     abbrev stage : ℕ
@@ -167,13 +174,9 @@ module _ {z : Shape} {on : Walk} {t : Estimates} {yes-at : List Bool} (prepared 
         abbrev pub turn-source : Source
         turn-source = record { pair = pair; cost = key - r; key = key }
 
-        abbrev pub turn-size : Size
-        turn-size = record { pairs = pairsIn z; width = z .nodes + 2 }
-
-        pub turn-opens : Opens (prepared .by) turn-source turn-size x′
+        pub turn-opens : Opens (prepared .by) turn-source size x′
         turn-opens = record {
-          pairs = refl;
-          width = refl;
+          sized = w .sized;
           fits = w .fits;
           rows = w .rows;
           queue = k .queue;
@@ -182,7 +185,7 @@ module _ {z : Shape} {on : Walk} {t : Estimates} {yes-at : List Bool} (prepared 
           settling = subst (λ (i : ℕ). Settling (g by) (a by) h s n (i - r) i) (sym key-is) (settles .2);
         }
 
-        abbrev pub turn-asks : Opening on t turn-source turn-size x′
+        abbrev pub turn-asks : Opening on t turn-source size x′
         turn-asks = record { z = z; by = prepared .by; opens = turn-opens }
 
         module _ {goal-at : Bool} (eg : goal-at ≡ (eqb s (z .end .0) && getD yes-at n false)) where
@@ -197,10 +200,10 @@ module _ {z : Shape} {on : Walk} {t : Estimates} {yes-at : List Bool} (prepared 
                     (λ f j. from-at z (on .read) (tables by) f (omega (arith, count-is z (on .read) (tables by))))
                     turn-located (eqb-true s (z .end .0) (v .0)) (sym (prepared .accepts n (turn-located .node)) ∙ v .1) spent-is);
                 no-goal = λ i. absurd (true-not-false (sym ef ∙ i));
-                past = past-more (w .past) taken-past;
+                past = past-more (w .past) (past-in taken-past);
               }
             where
-              taken-past : Past (pairsIn z) (x .slices) (x′ .slices)
+              taken-past : Past (size .pairs) (x .slices) (x′ .slices)
               taken-past = record { keys-past = refl; via-past = refl; heap-past = k .past .heap-past; pos-past = k .past .pos-past; stack-past = refl }
 
           no-goal : goal-at ≡ false → goalAt (g by) (a by) h y ≡ false
@@ -213,20 +216,21 @@ module _ {z : Shape} {on : Walk} {t : Estimates} {yes-at : List Bool} (prepared 
 
           -- no goal pair: the steps from it were offered
           pub turn-more : goal-at ≡ false → {x″ : Progress} → length (x″ .slices .via) ≡ length (x .slices .via)
-              → Opened (prepared .by) turn-source turn-size (getD (on .first) s 0) (getD (on .first) (s + 1) 0) x′ x″
-              → Turning (prepared .by) x₀ log₀ x″ (set log count y) key (count + 1)
+              → Opened (prepared .by) turn-source size (getD (on .first) s 0) (getD (on .first) (s + 1) 0) x′ x″
+              → Turning (prepared .by) size x₀ log₀ x″ (set log count y) key (count + 1)
           turn-more q {x″} l o = record {
+            sized = w .sized;
             queue = o .kept .queue;
             fits = omega (arith, w .fits);
             rows = o .rows ∙ w .rows;
             running = subst (λ (f : ℕ). Running C D h (seenIn (a by) x″) log₀ (set log count y) (count + 1) f) (sym key-is)
                 (running-turn C D (sound by) (by .guide) (w .running) smallest others s n (key - r) (getD (on .first) s 0) (getD (on .first) (s + 1) 0)
                 turn-located spent-is (λ e i f. first-all z on (by .ready) s e (turn-located .stage) i f) (o .expanded) (no-goal q));
-            past = past-more (w .past) (record {
+            past = past-more (w .past) (past-in (record {
               keys-past = o .kept .past .keys-past;
               via-past = o .kept .past .via-past;
               heap-past = o .kept .past .heap-past ∙ k .past .heap-past;
               pos-past = o .kept .past .pos-past ∙ k .past .pos-past;
               stack-past = o .kept .past .stack-past;
-            });
+            }));
           }

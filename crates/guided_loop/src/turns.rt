@@ -2,7 +2,7 @@
 ghost use Rattle.checks.specs.Tables.{read};
 ghost use Rattle.checks.specs.Ready.{walk};
 ghost use Rattle.guided_expand.specs.Estimates.{estimates};
-ghost use Rattle.guided_expand.specs.Work.{work};
+ghost use Rattle.guided_expand.specs.Work.{work, progress};
 ghost use Rattle.guided_loop.specs.Search.{Start, Begun, Searched};
 use crate::places::is_goal;
 use crate::places::pair_of;
@@ -11,9 +11,9 @@ use definitions::Node;
 use definitions::Shape;
 use guided_expand::Size;
 use guided_expand::Source;
-use guided_expand::fill_row;
 use guided_expand::pair_estimate;
 use guided_expand::settle;
+use guided_rows::open_row;
 use queue::Counts;
 use trace::pair_at;
 
@@ -25,8 +25,8 @@ pub struct Ended {
     pub count: usize,
 }
 
-// Settles open pairs in turn and writes each to the log, until a goal pair is settled or none is open. Of the rows of keys
-// only that of the start is filled; each other one is when its first pair is opened.
+// Settles open pairs in turn and writes each to the log, until a goal pair is settled or none is open. `begin` is the pair of
+// start and root.
 fn settle_open<'a>(
     keys: &mut [u32],
     via: &mut [u32],
@@ -34,6 +34,9 @@ fn settle_open<'a>(
     pos: &mut [u32],
     stack: &mut [u32],
     log: &mut [u32],
+    filled: &mut [bool; 256],
+    size: Size,
+    opened: Counts,
     steps: &'a [[u32; 1024]; 3],
     first: &'a [u16; 257],
     row: &'a [u32; 256],
@@ -42,52 +45,48 @@ fn settle_open<'a>(
     by_node: &'a [u32; 512],
     yes: &'a [bool; 512],
     z: Shape,
-    opened: Counts,
+    begin: usize,
 ) -> Ended
     requires { ⌜
-        (let before = work (now keys) (now via) (now heap) (now pos) (now stack) in
+        (let slices = work (now keys) (now via) (now heap) (now pos) (now stack) in
+        let before = progress slices (now filled) opened in
         let on = walk (read (now steps) (now inner)) (now first) (now row) in
         let estimated = estimates (now «by_stage») (now «by_node») in
-        Begun z on estimated (now yes) before opened (now log))
+        Begun z on estimated (now yes) size begin before (now log))
         ⌝ }
     ensures { λ r. ⌜
-        (let before = work (now (keys .entry)) (now (via .entry)) (now (heap .entry)) (now (pos .entry)) (now (stack .entry)) in
+        (let slices = work (now (keys .entry)) (now (via .entry)) (now (heap .entry)) (now (pos .entry)) (now (stack .entry)) in
+        let before = progress slices (now (filled .entry)) opened in
         let after = work (now (keys .exit)) (now (via .exit)) (now (heap .exit)) (now (pos .exit)) (now (stack .exit)) in
         let on = walk (read (now (steps .entry)) (now (inner .entry))) (now (first .entry)) (now (row .entry)) in
         let estimated = estimates (now («by_stage» .entry)) (now («by_node» .entry)) in
-        (x : Begun z on estimated (now (yes .entry)) before opened (now (log .entry)))
-        → Searched (x .prepared .by) before (now (log .entry)) after (now (log .exit)) r)
+        (x : Begun z on estimated (now (yes .entry)) size begin before (now (log .entry)))
+        → Searched (x .prepared .by) slices (now (log .entry)) after (now (log .exit)) r)
         ⌝ }
 {
-    let width = z.nodes + 2;
-    let p = z.stages as usize * width;
-    let size = Size { pairs: p, width };
-    let begin = pair_at(row, z.start, z.root);
-    let mut filled = [false; 256];
-    filled[z.start.0 as usize] = true;
     let mut counts = opened;
     let mut floor: u32 = 0;
     let mut count: usize = 0;
-    let mut found = false;
-    let mut node = Node(0);
-    let mut cost: u32 = 0;
-    'search: while 0 < counts.held {
-        let next = queue::take(keys, heap, pos, stack, p, counts, floor);
+    while 0 < counts.held {
+        let next = queue::take(keys, heap, pos, stack, size.pairs, counts, floor);
         let x = next.pair;
         floor = next.key;
         log[count] = x as u32;
         count += 1;
         let at = pair_of(via, &steps[TO], row, begin, z.start, x);
-        let spent = floor - pair_estimate(by_stage, by_node, at.stage, at.node);
+        let cost = floor - pair_estimate(by_stage, by_node, at.stage, at.node);
         if is_goal(yes, z.end, at) {
-            found = true;
-            node = at.node;
-            cost = spent;
-            break 'search;
+            let node = at.node;
+            return Ended {
+                found: true,
+                node,
+                cost,
+                count,
+            };
         }
         let source = Source {
             pair: at,
-            cost: spent,
+            cost,
             key: floor,
         };
         counts = settle(
@@ -96,7 +95,7 @@ fn settle_open<'a>(
             heap,
             pos,
             stack,
-            &mut filled,
+            filled,
             size,
             next.counts,
             steps,
@@ -109,15 +108,15 @@ fn settle_open<'a>(
         );
     }
     Ended {
-        found,
-        node,
-        cost,
+        found: false,
+        node: Node(0),
+        cost: 0,
         count,
     }
 }
 
 // Opens the pair of start and root, whose estimate is `rest`, and settles open pairs until a goal pair is settled or none
-// is open.
+// is open. Each row of keys is filled when its first pair is opened.
 pub fn search<'a>(
     keys: &mut [u32],
     via: &mut [u32],
@@ -151,10 +150,22 @@ pub fn search<'a>(
         ⌝ }
 {
     let width = z.nodes + 2;
-    let p = z.stages as usize * width;
+    let pairs = z.stages as usize * width;
+    let size = Size { pairs, width };
     let begin = pair_at(row, z.start, z.root);
-    fill_row(keys, row, z.start, width);
-    let opened = queue::insert(keys, heap, pos, stack, p, queue::empty(), 0, begin, rest);
+    let mut filled = [false; 256];
+    open_row(keys, &mut filled, row, z.start, width);
+    let opened = queue::insert(
+        keys,
+        heap,
+        pos,
+        stack,
+        pairs,
+        queue::empty(),
+        0,
+        begin,
+        rest,
+    );
     settle_open(
         keys,
         via,
@@ -162,6 +173,9 @@ pub fn search<'a>(
         pos,
         stack,
         log,
+        &mut filled,
+        size,
+        opened,
         steps,
         first,
         row,
@@ -170,6 +184,6 @@ pub fn search<'a>(
         by_node,
         yes,
         z,
-        opened,
+        begin,
     )
 }

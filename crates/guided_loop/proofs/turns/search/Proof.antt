@@ -1,8 +1,8 @@
 -- `guided_loop::search` meets its contract: the pair of start and root is opened, then open pairs are settled.
 use mathlib.Core.Path.{_∙_}
 use native.Mathlib.Omega.{arith}
-use Rattle.guided_loop.proofs.Beginning.{narrow, few-pairs, start-small, begin-fills, begin-asks, begin-begun, begin-searched}
 use borrow.Author.Needs.{needs}
+use Rattle.guided_loop.proofs.Beginning.{narrow, few-pairs, start-small, begin-row, begin-asks, begin-begun, begin-searched}
 use Rattle.guided_loop.proofs.turns.search.Statement.{statement}
 use Rattle.guided_loop.proofs.turns.search.Tie as tie
 
@@ -10,10 +10,10 @@ use Rattle.guided_loop.proofs.turns.search.Tie as tie
 abbrev start-of : tie.After-pair-at → tie.Start
 start-of c = search
 
-abbrev first-of : tie.After-fill-row → tie.After-pair-at
+abbrev first-of : tie.After-open-row → tie.After-pair-at
 first-of c = search
 
-abbrev row-of : tie.After-empty → tie.After-fill-row
+abbrev row-of : tie.After-empty → tie.After-open-row
 row-of c = search
 
 abbrev none-of : tie.After-insert → tie.After-empty
@@ -27,11 +27,11 @@ add-width c =
     let start : tie.Start = search in
     omega (arith, narrow (start .pre .prepared .by))
 
-cast-p : tie.Need-cast-p
-cast-p c = search needs
+cast-pairs : tie.Need-cast-pairs
+cast-pairs c = search needs
 
-mul-p : tie.Need-mul-p
-mul-p c =
+mul-pairs : tie.Need-mul-pairs
+mul-pairs c =
     let start : tie.Start = search in
     omega (arith, few-pairs (start .pre .prepared .by))
 
@@ -40,10 +40,10 @@ pair-at-requires c κs =
     let start : tie.Start = search in
     start-small (start .pre .prepared .by)
 
-fill-row-requires : tie.Need-fill-row-requires
-fill-row-requires c κs =
+open-row-requires : tie.Need-open-row-requires
+open-row-requires c κs =
     let start : tie.Start = search in
-    begin-fills (start .pre)
+    begin-row (start .pre)
 
 empty-requires : tie.Need-empty-requires
 empty-requires c κs = search needs
@@ -54,7 +54,7 @@ insert-requires c κs =
     let row = row-of none in
     let first = first-of row in
     let start = start-of first in
-    begin-asks (start .pre) (row .fill-row .kept .0) (row .fill-row .ensures) (first .pair-at .ensures) (none .empty .ensures)
+    begin-asks (start .pre) (row .open-row .kept .0) (row .open-row .ensures) (first .pair-at .ensures) (none .empty .ensures)
 
 settle-open-requires : tie.Need-settle-open-requires
 settle-open-requires c κs =
@@ -63,7 +63,7 @@ settle-open-requires c κs =
     let row = row-of none in
     let first = first-of row in
     let start = start-of first in
-    begin-begun (start .pre) (row .fill-row .kept .0) (row .fill-row .ensures) (first .pair-at .ensures) (none .empty .ensures) (opened .insert .ensures)
+    begin-begun (start .pre) (row .open-row .kept .0) (row .open-row .ensures) (first .pair-at .ensures) (none .empty .ensures) (opened .insert .ensures)
 
 same-length : tie.Need-same-length
 same-length c =
@@ -71,7 +71,7 @@ same-length c =
     let opened = opened-of settled in
     let none = none-of opened in
     let row = row-of none in
-    settled .settle-open .kept .0 ∙ opened .insert .kept .0 ∙ row .fill-row .kept .0
+    settled .settle-open .kept .0 ∙ opened .insert .kept .0 ∙ row .open-row .kept .0
 
 same-length-2 : tie.Need-same-length-2
 same-length-2 c = search needs
@@ -95,20 +95,20 @@ returns c =
     let none = none-of opened in
     let row = row-of none in
     let first = first-of row in
-    let long = row .fill-row .kept .0 in
+    let long = row .open-row .kept .0 in
     λ x.
-    let begun = begin-begun x long (row .fill-row .ensures) (first .pair-at .ensures) (none .empty .ensures) (opened .insert .ensures) in
-    begin-searched x long (row .fill-row .ensures) (first .pair-at .ensures) (none .empty .ensures) (opened .insert .ensures) (settled .settle-open .ensures begun)
+    let begun = begin-begun x long (row .open-row .ensures) (first .pair-at .ensures) (none .empty .ensures) (opened .insert .ensures) in
+    begin-searched x long (row .open-row .ensures) (first .pair-at .ensures) (none .empty .ensures) (opened .insert .ensures) (settled .settle-open .ensures begun)
 
 pub search-spec : {M : Type 1} → statement M
 search-spec =
     tie.close
     (tie.spec
     add-width
-    cast-p
-    mul-p
+    cast-pairs
+    mul-pairs
     pair-at-requires
-    fill-row-requires
+    open-row-requires
     empty-requires
     insert-requires
     settle-open-requires
