@@ -67,26 +67,26 @@ fn settle_open<'a>(
     let mut counts = opened;
     let mut floor: u32 = 0;
     let mut count: usize = 0;
-    while 0 < counts.held {
+    let mut found = false;
+    let mut node = Node(0);
+    let mut cost: u32 = 0;
+    'search: while 0 < counts.held {
         let next = queue::take(keys, heap, pos, stack, size.pairs, counts, floor);
         let x = next.pair;
         floor = next.key;
         log[count] = x as u32;
         count += 1;
         let at = pair_of(via, &steps[TO], row, begin, z.start, x);
-        let cost = floor - pair_estimate(by_stage, by_node, at.stage, at.node);
+        let spent = floor - pair_estimate(by_stage, by_node, at.stage, at.node);
         if is_goal(yes, z.end, at) {
-            let node = at.node;
-            return Ended {
-                found: true,
-                node,
-                cost,
-                count,
-            };
+            found = true;
+            node = at.node;
+            cost = spent;
+            break 'search;
         }
         let source = Source {
             pair: at,
-            cost,
+            cost: spent,
             key: floor,
         };
         counts = settle(
@@ -108,9 +108,9 @@ fn settle_open<'a>(
         );
     }
     Ended {
-        found: false,
-        node: Node(0),
-        cost: 0,
+        found,
+        node,
+        cost,
         count,
     }
 }
