@@ -1,12 +1,12 @@
 -- From the filled tables to the promise: what the search asks, and that its end is the promised one.
 -- Assumes nothing.
-use Prim.Native.Nat.{ℕ, _+_, _≤_, _<_}
+use Prim.Native.Nat.{ℕ, _+_, _≤_}
 use mathlib.Core.Path.{_≡_, refl, sym, ap, subst}
 use mathlib.Core.Bool.{Bool, true, false}
 use mathlib.Core.List.{List}
 use mathlib.Core.Option.{some}
 use native.Mathlib.Omega.{arith}
-use lib.ListN.{length, getD}
+use lib.ListN.{length}
 use Rattle.definitions.specs.Charts.{Chart}
 use Rattle.definitions.specs.Diagrams.{Diagram}
 use Rattle.definitions.specs.Plans.{cheapest}
@@ -33,7 +33,7 @@ use Rattle.guided_loop.specs.Search.{Start, Searched}
 use Rattle.guided_loop.specs.declared.turns.Ended.{Ended}
 use Rattle.guided.specs.Runs.{estimateIn, workOf, Room, Trails, Ending, Concludes, Runs}
 use Rattle.guided.proofs.Planning.{trail-short, outcome-some, outcome-none}
-use Rattle.guided.proofs.Preparing.{sound, run-narrow, run-root, run-guide, run-shown, run-prepared}
+use Rattle.guided.proofs.Preparing.{sound, run-narrow, run-guide, run-shown, run-prepared}
 
 module _ {z : Shape} {t : Read} (in-tables : Tables z t) {byStage byNode : List ℕ} (es : EstimateTable (chartIn z t) byStage)
     (en : Estimated (t .inner .step) (t .inner .lo) (t .inner .hi) (t .steps .cost) (z .nodes) byNode)

@@ -7,13 +7,13 @@ use mathlib.Core.List.{List, [], _∷_, map}
 use mathlib.Core.Logic.{_⊎_, inl, inr}
 use native.Mathlib.Omega.{arith}
 use native.Mathlib.Nat.{mul-le-mul-right}
-use lib.ListN.{length, getD, set, drop, length-set}
+use lib.ListN.{length, getD, set, length-set}
 use lib.Seq.{getD-set-same, getD-set-other, getD-drop, ext-getD}
 use Rattle.definitions.specs.Basics.{pick, upto}
 use Rattle.definitions.specs.Pairs.{Automaton, stageOf, nodeOf}
 use Rattle.theory.specs.Basics.{either, lt-or-le, same-or-not, pick-true, pick-false, length-map-run, getD-map-upto}
 use Rattle.theory.specs.Pairs.{pair-of, nodeOf-inside}
-use Rattle.guided_model.specs.State.{unopened, Marks, marks}
+use Rattle.guided_model.specs.State.{unopened, marks}
 use Rattle.guided_model.specs.Moves.{Stayed, Fell, Offerable, Relaxed}
 use Rattle.guided_rows.specs.Fills.{Filled, RowOpened}
 

@@ -1,5 +1,5 @@
 -- `guided::run` meets its contract.
-use mathlib.Core.Path.{refl, _∙_}
+use mathlib.Core.Path.{refl}
 use native.Mathlib.Omega.{arith}
 use Rattle.guided.proofs.Preparing.{run-lo, run-nodes, run-sorted, run-staged, run-narrow, run-root}
 use Rattle.guided.proofs.Finding.{runs-none, run-start, found-traceable, found-runs}
