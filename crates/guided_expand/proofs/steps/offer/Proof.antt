@@ -1,5 +1,5 @@
 -- `guided_expand::offer` meets its contract.
-use mathlib.Core.Path.{refl}
+use mathlib.Core.Path.{refl, _∙_}
 use native.Mathlib.Omega.{arith}
 use Rattle.guided_expand.specs.Opening.{opened-more}
 use Rattle.guided_expand.proofs.Stepping.{step-small, stage-small, target-small, leads-none, leads-fit, leads-row, leads-ask, leads-some, row-opened, row-leading}
@@ -102,19 +102,32 @@ relax-requires c κs =
     leads-ask l _ (rest .pair-estimate .ensures) (some .if1 .left) _ _ (target .pair-at .ensures) refl (row .ensures .marked)
 
 same-length : tie.Need-same-length
-same-length c = search needs
+same-length c =
+    let relaxed : tie.After-relax = search in
+    let marked : tie.After-packed = search in
+    let target = target-of marked in
+    let ready = row-of target in
+    relaxed .relax .kept .0 ∙ ready .open-row .kept .0
 
 same-length-2 : tie.Need-same-length-2
-same-length-2 c = search needs
+same-length-2 c =
+    let relaxed : tie.After-relax = search in
+    relaxed .relax .kept .1 .0
 
 same-length-3 : tie.Need-same-length-3
-same-length-3 c = search needs
+same-length-3 c =
+    let relaxed : tie.After-relax = search in
+    relaxed .relax .kept .1 .1 .0
 
 same-length-4 : tie.Need-same-length-4
-same-length-4 c = search needs
+same-length-4 c =
+    let relaxed : tie.After-relax = search in
+    relaxed .relax .kept .1 .1 .1 .0
 
 same-length-5 : tie.Need-same-length-5
-same-length-5 c = search needs
+same-length-5 c =
+    let relaxed : tie.After-relax = search in
+    relaxed .relax .kept .1 .1 .1 .1 .0
 
 returns-2 : tie.Need-returns-2
 returns-2 c =

@@ -74,19 +74,32 @@ same-length c =
     settled .settle-open .kept .0 ∙ opened .insert .kept .0 ∙ row .open-row .kept .0
 
 same-length-2 : tie.Need-same-length-2
-same-length-2 c = search needs
+same-length-2 c =
+    let settled : tie.After-settle-open = search in
+    settled .settle-open .kept .1 .0
 
 same-length-3 : tie.Need-same-length-3
-same-length-3 c = search needs
+same-length-3 c =
+    let settled : tie.After-settle-open = search in
+    let opened = opened-of settled in
+    settled .settle-open .kept .1 .1 .0 ∙ opened .insert .kept .1 .0
 
 same-length-4 : tie.Need-same-length-4
-same-length-4 c = search needs
+same-length-4 c =
+    let settled : tie.After-settle-open = search in
+    let opened = opened-of settled in
+    settled .settle-open .kept .1 .1 .1 .0 ∙ opened .insert .kept .1 .1 .0
 
 same-length-5 : tie.Need-same-length-5
-same-length-5 c = search needs
+same-length-5 c =
+    let settled : tie.After-settle-open = search in
+    let opened = opened-of settled in
+    settled .settle-open .kept .1 .1 .1 .1 .0 ∙ opened .insert .kept .1 .1 .1 .0
 
 same-length-6 : tie.Need-same-length-6
-same-length-6 c = search needs
+same-length-6 c =
+    let settled : tie.After-settle-open = search in
+    settled .settle-open .kept .1 .1 .1 .1 .1 .0
 
 returns : tie.Need-returns
 returns c =
