@@ -1,12 +1,12 @@
--- From the filled tables to the promise: what clearing and the search ask, and that the search's end is the promised one.
+-- From the filled tables to the promise: what the search asks, and that its end is the promised one.
 -- Assumes nothing.
-use Prim.Native.Nat.{ℕ, _+_, _≤_, _<_}
+use Prim.Native.Nat.{ℕ, _+_, _≤_}
 use mathlib.Core.Path.{_≡_, refl, sym, ap, subst}
 use mathlib.Core.Bool.{Bool, true, false}
 use mathlib.Core.List.{List}
 use mathlib.Core.Option.{some}
 use native.Mathlib.Omega.{arith}
-use lib.ListN.{length, getD}
+use lib.ListN.{length}
 use Rattle.definitions.specs.Charts.{Chart}
 use Rattle.definitions.specs.Diagrams.{Diagram}
 use Rattle.definitions.specs.Plans.{cheapest}
@@ -28,15 +28,12 @@ use Rattle.guided_model.specs.Based.{logged-plain}
 use Rattle.guided_model.specs.Charts.{GoalSettled, NoneSettled, none-begun}
 use Rattle.guided_model.specs.Guides.{estimate-until}
 use Rattle.guided_expand.specs.Estimates.{estimates, paired}
-use Rattle.guided_expand.specs.Work.{Work, work, Past, past-same, past-more}
-use Rattle.guided_expand.specs.Guides.{pairsIn}
+use Rattle.guided_expand.specs.Work.{Work, past-same}
 use Rattle.guided_loop.specs.Search.{Start, Searched}
 use Rattle.guided_loop.specs.declared.turns.Ended.{Ended}
-use Rattle.guided.specs.Clears.{Cleared}
 use Rattle.guided.specs.Runs.{estimateIn, workOf, Room, Trails, Ending, Concludes, Runs}
-use Rattle.guided.proofs.Clearing.{rows-ordered, rows-inside, rows-clear, rows-past}
 use Rattle.guided.proofs.Planning.{trail-short, outcome-some, outcome-none}
-use Rattle.guided.proofs.Preparing.{sound, run-narrow, run-root, run-guide, run-shown, run-prepared}
+use Rattle.guided.proofs.Preparing.{sound, run-narrow, run-guide, run-shown, run-prepared}
 
 module _ {z : Shape} {t : Read} (in-tables : Tables z t) {byStage byNode : List ℕ} (es : EstimateTable (chartIn z t) byStage)
     (en : Estimated (t .inner .step) (t .inner .lo) (t .inner .hi) (t .steps .cost) (z .nodes) byNode)
@@ -75,89 +72,65 @@ module _ {z : Shape} {t : Read} (in-tables : Tables z t) {byStage byNode : List 
     pub until-end : (s n m : ℕ) → estimateIn z t s n ≡ some m → s ≤ z .end .0
     until-end = estimate-until C D (in-tables .valid)
 
-    -- what clearing asks
-    pub clears : ((z .start .0 < 256) × (z .end .0 < 256))
-        × ((getD row (z .start .0) 0 ≤ getD row (z .end .0) 0) × (getD row (z .end .0) 0 + (z .nodes + 2) ≤ length (x .keys)))
-    clears = (
-      (run-root in-tables .0, omega (arith, in-tables .valid .end-inside, run-narrow in-tables)),
-      (
-        rows-ordered ready (in-tables .valid .end-inside) (until-end (z .start .0) (z .root .0) rest has-estimate),
-        omega (arith, rows-inside ready (in-tables .valid .end-inside), room .space .keys-fit),
-      ),
-    )
+    -- what the search asks
+    abbrev pub run-start : Start z on (estimates byStage byNode) yes-at rest (workOf x) (x .log)
+    run-start = record {
+      prepared = run-prepared in-tables es en ef ew ey;
+      space = room .space;
+      has = has-estimate;
+      inside = λ s n m e. omega (arith, until-end s n m e, in-tables .valid .end-inside);
+    }
 
-    module _ {keys′ : List ℕ} (cl : Cleared (getD row (z .start .0) 0) (getD row (z .end .0) 0 + (z .nodes + 2)) (x .keys) keys′) (long : length keys′ ≡ length (x .keys)) where
-      abbrev pub cleared : Work
-      cleared = work keys′ (x .via) (x .heap) (x .pos) (x .stack)
+    -- the search is done
+    module _ {y : Work} {log′ : List ℕ} {e : Ended} (s : Searched (run-prepared in-tables es en ef ew ey .by) (workOf x) (x .log) y log′ e)
+        (via-long : length (y .via) ≡ length (x .via)) where
+      trail-in : {via : List ℕ} {width node : ℕ} {w : List ℕ} → Trail via (t .steps .from) width (z .start .0) (z .end .0) node w → length w ≤ length (x .plan)
+      trail-in w = omega (arith, trail-short w, in-tables .valid .end-inside, room .plan-fits)
 
-      abbrev pub cleared-start : Start z on (estimates byStage byNode) yes-at rest cleared (x .log)
-      cleared-start = record {
-        prepared = run-prepared in-tables es en ef ew ey;
-        space = record {
-          keys-fit = omega (arith, room .space .keys-fit);
-          via-fits = room .space .via-fits;
-          heap-fits = room .space .heap-fits;
-          pos-fits = room .space .pos-fits;
-          stack-fits = room .space .stack-fits;
-          log-fits = room .space .log-fits;
-        };
-        has = has-estimate;
-        clear = rows-clear ready (in-tables .valid .end-inside) cl (estimateIn z t) until-end;
+      abbrev settled : e .found ≡ true → GoalSettled C D (estimateIn z t) 0 (y .via) (t .steps .from) (e .node .0) (e .cost) (e .count) (x .log) log′
+      settled f = s .goal f
+
+      abbrev trail-of : e .found ≡ true → Trails z (y .via) (t .steps) row e
+      trail-of f = record {
+        stages = z .stages;
+        width = z .nodes + 2;
+        rows = ew;
+        few = run-narrow in-tables .0;
+        narrow = run-narrow in-tables .1;
+        fits = omega (arith, room .space .via-fits);
+        stage = in-tables .valid .end-inside;
+        node = omega (arith, settled f .inside, width-is z t in-tables);
+        steps = settled f .steps;
+        trail = subst (λ (k : ℕ). Trail (y .via) (t .steps .from) k (z .start .0) (z .end .0) (e .node .0) (settled f .steps)) (width-is z t in-tables) (settled f .trail);
       }
 
-      cleared-past : Past (pairsIn z) (workOf x) cleared
-      cleared-past = record { keys-past = rows-past ready (in-tables .valid .end-inside) cl; via-past = refl; heap-past = refl; pos-past = refl; stack-past = refl }
+      pub found-traceable : Ending z (y .via) (t .steps) row e (x .plan)
+      found-traceable = record { traceable = trail-of; fits = omega (arith, in-tables .valid .end-inside, room .plan-fits) }
 
-      -- the search is done
-      module _ {y : Work} {log′ : List ℕ} {e : Ended} (s : Searched (run-prepared in-tables es en ef ew ey .by) cleared (x .log) y log′ e)
-          (via-long : length (y .via) ≡ length (x .via)) where
-        trail-in : {via : List ℕ} {width node : ℕ} {w : List ℕ} → Trail via (t .steps .from) width (z .start .0) (z .end .0) node w → length w ≤ length (x .plan)
-        trail-in w = omega (arith, trail-short w, in-tables .valid .end-inside, room .plan-fits)
+      pub found-runs : {plan′ : List ℕ} {r : Answer} → Concludes z (y .via) (t .steps) row e (x .plan) plan′ r → length plan′ ≡ length (x .plan)
+          → Runs z t x (guidedSlices (y .keys) (y .via) (y .heap) (y .pos) (y .stack) log′ plan′) r
+      found-runs {plan′} {r} c l = go (e .found) refl
+        where
+          logged-with : (k : ℕ) → r .count ≡ k → Logged (graphIn z t) (automatonIn z t) (estimateIn z t) (cheapest C D) k (x .log) log′
+              → Logged (graphIn z t) (automatonIn z t) (estimateIn z t) (cheapest C D) (r .count) (x .log) log′
+          logged-with k q w = rw q w
 
-        abbrev settled : e .found ≡ true → GoalSettled C D (estimateIn z t) 0 (y .via) (t .steps .from) (e .node .0) (e .cost) (e .count) (x .log) log′
-        settled f = s .goal f
-
-        abbrev trail-of : e .found ≡ true → Trails z (y .via) (t .steps) row e
-        trail-of f = record {
-          stages = z .stages;
-          width = z .nodes + 2;
-          rows = ew;
-          few = run-narrow in-tables .0;
-          narrow = run-narrow in-tables .1;
-          fits = omega (arith, room .space .via-fits);
-          stage = in-tables .valid .end-inside;
-          node = omega (arith, settled f .inside, width-is z t in-tables);
-          steps = settled f .steps;
-          trail = subst (λ (k : ℕ). Trail (y .via) (t .steps .from) k (z .start .0) (z .end .0) (e .node .0) (settled f .steps)) (width-is z t in-tables) (settled f .trail);
-        }
-
-        pub found-traceable : Ending z (y .via) (t .steps) row e (x .plan)
-        found-traceable = record { traceable = trail-of; fits = omega (arith, in-tables .valid .end-inside, room .plan-fits) }
-
-        pub found-runs : {plan′ : List ℕ} {r : Answer} → Concludes z (y .via) (t .steps) row e (x .plan) plan′ r → length plan′ ≡ length (x .plan)
-            → Runs z t x (guidedSlices (y .keys) (y .via) (y .heap) (y .pos) (y .stack) log′ plan′) r
-        found-runs {plan′} {r} c l = go (e .found) refl
-          where
-            logged-with : (k : ℕ) → r .count ≡ k → Logged (graphIn z t) (automatonIn z t) (estimateIn z t) (cheapest C D) k (x .log) log′
-                → Logged (graphIn z t) (automatonIn z t) (estimateIn z t) (cheapest C D) (r .count) (x .log) log′
-            logged-with k q w = rw q w
-
-            go : (b : Bool) → e .found ≡ b → Runs z t x (guidedSlices (y .keys) (y .via) (y .heap) (y .pos) (y .stack) log′ plan′) r
-            go true f =
-                let a = c .found f (trail-of f) in
-                record {
-                  outcome = outcome-some C D (e .count) (x .plan) (e .cost) (settled f .steps) plan′ r (settled f .best) (settled f .legal) (settled f .costs) (trail-in (settled f .trail))
-                      (a .0) (a .1) l;
-                  logged = logged-with (e .count) (ap (λ (i : Answer). i .count) (a .0))
-                      (logged-plain (graphIn z t) (automatonIn z t) (estimateIn z t) (cheapest C D) (e .count) (x .log) log′ (settled f .logged));
-                  past = past-more cleared-past (s .past);
-                }
-            go false f =
-                let a = c .not-found f in
-                let n = s .no-goal f in
-                record {
-                  outcome = outcome-none C D (e .count) (x .plan) plan′ r (n .best) (a .0) (a .1);
-                  logged = logged-with (e .count) (ap (λ (i : Answer). i .count) (a .0))
-                      (logged-plain (graphIn z t) (automatonIn z t) (estimateIn z t) (cheapest C D) (e .count) (x .log) log′ (n .logged));
-                  past = past-more cleared-past (s .past);
-                }
+          go : (b : Bool) → e .found ≡ b → Runs z t x (guidedSlices (y .keys) (y .via) (y .heap) (y .pos) (y .stack) log′ plan′) r
+          go true f =
+              let a = c .found f (trail-of f) in
+              record {
+                outcome = outcome-some C D (e .count) (x .plan) (e .cost) (settled f .steps) plan′ r (settled f .best) (settled f .legal) (settled f .costs) (trail-in (settled f .trail))
+                    (a .0) (a .1) l;
+                logged = logged-with (e .count) (ap (λ (i : Answer). i .count) (a .0))
+                    (logged-plain (graphIn z t) (automatonIn z t) (estimateIn z t) (cheapest C D) (e .count) (x .log) log′ (settled f .logged));
+                past = s .past;
+              }
+          go false f =
+              let a = c .not-found f in
+              let n = s .no-goal f in
+              record {
+                outcome = outcome-none C D (e .count) (x .plan) plan′ r (n .best) (a .0) (a .1);
+                logged = logged-with (e .count) (ap (λ (i : Answer). i .count) (a .0))
+                    (logged-plain (graphIn z t) (automatonIn z t) (estimateIn z t) (cheapest C D) (e .count) (x .log) log′ (n .logged));
+                past = s .past;
+              }

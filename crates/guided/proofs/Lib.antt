@@ -1,4 +1,3 @@
-mod Clearing
 mod Planning
 mod Preparing
 mod Finding

@@ -1,5 +1,4 @@
 // The guided search (A*) of a chart file under a diagram file: the checks, the search, and the plan.
-mod clear;
 mod run;
 
 pub use run::guided;

@@ -3,7 +3,6 @@ ghost use Rattle.definitions.specs.Promises.{guidedSlices, GuidedCall};
 ghost use Rattle.chart.specs.Tables.{stepsIn};
 ghost use Rattle.checks.specs.Tables.{read, Tables};
 ghost use Rattle.guided.specs.Runs.{Room, Runs, Ending, Concludes};
-use crate::clear::clear_rows;
 use chart::COST;
 use chart::FROM;
 use chart_stages::chart_estimates;
@@ -86,7 +85,6 @@ fn run<'a>(
     fill_row_starts(&mut row, z.stages as usize, z.nodes + 2);
     let mut yes = [false; 512];
     fill_finishing(&mut yes, &inner[LO], z.nodes);
-    clear_rows(keys, &row, z.nodes + 2, z.start, z.end);
     let ended = search(
         keys,
         via,

@@ -1,31 +1,39 @@
--- One step from a pair that is settled: where it leads, what it offers, and what `offer` leaves.
+-- One step from a pair that is settled: where it leads, the row that it enters, what it offers, and what `offer` leaves.
 -- Assumes nothing.
 use Prim.Native.Nat.{ℕ, _+_, _*_, _≤_, _<_}
-use mathlib.Core.Path.{_≡_, sym, _∙_, ap, ap₂}
+use mathlib.Core.Path.{_≡_, refl, sym, _∙_, ap, ap₂}
+use mathlib.Core.Bool.{Bool, true, false}
 use mathlib.Core.List.{List}
+use mathlib.Core.Logic.{inl}
 use mathlib.Core.Option.{some}
 use native.Mathlib.Omega.{arith}
-use lib.ListN.{getD}
+use lib.ListN.{length, getD}
 use Rattle.queue.specs.declared.Counts.{Counts}
+use Rattle.queue.specs.Queue.{Contains}
+use Rattle.queue.proofs.Facts.{keys-fit, contains-pair, contains-keys, queue-keys}
 use Rattle.definitions.specs.Ways.{Graph}
-use Rattle.definitions.specs.Pairs.{Automaton, Estimate, pair}
+use Rattle.definitions.specs.Pairs.{Automaton, Estimate, pair, stageOf}
 use Rattle.definitions.specs.Promises.{shown}
 use Rattle.definitions.specs.declared.Shape.{Shape}
 use Rattle.theory.specs.Ways.{step-cheap}
 use Rattle.trace.specs.Trails.{packed}
 use Rattle.chart.specs.Tables.{Steps}
 use Rattle.checks.specs.Tables.{Tables}
-use Rattle.checks.specs.Ready.{Walk, walk, graphIn, automatonIn, count-is, width-is, few-stages, few-nodes, few-steps, to-at, cost-at, row-start}
+use Rattle.checks.specs.Ready.{Walk, walk, graphIn, automatonIn, count-is, width-is, few-stages, few-nodes, few-steps, to-at, cost-at}
 use Rattle.guided_model.specs.State.{unopened}
-use Rattle.guided_model.specs.Bounds.{estimate-none, estimate-some}
+use Rattle.guided_model.specs.Bounds.{stage-is, estimate-none, estimate-some}
 use Rattle.guided_model.specs.Moves.{offerable, step-none, step-relaxed}
 use Rattle.guided_model.specs.Settling.{Target, target}
 use Rattle.guided_expand.specs.Estimates.{Estimates, paired}
-use Rattle.guided_expand.specs.Work.{Work, marksIn, kept-same, Offering, Relaxes}
-use Rattle.guided_expand.specs.Opening.{sourceStage, sourceNode, Opened, tablesOf, Leading}
+use Rattle.guided_rows.specs.Fills.{RowOpened, opened-past}
+use Rattle.guided_rows.specs.Seen.{seen-row, offerable-seen, relaxed-seen, filled-keys, opened-seen}
+use Rattle.guided_expand.specs.Work.{Work, work, Progress, progress, queueOf, seenIn, kept-same, Offering, Relaxes}
+use Rattle.guided_expand.specs.Guides.{row-begins, row-ends}
+use Rattle.guided_expand.specs.Opening.{sourceStage, sourceNode, Opened, opens-on, tablesOf, Leading}
 use Rattle.guided_expand.specs.declared.steps.Source.{Source}
+use Rattle.guided_expand.specs.declared.steps.Size.{Size}
 
-module _ {steps : Steps} {row : List ℕ} {t : Estimates} {from : Source} {p e to : ℕ} {x : Work} {c : Counts} (l : Leading steps row t from p e to x c) where
+module _ {steps : Steps} {row : List ℕ} {t : Estimates} {from : Source} {size : Size} {e to : ℕ} {x : Progress} (l : Leading steps row t from size e to x) where
   abbrev s : ℕ
   s = sourceStage from
 
@@ -65,9 +73,6 @@ module _ {steps : Steps} {row : List ℕ} {t : Estimates} {from : Source} {p e t
   pub step-small : e < 1024
   step-small = omega (arith, l .exists, few-steps z (on .read) tables)
 
-  pub node-small : n < 512
-  node-small = omega (arith, l .opens .settling .node, narrow)
-
   to-stage : getD (steps .to) e 0 ≡ g .to e
   to-stage = to-at z (on .read) tables e (l .exists)
 
@@ -89,14 +94,28 @@ module _ {steps : Steps} {row : List ℕ} {t : Estimates} {from : Source} {p e t
   cost-is : getD (steps .cost) e 0 ≡ g .cost e
   cost-is = cost-at z (on .read) tables e (l .exists)
 
+  pairs-are : z .stages * a .size ≡ size .pairs
+  pairs-are = ap (λ (k : ℕ). z .stages * k) width ∙ sym (l .opens .sized .pairs)
+
+  -- the row of the stage that the step enters
+  abbrev entered : ℕ
+  entered = getD (steps .to) e 0
+
+  entered-inside : entered < z .stages
+  entered-inside = omega (arith, to-stage, stage-inside)
+
+  row-is : getD row entered 0 ≡ entered * a .size
+  row-is = row-begins (l .by .ready) entered entered-inside
+
   module _ (rest : ℕ) (er : rest ≡ paired t (getD (steps .to) e 0) to) where
     shown-is : rest ≡ shown (h (g .to e) (a .next e n))
     shown-is = er ∙ l .by .holds (getD (steps .to) e 0) to stage-late stage-small (omega (arith, l .enters, next-inside, width)) ∙ ap shown (ap₂ h to-stage (l .enters))
 
-    pub leads-none : rest ≡ unopened → Opened (l .by) from p e (e + 1) x c x c
+    pub leads-none : rest ≡ unopened → Opened (l .by) from size e (e + 1) x x
     leads-none q = record {
-      expanded = step-none g a h s n spent e (marksIn x c) (estimate-none (l .by .guide) (g .to e) (a .next e n) rest next-inside shown-is q);
+      expanded = step-none g a h s n spent e (seenIn a x) (estimate-none (l .by .guide) (g .to e) (a .next e n) rest next-inside shown-is q);
       kept = kept-same (l .opens .queue);
+      rows = refl;
     }
 
     module _ (q : rest ≡ unopened → ⊥) where
@@ -110,33 +129,99 @@ module _ {steps : Steps} {row : List ℕ} {t : Estimates} {from : Source} {p e t
       leads : Target (l .by .guide) (from .key) (pair a (g .to e) (a .next e n)) (spent + g .cost e + rest)
       leads = target (l .by .guide) s n spent (from .key) e rest (l .opens .settling) exists (l .leaves) has
 
-      module _ (y v : ℕ) (ey : y ≡ getD row (getD (steps .to) e 0) 0 + to) (ev : v ≡ spent + getD (steps .cost) e 0 + rest) where
-        row-is : getD row (getD (steps .to) e 0) 0 ≡ g .to e * a .size
-        row-is =
-            ap (λ (k : ℕ). getD row k 0) to-stage ∙ row-start z on (l .by .ready) (g .to e) stage-inside
-            ∙ ap (λ (k : ℕ). g .to e * k) (sym width)
-
+      module _ (y v : ℕ) (ey : y ≡ getD row (getD (steps .to) e 0) 0 + to) (ev : v ≡ spent + getD (steps .cost) e 0 + rest)
+          (filled : getD (x .filled) (getD (steps .to) e 0) false ≡ true) where
         pair-is : y ≡ pair a (g .to e) (a .next e n)
-        pair-is = omega (arith, row-is, l .enters)
+        pair-is = omega (arith, row-is, l .enters, to-stage, ap (λ (k : ℕ). k * a .size) to-stage)
 
         key-is : v ≡ spent + g .cost e + rest
         key-is = omega (arith, cost-is)
 
-        pub leads-ask : Offering p (from .key) y v x c
+        row-filled : getD (x .filled) (stageOf a y) false ≡ true
+        row-filled = ap (λ (k : ℕ). getD (x .filled) k false) (stage-is a (g .to e) (a .next e n) y next-inside pair-is ∙ sym to-stage) ∙ filled
+
+        inside : y < size .pairs
+        inside = omega (arith, pair-is, leads .pair-inside, pairs-are)
+
+        has-key : y < length (x .slices .keys)
+        has-key = omega (arith, inside, keys-fit (l .opens .queue))
+
+        pub leads-ask : Offering (size .pairs) (from .key) y v (x .slices) (x .counts)
         leads-ask =
-            let w : z .stages * a .size ≡ p = ap (λ (k : ℕ). z .stages * k) width ∙ sym (l .opens .pairs) in
             let above : from .key ≤ v = omega (arith, leads .above, key-is) in
             record {
               queue = l .opens .queue;
-              pair = omega (arith, pair-is, leads .pair-inside);
+              pair = inside;
               fits = l .opens .fits;
               above = above;
               low = omega (arith, key-is, leads .low);
-              offerable = offerable g a h (marksIn x c) (from .key) y v (l .opens .frontier) (rw pair-is (leads .may-open)) above;
+              offerable = offerable-seen a (x .filled) (x .slices .keys) y has-key row-filled
+                  (offerable g a h (seenIn a x) (from .key) y v (l .opens .frontier) (rw pair-is (leads .may-open)) above);
             }
 
-        pub leads-some : {mark : ℕ} {x′ : Work} {c′ : Counts} → mark ≡ packed e n → Relaxes p (from .key) y v mark x c x′ c′ → Opened (l .by) from p e (e + 1) x c x′ c′
-        leads-some {mark} {x′} {c′} em r = record {
-          expanded = step-relaxed g a h s n spent e rest y v mark (marksIn x c) (marksIn x′ c′) exists (l .leaves) has pair-is key-is em (r .relaxed);
+        pub leads-some : {mark : ℕ} {w : Work} {c : Counts} → mark ≡ packed e n → length (w .keys) ≡ length (x .slices .keys)
+            → Relaxes (size .pairs) (from .key) y v mark (x .slices) (x .counts) w c → Opened (l .by) from size e (e + 1) x (progress w (x .filled) c)
+        leads-some {mark} {w} {c} em long r = record {
+          expanded = step-relaxed g a h s n spent e rest y v mark (seenIn a x) (seenIn a (progress w (x .filled) c)) exists (l .leaves) has pair-is key-is em
+              (relaxed-seen a (x .filled) (x .slices .keys) y has-key row-filled (w .keys) long (r .relaxed));
           kept = r .kept;
+          rows = refl;
         }
+
+  -- ---- the row is filled
+
+  abbrev begin : ℕ
+  begin = getD row entered 0
+
+  row-end : begin + size .width ≤ size .pairs
+  row-end = omega (arith, row-ends (l .by .ready) entered entered-inside, l .opens .sized .width, l .opens .sized .pairs)
+
+  pub leads-row : (entered < 256) × (begin + size .width ≤ length (x .slices .keys)) × (length (x .filled) ≡ 256)
+  leads-row = (stage-small, omega (arith, row-end, keys-fit (l .opens .queue)), l .opens .rows)
+
+  module _ {keys′ : List ℕ} {filled′ : List Bool} (long : length keys′ ≡ length (x .slices .keys))
+      (o : RowOpened entered begin (begin + size .width) (x .slices .keys) (x .filled) keys′ filled′) where
+    abbrev x′ : Progress
+    x′ = progress (work keys′ (x .slices .via) (x .slices .heap) (x .slices .pos) (x .slices .stack)) filled′ (x .counts)
+
+    some-nodes : 0 < a .size
+    some-nodes = omega (arith, width)
+
+    ends : begin + size .width ≡ begin + a .size
+    ends = omega (arith, l .opens .sized .width, width)
+
+    open-same : (q : ℕ) → Contains (queueOf x) q → getD keys′ q 0 ≡ getD (x .slices .keys) q 0
+    open-same q w =
+        let i : q < length (x .slices .keys) = omega (arith, contains-pair (l .opens .queue) w, keys-fit (l .opens .queue)) in
+        filled-keys a some-nodes row-is ends long o q (seen-row a (x .filled) (x .slices .keys) q i (l .opens .frontier .finite q w))
+
+    -- it is filled, and nothing else has changed
+    pub row-opened : Opened (l .by) from size e e x x′
+    row-opened = record {
+      expanded = record {
+        moved = λ k. inl (record {
+          same-key = opened-seen a some-nodes row-is ends long o k;
+          same-via = refl;
+          still = contains-keys keys′;
+          only = contains-keys (x .slices .keys);
+        });
+        offered = λ f i j. absurd (omega arith);
+      };
+      kept = record {
+        queue = queue-keys keys′ (l .opens .queue) (omega (arith, keys-fit (l .opens .queue))) open-same;
+        past = record { keys-past = opened-past o row-end; via-past = refl; heap-past = refl; pos-past = refl; stack-past = refl };
+      };
+      rows = o .long;
+    }
+
+    abbrev pub row-leading : Leading steps row t from size e to x′
+    row-leading = record {
+      inner = l .inner;
+      first = l .first;
+      z = l .z;
+      by = l .by;
+      opens = opens-on (l .by) from size refl (l .opens) row-opened;
+      exists = l .exists;
+      leaves = l .leaves;
+      enters = l .enters;
+    }

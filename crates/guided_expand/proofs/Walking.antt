@@ -1,10 +1,9 @@
 -- The loop of `settle`: the steps before e have been offered, and the node is lowered for one of them.
 -- Assumes nothing.
 use Prim.Native.Nat.{ℕ, _+_, _≤_, _<_}
-use mathlib.Core.Path.{_≡_, sym, _∙_, subst}
+use mathlib.Core.Path.{_≡_, refl, sym, _∙_, subst}
 use native.Mathlib.Omega.{arith}
 use lib.ListN.{length, getD}
-use Rattle.queue.specs.declared.Counts.{Counts}
 use Rattle.definitions.specs.Ways.{Graph}
 use Rattle.definitions.specs.Pairs.{Automaton}
 use Rattle.definitions.specs.declared.Shape.{Shape}
@@ -19,41 +18,43 @@ use Rattle.checks.specs.Ready.{Walk, graphIn, automatonIn, width-is, few-stages
 use Rattle.guided_model.specs.Bounds.{dead-steps}
 use Rattle.guided_model.specs.Moves.{expanded-none}
 use Rattle.guided_expand.specs.Estimates.{Estimates}
-use Rattle.guided_expand.specs.Work.{Work, marksIn, kept-same}
+use Rattle.guided_expand.specs.Work.{Progress, seenIn, kept-same}
 use Rattle.guided_expand.specs.Guides.{Guides}
 use Rattle.guided_expand.specs.Opening.{sourceStage, sourceNode, Opens, Opened, opens-on, opened-more, Opening, Leading}
 use Rattle.guided_expand.specs.declared.steps.Source.{Source}
+use Rattle.guided_expand.specs.declared.steps.Size.{Size}
 
 -- the steps of stage s, by the table of first steps
 abbrev pub firstOf : Walk → ℕ → ℕ
 firstOf on s = getD (on .first) s 0
 
-module _ {on : Walk} {t : Estimates} {from : Source} {p : ℕ} {x : Work} {c : Counts} (o : Opening on t from p x c) where
+module _ {on : Walk} {t : Estimates} {from : Source} {size : Size} {x : Progress} (o : Opening on t from size x) where
   pub settles-stage : sourceStage from < 256
   settles-stage = omega (arith, o .opens .settling .stage, few-stages (o .z) (on .read) (o .by .ready .tables))
 
   pub settles-order : firstOf on (sourceStage from) ≤ firstOf on (sourceStage from + 1)
   settles-order = first-order (o .z) on (o .by .ready) (sourceStage from) (o .opens .settling .stage) .0
 
-pub record Walking {z : Shape} {on : Walk} {t : Estimates} (by : Guides z on t) (from : Source) (p : ℕ) (x₀ : Work) (c₀ : Counts) (x : Work) (c : Counts) (m e : ℕ) : Type 0 where
+pub record Walking {z : Shape} {on : Walk} {t : Estimates} (by : Guides z on t) (from : Source) (size : Size) (x₀ x : Progress) (m e : ℕ) : Type 0 where
   pub for-step : ℕ
   pub not-later : for-step ≤ e
   pub lowers : Lowers (on .read .inner .step) (on .read .inner .lo) for-step (sourceNode from) m
   pub begun : firstOf on (sourceStage from) ≤ e
-  pub opens : Opens by from p x c
-  pub opened : Opened by from p (firstOf on (sourceStage from)) e x₀ c₀ x c
+  pub opens : Opens by from size x
+  pub opened : Opened by from size (firstOf on (sourceStage from)) e x₀ x
 
 -- no step is offered
-opened-none : {z : Shape} {on : Walk} {t : Estimates} {by : Guides z on t} {from : Source} {p : ℕ} {x : Work} {c : Counts} → Opens by from p x c → (first until : ℕ)
-    → ((e : ℕ) → first ≤ e → e < until → automatonIn z (on .read) .next e (sourceNode from) ≡ 0) → Opened by from p first until x c x c
-opened-none {z} {on} {t} {by} {from} {p} {x} {c} o first until q = record {
-  expanded = expanded-none (graphIn z (on .read)) (automatonIn z (on .read)) (by .h) (sourceStage from) (sourceNode from) (from .cost) first until (marksIn x c)
+opened-none : {z : Shape} {on : Walk} {t : Estimates} {by : Guides z on t} {from : Source} {size : Size} {x : Progress} → Opens by from size x → (first until : ℕ)
+    → ((e : ℕ) → first ≤ e → e < until → automatonIn z (on .read) .next e (sourceNode from) ≡ 0) → Opened by from size first until x x
+opened-none {z} {on} {t} {by} {from} {size} {x} o first until q = record {
+  expanded = expanded-none (graphIn z (on .read)) (automatonIn z (on .read)) (by .h) (sourceStage from) (sourceNode from) (from .cost) first until (seenIn (automatonIn z (on .read)) x)
       (dead-steps (by .guide) (sourceNode from) first until q);
   kept = kept-same (o .queue);
+  rows = refl;
 }
 
-pub walk-start : {on : Walk} {t : Estimates} {from : Source} {p : ℕ} {x : Work} {c : Counts} (o : Opening on t from p x c)
-    → Walking (o .by) from p x c x c (sourceNode from) (firstOf on (sourceStage from))
+pub walk-start : {on : Walk} {t : Estimates} {from : Source} {size : Size} {x : Progress} (o : Opening on t from size x)
+    → Walking (o .by) from size x x (sourceNode from) (firstOf on (sourceStage from))
 walk-start {on} {t} {from} o = record {
   for-step = 0;
   not-later = omega arith;
@@ -63,8 +64,8 @@ walk-start {on} {t} {from} o = record {
   opened = opened-none (o .opens) (firstOf on (sourceStage from)) (firstOf on (sourceStage from)) (λ e i j. absurd (omega arith));
 }
 
-module _ {z : Shape} {on : Walk} {t : Estimates} {by : Guides z on t} {from : Source} {p : ℕ} {x₀ : Work} {c₀ : Counts} {x : Work} {c : Counts} {m e : ℕ}
-    (w : Walking by from p x₀ c₀ x c m e) where
+module _ {z : Shape} {on : Walk} {t : Estimates} {by : Guides z on t} {from : Source} {size : Size} {x₀ x : Progress} {m e : ℕ}
+    (w : Walking by from size x₀ x m e) where
   abbrev s : ℕ
   s = sourceStage from
 
@@ -108,9 +109,9 @@ module _ {z : Shape} {on : Walk} {t : Estimates} {by : Guides z on t} {from : So
       )
 
       -- node 0: no further step leads to a pair
-      pub walk-dead : r ≡ 0 → Opened by from p (firstOf on s) (firstOf on (s + 1)) x₀ c₀ x c
+      pub walk-dead : r ≡ 0 → Opened by from size (firstOf on s) (firstOf on (s + 1)) x₀ x
       walk-dead q =
-          opened-more by from p (w .opened)
+          opened-more by from size (w .opened)
           (opened-none (w .opens) e (firstOf on (s + 1))
           (λ f i j. next-is (chartIn z (on .read)) (diagramIn z (on .read)) f n
           ∙ sym (advancing-dead (inner .step) (inner .lo) (inner .hi) e f n i (subst (Lowers (inner .step) (inner .lo) e n) q lowered) .is
@@ -118,7 +119,7 @@ module _ {z : Shape} {on : Walk} {t : Estimates} {by : Guides z on t} {from : So
 
       -- the step leads to node `to`
       module _ {to : ℕ} (b : BranchesTo (inner .step) (inner .hi) e r to) where
-        abbrev pub walk-leading : Leading (on .read .steps) (on .row) t from p e to x c
+        abbrev pub walk-leading : Leading (on .read .steps) (on .row) t from size e to x
         walk-leading = record {
           inner = on .read .inner;
           first = on .first;
@@ -133,15 +134,15 @@ module _ {z : Shape} {on : Walk} {t : Estimates} {by : Guides z on t} {from : So
         }
 
         -- and is offered
-        pub walk-more : {x′ : Work} {c′ : Counts} → length (x′ .via) ≡ length (x .via) → Opened by from p e (e + 1) x c x′ c′ → Walking by from p x₀ c₀ x′ c′ r (e + 1)
+        pub walk-more : {x′ : Progress} → length (x′ .slices .via) ≡ length (x .slices .via) → Opened by from size e (e + 1) x x′ → Walking by from size x₀ x′ r (e + 1)
         walk-more q o = record {
           for-step = e;
           not-later = omega arith;
           lowers = lowered;
           begun = omega (arith, w .begun);
-          opens = opens-on by from p q (w .opens) o;
-          opened = opened-more by from p (w .opened) o;
+          opens = opens-on by from size q (w .opens) o;
+          opened = opened-more by from size (w .opened) o;
         }
 
-  pub walk-done : e ≡ firstOf on (s + 1) → Opened by from p (firstOf on s) (firstOf on (s + 1)) x₀ c₀ x c
-  walk-done q = subst (λ (k : ℕ). Opened by from p (firstOf on s) k x₀ c₀ x c) q (w .opened)
+  pub walk-done : e ≡ firstOf on (s + 1) → Opened by from size (firstOf on s) (firstOf on (s + 1)) x₀ x
+  walk-done q = subst (λ (k : ℕ). Opened by from size (firstOf on s) k x₀ x) q (w .opened)

@@ -5,7 +5,7 @@ ghost use Rattle.chart.specs.Tables.{stepsIn};
 ghost use Rattle.checks.specs.Tables.{read};
 ghost use Rattle.checks.specs.Ready.{walk};
 ghost use Rattle.guided_expand.specs.Estimates.{estimates};
-ghost use Rattle.guided_expand.specs.Work.{work};
+ghost use Rattle.guided_expand.specs.Work.{work, progress};
 ghost use Rattle.guided_expand.specs.Opening.{Opened, Opening, Leading};
 use crate::estimate::pair_estimate;
 use crate::relax::relax;
@@ -18,6 +18,7 @@ use definitions::Step;
 use diagram::HI;
 use diagram::LO;
 use diagram::STEP;
+use guided_rows::open_row;
 use nodes::branch;
 use nodes::descend_to;
 use queue::Counts;
@@ -37,6 +38,12 @@ pub struct Source {
     pub key: u32,
 }
 
+// How many pairs there are, and how many of them are in a row.
+pub struct Size {
+    pub pairs: usize,
+    pub width: usize,
+}
+
 // Offers step e, which leaves the settled pair `source` and leads to node t.
 fn offer<'a>(
     keys: &mut [u32],
@@ -44,7 +51,8 @@ fn offer<'a>(
     heap: &mut [u32],
     pos: &mut [u32],
     stack: &mut [u32],
-    p: usize,
+    filled: &mut [bool; 256],
+    size: Size,
     counts: Counts,
     steps: &'a [[u32; 1024]; 3],
     row: &'a [u32; 256],
@@ -55,16 +63,19 @@ fn offer<'a>(
     t: Node,
 ) -> Counts
     requires { ⌜
-        (let before = work (now keys) (now via) (now heap) (now pos) (now stack) in
+        (let slices = work (now keys) (now via) (now heap) (now pos) (now stack) in
+        let before = progress slices (now filled) counts in
         let estimated = estimates (now «by_stage») (now «by_node») in
-        Leading (stepsIn (now steps)) (now row) estimated source p (e .0) (t .0) before counts)
+        Leading (stepsIn (now steps)) (now row) estimated source size (e .0) (t .0) before)
         ⌝ }
     ensures { λ r. ⌜
-        (let before = work (now (keys .entry)) (now (via .entry)) (now (heap .entry)) (now (pos .entry)) (now (stack .entry)) in
-        let after = work (now (keys .exit)) (now (via .exit)) (now (heap .exit)) (now (pos .exit)) (now (stack .exit)) in
+        (let slices = work (now (keys .entry)) (now (via .entry)) (now (heap .entry)) (now (pos .entry)) (now (stack .entry)) in
+        let slices′ = work (now (keys .exit)) (now (via .exit)) (now (heap .exit)) (now (pos .exit)) (now (stack .exit)) in
+        let before = progress slices (now (filled .entry)) counts in
+        let after = progress slices′ (now (filled .exit)) r in
         let estimated = estimates (now («by_stage» .entry)) (now («by_node» .entry)) in
-        (x : Leading (stepsIn (now (steps .entry))) (now (row .entry)) estimated source p (e .0) (t .0) before counts)
-        → Opened (x .by) source p (e .0) (e .0 + 1) before counts after r)
+        (x : Leading (stepsIn (now (steps .entry))) (now (row .entry)) estimated source size (e .0) (t .0) before)
+        → Opened (x .by) source size (e .0) (e .0 + 1) before after)
         ⌝ }
 {
     let i = e.0 as usize;
@@ -74,6 +85,7 @@ fn offer<'a>(
     if rest == NONE {
         return counts;
     }
+    open_row(keys, filled, row, stage, size.width);
     let y = pair_at(row, stage, t);
     let v = source.cost + steps[COST][i] + rest;
     relax(
@@ -82,7 +94,7 @@ fn offer<'a>(
         heap,
         pos,
         stack,
-        p,
+        size.pairs,
         counts,
         source.key,
         y,
@@ -99,7 +111,8 @@ pub fn settle<'a>(
     heap: &mut [u32],
     pos: &mut [u32],
     stack: &mut [u32],
-    p: usize,
+    filled: &mut [bool; 256],
+    size: Size,
     counts: Counts,
     steps: &'a [[u32; 1024]; 3],
     first: &'a [u16; 257],
@@ -110,19 +123,22 @@ pub fn settle<'a>(
     source: Source,
 ) -> Counts
     requires { ⌜
-        (let before = work (now keys) (now via) (now heap) (now pos) (now stack) in
+        (let slices = work (now keys) (now via) (now heap) (now pos) (now stack) in
+        let before = progress slices (now filled) counts in
         let on = walk (read (now steps) (now inner)) (now first) (now row) in
         let estimated = estimates (now «by_stage») (now «by_node») in
-        Opening on estimated source p before counts)
+        Opening on estimated source size before)
         ⌝ }
     ensures { λ r. ⌜
-        (let before = work (now (keys .entry)) (now (via .entry)) (now (heap .entry)) (now (pos .entry)) (now (stack .entry)) in
-        let after = work (now (keys .exit)) (now (via .exit)) (now (heap .exit)) (now (pos .exit)) (now (stack .exit)) in
+        (let slices = work (now (keys .entry)) (now (via .entry)) (now (heap .entry)) (now (pos .entry)) (now (stack .entry)) in
+        let slices′ = work (now (keys .exit)) (now (via .exit)) (now (heap .exit)) (now (pos .exit)) (now (stack .exit)) in
+        let before = progress slices (now (filled .entry)) counts in
+        let after = progress slices′ (now (filled .exit)) r in
         let on = walk (read (now (steps .entry)) (now (inner .entry))) (now (first .entry)) (now (row .entry)) in
         let estimated = estimates (now («by_stage» .entry)) (now («by_node» .entry)) in
         let s = source .pair .stage .0 in
-        (x : Opening on estimated source p before counts)
-        → Opened (x .by) source p (getD (on .first) s 0) (getD (on .first) (s + 1) 0) before counts after r)
+        (x : Opening on estimated source size before)
+        → Opened (x .by) source size (getD (on .first) s 0) (getD (on .first) (s + 1) 0) before after)
         ⌝ }
 {
     let s = source.pair.stage.0 as usize;
@@ -143,7 +159,8 @@ pub fn settle<'a>(
             heap,
             pos,
             stack,
-            p,
+            filled,
+            size,
             left,
             steps,
             row,

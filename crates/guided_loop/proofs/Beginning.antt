@@ -1,29 +1,33 @@
--- Before the first turn: the pair of start and root is opened.
+-- Before the first turn: the row of the start stage is filled, and the pair of start and root is opened.
 -- Assumes nothing.
 use Prim.Native.Nat.{ℕ, _+_, _*_, _≤_, _<_}
-use mathlib.Core.Path.{_≡_, refl, _∙_, ap, subst}
-use mathlib.Core.Bool.{Bool}
+use mathlib.Core.Path.{_≡_, refl, sym, _∙_, ap, subst}
+use mathlib.Core.Bool.{Bool, false}
 use mathlib.Core.List.{List}
 use native.Mathlib.Omega.{arith}
 use native.Mathlib.Nat.{mul-le-mul-right}
-use lib.ListN.{length, getD, set, drop}
+use lib.ListN.{length, getD, set, drop, replicate, length-replicate, getD-replicate}
 use lib.Seq.{drop-set-lt}
 use Rattle.definitions.specs.Ways.{Graph}
-use Rattle.definitions.specs.Pairs.{Automaton}
+use Rattle.definitions.specs.Pairs.{Automaton, stageOf, nodeOf}
 use Rattle.definitions.specs.declared.Shape.{Shape}
 use Rattle.theory.specs.Limits.{Sound}
 use Rattle.theory.specs.Basics.{either, same-or-not}
-use Rattle.theory.specs.Pairs.{pair-inside}
+use Rattle.theory.specs.Pairs.{pair-inside, pair-of, nodeOf-inside}
 use Rattle.theory.specs.Product.{startPair}
 use Rattle.queue.specs.declared.Counts.{Counts}
 use Rattle.queue.specs.Queue.{state, Contains, Queue, Empty, Inserted}
 use Rattle.queue.proofs.Facts.{queue-empty, contains-none}
 use Rattle.checks.specs.Tables.{chartIn, diagramIn, Tables}
 use Rattle.checks.specs.Ready.{Walk, graphIn, automatonIn, width-is, sound-in, few-stages, few-nodes, row-start}
+use Rattle.guided_model.specs.State.{unopened, Openable}
+use Rattle.guided_model.specs.Bounds.{stage-is}
 use Rattle.guided_model.specs.Charts.{Running, running-start}
 use Rattle.guided_expand.specs.Estimates.{Estimates}
-use Rattle.guided_expand.specs.Work.{Work, work, queueIn, marksIn, Past, past-same, past-more}
-use Rattle.guided_expand.specs.Guides.{Guides, pairsIn}
+use Rattle.guided_rows.specs.Fills.{RowOpened, opened-past}
+use Rattle.guided_rows.specs.Seen.{seen, seen-long, seen-fresh, seen-set, opened-seen}
+use Rattle.guided_expand.specs.Work.{Work, work, Progress, progress, queueIn, queueOf, seenIn, Past, past-same, past-more}
+use Rattle.guided_expand.specs.Guides.{Guides, pairsIn, row-begins, row-ends}
 use Rattle.guided_loop.specs.Search.{Start, Begun, Searched}
 use Rattle.guided_loop.specs.declared.turns.Ended.{Ended}
 
@@ -60,53 +64,99 @@ module _ {z : Shape} {on : Walk} {t : Estimates} (by : Guides z on t) where
   begin-is e =
       omega (arith, e, row-start z on (by .ready) (z .start .0) (tables .valid .start-inside), ap (λ (k : ℕ). z .start .0 * k) width)
 
-module _ {z : Shape} {on : Walk} {t : Estimates} {yes-at : List Bool} {rest : ℕ} {x : Work} {log : List ℕ} (b : Start z on t yes-at rest x log)
-    {begin : ℕ} (e : begin ≡ getD (on .row) (z .start .0) 0 + z .root .0) {c : Counts} (no : Empty c) where
+module _ {z : Shape} {on : Walk} {t : Estimates} {yes-at : List Bool} {rest : ℕ} {x : Work} {log : List ℕ} (b : Start z on t yes-at rest x log) where
   abbrev by : Guides z on t
   by = b .prepared .by
 
-  begins : begin ≡ startPair (g by) (a by)
-  begins = begin-is by e
+  abbrev first : ℕ
+  first = getD (on .row) (z .start .0) 0
 
-  begin-inside : begin < pairsIn z
-  begin-inside =
-      omega (arith, begins, pairs-are by, pair-inside (g by) (a by) (z .start .0) (z .root .0) (tables by .valid .start-inside) (sound by .root-inside))
+  row-end : first + (z .nodes + 2) ≤ pairsIn z
+  row-end = row-ends (by .ready) (z .start .0) (tables by .valid .start-inside)
 
-  begin-queue : Queue (pairsIn z) 0 (queueIn x c)
-  begin-queue = queue-empty no (omega (arith, few-pairs by)) (b .space .keys-fit) (b .space .heap-fits) (b .space .pos-fits) (b .space .stack-fits)
+  -- no row is filled
+  abbrev none-filled : List Bool
+  none-filled = replicate 256 false
 
-  pub begin-asks : Queue (pairsIn z) 0 (queueIn x c) × ((begin < pairsIn z) × (0 ≤ rest) × (Contains (queueIn x c) begin → ⊥))
-  begin-asks = (begin-queue, (begin-inside, omega arith, λ o. contains-none begin-queue (no .none-held) o))
+  -- that of the start can be
+  pub begin-row : (z .start .0 < 256) × (first + (z .nodes + 2) ≤ length (x .keys)) × (length none-filled ≡ 256)
+  begin-row = (start-small by, omega (arith, row-end, b .space .keys-fit), length-replicate {A = Bool} 256 false)
 
-  module _ {keys′ heap′ pos′ stack′ : List ℕ} {c′ : Counts} (i : Inserted (pairsIn z) 0 begin rest (queueIn x c) (state keys′ heap′ pos′ stack′ c′)) where
-    abbrev x′ : Work
-    x′ = work keys′ (x .via) heap′ pos′ stack′
+  module _ {keys₁ : List ℕ} {filled : List Bool} (long : length keys₁ ≡ length (x .keys))
+      (o : RowOpened (z .start .0) first (first + (z .nodes + 2)) (x .keys) none-filled keys₁ filled)
+      {begin : ℕ} (e : begin ≡ first + z .root .0) {c : Counts} (no : Empty c) where
+    abbrev x₁ : Work
+    x₁ = work keys₁ (x .via) (x .heap) (x .pos) (x .stack)
 
-    only-begin : (k : ℕ) → Contains (queueIn x′ c′) k → k ≡ begin
-    only-begin k o = either (same-or-not k begin) (λ q. q) (λ q. absurd (contains-none begin-queue (no .none-held) (i .only k o q)))
+    keys-fit : pairsIn z ≤ length keys₁
+    keys-fit = omega (arith, b .space .keys-fit)
 
-    pub begin-running : Running (chartIn z (on .read)) (diagramIn z (on .read)) (by .h) (marksIn x′ c′) log log 0 0
-    begin-running =
-        running-start (chartIn z (on .read)) (diagramIn z (on .read)) (sound by) (by .guide) (x .keys) log (marksIn x′ c′) rest (b .has) (b .clear)
-        (omega (arith, begins, begin-inside, b .space .keys-fit))
-        (i .stored ∙ ap (λ (k : ℕ). set (x .keys) k rest) begins)
-        (subst (Contains (queueIn x′ c′)) begins (i .here)) (λ k o. only-begin k o ∙ begins) (omega (arith, pairs-are by, b .space .log-fits))
+    pub begins : begin ≡ startPair (g by) (a by)
+    begins = begin-is by e
 
-    -- the loop may begin
-    abbrev pub begin-begun : Begun z on t yes-at x′ c′ log
-    begin-begun = record {
-      prepared = b .prepared;
-      turning = record { queue = i .queue; fits = b .space .via-fits; running = begin-running; past = past-same };
-    }
+    begin-inside : begin < pairsIn z
+    begin-inside =
+        omega (arith, begins, pairs-are by, pair-inside (g by) (a by) (z .start .0) (z .root .0) (tables by .valid .start-inside) (sound by .root-inside))
 
-    begin-past : Past (pairsIn z) x x′
-    begin-past = record {
-      keys-past = ap (drop (pairsIn z)) (i .stored) ∙ drop-set-lt (pairsIn z) (x .keys) begin rest begin-inside;
-      via-past = refl;
-      heap-past = i .past .heap-past;
-      pos-past = i .past .pos-past;
-      stack-past = i .past .stack-past;
-    }
+    begin-queue : Queue (pairsIn z) 0 (queueIn x₁ c)
+    begin-queue = queue-empty no (omega (arith, few-pairs by)) keys-fit (b .space .heap-fits) (b .space .pos-fits) (b .space .stack-fits)
 
-    pub begin-searched : {x″ : Work} {log″ : List ℕ} {r : Ended} → Searched (b .prepared .by) x′ log x″ log″ r → Searched (b .prepared .by) x log x″ log″ r
-    begin-searched s = record { goal = s .goal; no-goal = s .no-goal; past = past-more begin-past (s .past) }
+    pub begin-asks : Queue (pairsIn z) 0 (queueIn x₁ c) × ((begin < pairsIn z) × (0 ≤ rest) × (Contains (queueIn x₁ c) begin → ⊥))
+    begin-asks = (begin-queue, (begin-inside, omega arith, λ w. contains-none begin-queue (no .none-held) w))
+
+    -- no pair that may be opened has a key
+    clear : (k : ℕ) → Openable (g by) (a by) (by .h) k → getD (seen (a by) filled keys₁) k 0 ≡ unopened
+    clear k may =
+        let s = stageOf (a by) k in
+        let some-nodes : 0 < a by .size = omega (arith, width by) in
+        let in-chart = b .inside s (nodeOf (a by) k) (may .1 .0) (may .1 .1) in
+        let within = pair-inside (g by) (a by) s (nodeOf (a by) k) in-chart (nodeOf-inside (a by) k some-nodes) in
+        opened-seen (a by) some-nodes (row-begins (by .ready) (z .start .0) (tables by .valid .start-inside)) (ap (λ (j : ℕ). first + j) (sym (width by))) long o k
+        ∙ seen-fresh (a by) none-filled (x .keys) k (omega (arith, b .space .keys-fit, pairs-are by, pair-of (a by) k, within))
+        (getD-replicate {A = Bool} 256 s false false (omega (arith, in-chart, few-stages z (on .read) (tables by))))
+
+    module _ {keys′ heap′ pos′ stack′ : List ℕ} {c′ : Counts} (i : Inserted (pairsIn z) 0 begin rest (queueIn x₁ c) (state keys′ heap′ pos′ stack′ c′)) where
+      abbrev begun : Progress
+      begun = progress (work keys′ (x .via) heap′ pos′ stack′) filled c′
+
+      only-begin : (k : ℕ) → Contains (queueOf begun) k → k ≡ begin
+      only-begin k w = either (same-or-not k begin) (λ q. q) (λ q. absurd (contains-none begin-queue (no .none-held) (i .only k w q)))
+
+      stored : seen (a by) filled keys′ ≡ set (seen (a by) filled keys₁) (startPair (g by) (a by)) rest
+      stored =
+          ap (seen (a by) filled) (i .stored ∙ ap (λ (k : ℕ). set keys₁ k rest) begins)
+          ∙ seen-set (a by) filled keys₁ (startPair (g by) (a by)) rest (omega (arith, begins, begin-inside, keys-fit))
+          (ap (λ (k : ℕ). getD filled k false) (stage-is (a by) (z .start .0) (z .root .0) (startPair (g by) (a by)) (sound by .root-inside) refl) ∙ o .marked)
+
+      pub begin-running : Running (chartIn z (on .read)) (diagramIn z (on .read)) (by .h) (seenIn (a by) begun) log log 0 0
+      begin-running =
+          running-start (chartIn z (on .read)) (diagramIn z (on .read)) (sound by) (by .guide) (seen (a by) filled keys₁) log (seenIn (a by) begun) rest (b .has) clear
+          (omega (arith, begins, begin-inside, keys-fit, seen-long (a by) filled keys₁)) stored
+          (subst (Contains (queueOf begun)) begins (i .here)) (λ k w. only-begin k w ∙ begins) (omega (arith, pairs-are by, b .space .log-fits))
+
+      -- the loop may begin
+      abbrev pub begin-begun : Begun z on t yes-at (record { pairs = pairsIn z; width = z .nodes + 2 }) begin begun log
+      begin-begun = record {
+        prepared = b .prepared;
+        begins = begins;
+        turning = record {
+          sized = record { pairs = refl; width = refl };
+          queue = i .queue;
+          fits = b .space .via-fits;
+          rows = o .long ∙ length-replicate {A = Bool} 256 false;
+          running = begin-running;
+          past = past-same;
+        };
+      }
+
+      begin-past : Past (pairsIn z) x (begun .slices)
+      begin-past = record {
+        keys-past = ap (drop (pairsIn z)) (i .stored) ∙ drop-set-lt (pairsIn z) keys₁ begin rest begin-inside ∙ opened-past o row-end;
+        via-past = refl;
+        heap-past = i .past .heap-past;
+        pos-past = i .past .pos-past;
+        stack-past = i .past .stack-past;
+      }
+
+      pub begin-searched : {x″ : Work} {log″ : List ℕ} {r : Ended} → Searched (b .prepared .by) (begun .slices) log x″ log″ r → Searched (b .prepared .by) x log x″ log″ r
+      begin-searched s = record { goal = s .goal; no-goal = s .no-goal; past = past-more begin-past (s .past) }

@@ -4,6 +4,7 @@ use Prim.Native.Nat.{ℕ, _+_, _-_, _*_, _≤_, _<_}
 use mathlib.Core.Path.{_≡_, refl, sym, _∙_, ap, ap₂, subst, subst₂}
 use mathlib.Core.Bool.{Bool, true, false, _&&_}
 use mathlib.Core.List.{List}
+use mathlib.Core.Logic.{inr}
 use native.Mathlib.Omega.{arith}
 use lib.Dec.{eqb}
 use lib.ListN.{length, getD, set}
@@ -18,19 +19,21 @@ use Rattle.theory.specs.Product.{startPair}
 use Rattle.trace.specs.Trails.{stepIn}
 use Rattle.queue.specs.declared.Counts.{Counts}
 use Rattle.queue.specs.Queue.{state, Contains, Taken}
-use Rattle.queue.proofs.Facts.{contains-none}
+use Rattle.queue.proofs.Facts.{contains-none, contains-pair, keys-fit}
 use Rattle.checks.specs.Tables.{chartIn, diagramIn}
 use Rattle.checks.specs.Ready.{Walk, count-is, few-stages, from-at, to-at, first-all, row-start}
 use Rattle.guided_model.specs.State.{Smallest, Without, costSoFar}
 use Rattle.guided_model.specs.Moves.{Frontier}
-use Rattle.guided_model.specs.Chosen.{chosen-frontier}
+use Rattle.guided_model.specs.Chosen.{opened-low, chosen-frontier}
 use Rattle.guided_model.specs.Settling.{Located, Settling, located-start, located-via, chosen-settling, no-goal-stage, no-goal-node}
 use Rattle.guided_model.specs.Charts.{Running, running-room, running-turn, running-goal, running-empty}
 use Rattle.guided_expand.specs.Estimates.{Estimates, paired}
-use Rattle.guided_expand.specs.Work.{Work, work, queueIn, marksIn, Past, past-more}
+use Rattle.guided_rows.specs.Seen.{seen, seen-filled, seen-row}
+use Rattle.guided_expand.specs.Work.{Work, work, Progress, progress, queueOf, seenIn, Past, past-more}
 use Rattle.guided_expand.specs.Guides.{Guides, pairsIn}
 use Rattle.guided_expand.specs.declared.steps.Pair.{Pair}
 use Rattle.guided_expand.specs.declared.steps.Source.{Source}
+use Rattle.guided_expand.specs.declared.steps.Size.{Size}
 use Rattle.guided_expand.specs.Opening.{Opens, Opened, Opening}
 use Rattle.guided_loop.specs.Places.{stageAt, Placed}
 use Rattle.guided_loop.specs.Search.{Prepared, Turning, Searched}
@@ -39,7 +42,7 @@ use Rattle.guided_loop.proofs.Placing.{at-begin, at-step}
 use Rattle.guided_loop.proofs.Beginning.{g, a, tables, sound, width, narrow, pairs-are, few-pairs}
 
 module _ {z : Shape} {on : Walk} {t : Estimates} {yes-at : List Bool} (prepared : Prepared z on t yes-at)
-    {x₀ : Work} {log₀ : List ℕ} {x : Work} {log : List ℕ} {c : Counts} {floor count : ℕ} (w : Turning (prepared .by) x₀ log₀ x log c floor count) where
+    {size : Size} {x₀ : Work} {log₀ : List ℕ} {x : Progress} {log : List ℕ} {floor count : ℕ} (w : Turning (prepared .by) size x₀ log₀ x log floor count) where
   abbrev by : Guides z on t
   by = prepared .by
 
@@ -52,8 +55,26 @@ module _ {z : Shape} {on : Walk} {t : Estimates} {yes-at : List Bool} (prepared 
   abbrev D : Diagram
   D = diagramIn z (on .read)
 
+  -- all pairs
+  sized : z .stages * a by .size ≡ size .pairs
+  sized = pairs-are by ∙ sym (w .sized .pairs)
+
+  past-in : {y y′ : Work} → Past (size .pairs) y y′ → Past (pairsIn z) y y′
+  past-in {y} {y′} m = subst (λ (k : ℕ). Past k y y′) (w .sized .pairs) m
+
+  -- their keys
+  abbrev keys : List ℕ
+  keys = seen (a by) (x .filled) (x .slices .keys)
+
+  -- that of an open pair stands in its slice
+  open-key : (q : ℕ) → Contains (queueOf x) q → getD keys q 0 ≡ getD (x .slices .keys) q 0
+  open-key q o =
+      let i : q < length (x .slices .keys) = omega (arith, contains-pair (w .queue) o, keys-fit (w .queue)) in
+      seen-filled (a by) (x .filled) (x .slices .keys) q i
+      (seen-row (a by) (x .filled) (x .slices .keys) q i (opened-low (by .guide) (w .running .searching) q (inr o)))
+
   -- nothing is open any more
-  pub turn-none : {r : Ended} → c .held ≤ 0 → r .found ≡ false → r .count ≡ count → Searched by x₀ log₀ x log r
+  pub turn-none : {r : Ended} → x .counts .held ≤ 0 → r .found ≡ false → r .count ≡ count → Searched by x₀ log₀ (x .slices) log r
   turn-none {r} e f k = record {
     goal = λ q. absurd (true-not-false (sym q ∙ f));
     no-goal = λ q. rw k (running-empty C D (sound by) (by .guide) (w .running) (λ i o. contains-none (w .queue) (omega arith) o));
@@ -61,50 +82,53 @@ module _ {z : Shape} {on : Walk} {t : Estimates} {yes-at : List Bool} (prepared 
   }
 
   module _ {begin y key : ℕ} {heap′ pos′ : List ℕ} {c′ : Counts} (eb : begin ≡ startPair (g by) (a by))
-      (k : Taken (pairsIn z) floor y key (queueIn x c) (state (x .keys) heap′ pos′ (x .stack) c′)) where
-    abbrev x′ : Work
-    x′ = work (x .keys) (x .via) heap′ pos′ (x .stack)
+      (k : Taken (size .pairs) floor y key (queueOf x) (state (x .slices .keys) heap′ pos′ (x .slices .stack) c′)) where
+    abbrev x′ : Progress
+    x′ = progress (work (x .slices .keys) (x .slices .via) heap′ pos′ (x .slices .stack)) (x .filled) c′
 
-    smallest : Smallest (marksIn x c) y
-    smallest = record { is-open = k .was; least = k .least }
+    key-is : key ≡ getD keys y 0
+    key-is = k .its-key ∙ sym (open-key y (k .was))
 
-    others : Without (marksIn x c) y (Contains (queueIn x′ c′))
+    smallest : Smallest (seenIn (a by) x) y
+    smallest = record { is-open = k .was; least = λ q o. omega (arith, k .least q o, open-key q o, open-key y (k .was)) }
+
+    others : Without (seenIn (a by) x) y (Contains (queueOf x′))
     others = record { kept = k .kept; only = k .only; gone = k .gone }
 
     -- there is room for it in the log, and its number is small
-    pub turn-room : count < pairsIn z
-    turn-room = omega (arith, running-room C D (sound by) (by .guide) (w .running) smallest, pairs-are by)
+    pub turn-room : count < size .pairs
+    turn-room = omega (arith, running-room C D (sound by) (by .guide) (w .running) smallest, sized)
 
     pub turn-fits : count < length log
-    turn-fits = omega (arith, turn-room, w .running .fits, pairs-are by)
+    turn-fits = omega (arith, turn-room, w .running .fits, sized)
 
     pub turn-small : (y < 131072) × (count < 131072)
-    turn-small = (omega (arith, k .pair, few-pairs by), omega (arith, turn-room, few-pairs by))
+    turn-small = (omega (arith, k .pair, w .sized .pairs, few-pairs by), omega (arith, turn-room, w .sized .pairs, few-pairs by))
 
     -- where it stands
     abbrev stage : ℕ
-    stage = stageAt (x .via) (on .read .steps .to) begin (z .start .0) y
+    stage = stageAt (x .slices .via) (on .read .steps .to) begin (z .start .0) y
 
     abbrev At : ℕ → Type 0
     At s = (s * a by .size ≤ y) × Located (g by) (a by) y s (y - s * a by .size)
 
-    by-step : (y ≡ begin → ⊥) → (stepIn (getD (x .via) y 0) < 1024) × At stage
+    by-step : (y ≡ begin → ⊥) → (stepIn (getD (x .slices .via) y 0) < 1024) × At stage
     by-step q =
-        let e = stepIn (getD (x .via) y 0) in
+        let e = stepIn (getD (x .slices .via) y 0) in
         let v = located-via (by .guide) (w .running .searching) smallest (omega (arith, width by, narrow by)) (λ r. q (r ∙ sym eb)) in
         let to-is : getD (on .read .steps .to) e 0 ≡ g by .to e = to-at z (on .read) (tables by) e (omega (arith, v .0, count-is z (on .read) (tables by))) in
-        (omega (arith, v .0, tables by .valid .few), subst At (sym to-is ∙ sym (at-step (x .via) (on .read .steps .to) begin (z .start .0) y q)) (v .1, v .2))
+        (omega (arith, v .0, tables by .valid .few), subst At (sym to-is ∙ sym (at-step (x .slices .via) (on .read .steps .to) begin (z .start .0) y q)) (v .1, v .2))
 
     located-at : At stage
     located-at =
         either (same-or-not y begin)
-        (λ q. subst At (sym (at-begin (x .via) (on .read .steps .to) begin (z .start .0) y q)) (located-start (by .guide) (w .running .searching) smallest (q ∙ eb)))
+        (λ q. subst At (sym (at-begin (x .slices .via) (on .read .steps .to) begin (z .start .0) y q)) (located-start (by .guide) (w .running .searching) smallest (q ∙ eb)))
         (λ q. by-step q .1)
 
     row-at : getD (on .row) stage 0 ≡ stage * a by .size
     row-at = row-start z on (by .ready) stage (located-at .1 .stage) ∙ ap (λ (i : ℕ). stage * i) (sym (width by))
 
-    pub turn-placed : Placed (x .via) (on .read .steps .to) (on .row) begin (z .start .0) y
+    pub turn-placed : Placed (x .slices .via) (on .read .steps .to) (on .row) begin (z .start .0) y
     turn-placed = record {
       fits = omega (arith, k .pair, w .fits);
       by-step = λ q. by-step q .0;
@@ -134,39 +158,40 @@ module _ {z : Shape} {on : Walk} {t : Estimates} {yes-at : List Bool} (prepared 
       )
 
       module _ {r : ℕ} (er : r ≡ paired t s n) where
-        settles : (r ≤ getD (x .keys) y 0) × (getD (x .keys) y 0 - r ≡ costSoFar (g by) (a by) h (x .keys) y)
-            × Settling (g by) (a by) h s n (getD (x .keys) y 0 - r) (getD (x .keys) y 0)
+        settles : (r ≤ getD keys y 0) × (getD keys y 0 - r ≡ costSoFar (g by) (a by) h keys y)
+            × Settling (g by) (a by) h s n (getD keys y 0 - r) (getD keys y 0)
         settles =
             chosen-settling (by .guide) (w .running .searching) smallest s n r turn-located
             (er ∙ by .holds s n (turn-located .late) (turn-inside .0) (omega (arith, turn-located .node, width by)))
 
         pub turn-estimate : r ≤ key
-        turn-estimate = omega (arith, settles .0, k .its-key)
+        turn-estimate = omega (arith, settles .0, key-is)
 
-        spent-is : key - r ≡ costSoFar (g by) (a by) h (x .keys) y
-        spent-is = ap (λ (i : ℕ). i - r) (k .its-key) ∙ settles .1
+        spent-is : key - r ≡ costSoFar (g by) (a by) h keys y
+        spent-is = ap (λ (i : ℕ). i - r) (key-is) ∙ settles .1
 
         -- the steps from it can be offered
         abbrev pub turn-source : Source
         turn-source = record { pair = pair; cost = key - r; key = key }
 
-        pub turn-opens : Opens (prepared .by) turn-source (pairsIn z) x′ c′
+        pub turn-opens : Opens (prepared .by) turn-source size x′
         turn-opens = record {
-          pairs = refl;
+          sized = w .sized;
           fits = w .fits;
+          rows = w .rows;
           queue = k .queue;
-          frontier = subst (λ (i : ℕ). Frontier (g by) (a by) h (marksIn x′ c′) i) (sym (k .its-key))
+          frontier = subst (λ (i : ℕ). Frontier (g by) (a by) h (seenIn (a by) x′) i) (sym key-is)
               (chosen-frontier (by .guide) (w .running .searching) smallest others);
-          settling = subst (λ (i : ℕ). Settling (g by) (a by) h s n (i - r) i) (sym (k .its-key)) (settles .2);
+          settling = subst (λ (i : ℕ). Settling (g by) (a by) h s n (i - r) i) (sym key-is) (settles .2);
         }
 
-        abbrev pub turn-asks : Opening on t turn-source (pairsIn z) x′ c′
+        abbrev pub turn-asks : Opening on t turn-source size x′
         turn-asks = record { z = z; by = prepared .by; opens = turn-opens }
 
         module _ {goal-at : Bool} (eg : goal-at ≡ (eqb s (z .end .0) && getD yes-at n false)) where
           -- a goal pair
           pub turn-goal : goal-at ≡ true → {e : Ended} → e .node .0 ≡ n → e .cost ≡ key - r → e .count ≡ count + 1 → e .found ≡ true
-              → Searched by x₀ log₀ x′ (set log count y) e
+              → Searched by x₀ log₀ (x′ .slices) (set log count y) e
           turn-goal q {e} nn ec ek ef =
               let v = both (eqb s (z .end .0)) (getD yes-at n false) (sym eg ∙ q) in
               record {
@@ -175,10 +200,10 @@ module _ {z : Shape} {on : Walk} {t : Estimates} {yes-at : List Bool} (prepared 
                     (λ f j. from-at z (on .read) (tables by) f (omega (arith, count-is z (on .read) (tables by))))
                     turn-located (eqb-true s (z .end .0) (v .0)) (sym (prepared .accepts n (turn-located .node)) ∙ v .1) spent-is);
                 no-goal = λ i. absurd (true-not-false (sym ef ∙ i));
-                past = past-more (w .past) taken-past;
+                past = past-more (w .past) (past-in taken-past);
               }
             where
-              taken-past : Past (pairsIn z) x x′
+              taken-past : Past (size .pairs) (x .slices) (x′ .slices)
               taken-past = record { keys-past = refl; via-past = refl; heap-past = k .past .heap-past; pos-past = k .past .pos-past; stack-past = refl }
 
           no-goal : goal-at ≡ false → goalAt (g by) (a by) h y ≡ false
@@ -190,20 +215,22 @@ module _ {z : Shape} {on : Walk} {t : Estimates} {yes-at : List Bool} (prepared 
               go true d true f = let b : true ≡ false = sym (ap₂ (λ (i j : Bool). i && j) d f) ∙ sym eg ∙ q in absurd (true-not-false b)
 
           -- no goal pair: the steps from it were offered
-          pub turn-more : goal-at ≡ false → {x″ : Work} {c″ : Counts} → length (x″ .via) ≡ length (x .via)
-              → Opened (prepared .by) turn-source (pairsIn z) (getD (on .first) s 0) (getD (on .first) (s + 1) 0) x′ c′ x″ c″
-              → Turning (prepared .by) x₀ log₀ x″ (set log count y) c″ key (count + 1)
-          turn-more q {x″} {c″} l o = record {
+          pub turn-more : goal-at ≡ false → {x″ : Progress} → length (x″ .slices .via) ≡ length (x .slices .via)
+              → Opened (prepared .by) turn-source size (getD (on .first) s 0) (getD (on .first) (s + 1) 0) x′ x″
+              → Turning (prepared .by) size x₀ log₀ x″ (set log count y) key (count + 1)
+          turn-more q {x″} l o = record {
+            sized = w .sized;
             queue = o .kept .queue;
             fits = omega (arith, w .fits);
-            running = subst (λ (f : ℕ). Running C D h (marksIn x″ c″) log₀ (set log count y) (count + 1) f) (sym (k .its-key))
+            rows = o .rows ∙ w .rows;
+            running = subst (λ (f : ℕ). Running C D h (seenIn (a by) x″) log₀ (set log count y) (count + 1) f) (sym key-is)
                 (running-turn C D (sound by) (by .guide) (w .running) smallest others s n (key - r) (getD (on .first) s 0) (getD (on .first) (s + 1) 0)
                 turn-located spent-is (λ e i f. first-all z on (by .ready) s e (turn-located .stage) i f) (o .expanded) (no-goal q));
-            past = past-more (w .past) (record {
+            past = past-more (w .past) (past-in (record {
               keys-past = o .kept .past .keys-past;
               via-past = o .kept .past .via-past;
               heap-past = o .kept .past .heap-past ∙ k .past .heap-past;
               pos-past = o .kept .past .pos-past ∙ k .past .pos-past;
               stack-past = o .kept .past .stack-past;
-            });
+            }));
           }

@@ -8,15 +8,15 @@ use mathlib.Core.Option.{some}
 use lib.ListN.{length, getD}
 use Rattle.definitions.specs.Diagrams.{size}
 use Rattle.definitions.specs.declared.Shape.{Shape}
-use Rattle.queue.specs.declared.Counts.{Counts}
+use Rattle.theory.specs.Product.{startPair}
 use Rattle.queue.specs.Queue.{Queue}
 use Rattle.checks.specs.Tables.{chartIn, diagramIn}
 use Rattle.checks.specs.Ready.{Walk, graphIn, automatonIn}
-use Rattle.guided_model.specs.State.{unopened, Openable}
 use Rattle.guided_model.specs.Charts.{Running, GoalSettled, NoneSettled}
 use Rattle.guided_expand.specs.Estimates.{Estimates}
-use Rattle.guided_expand.specs.Work.{Work, queueIn, marksIn, Past}
-use Rattle.guided_expand.specs.Guides.{Guides, pairsIn}
+use Rattle.guided_expand.specs.Work.{Work, Progress, queueOf, seenIn, Past}
+use Rattle.guided_expand.specs.Guides.{Guides, pairsIn, Sized}
+use Rattle.guided_expand.specs.declared.steps.Size.{Size}
 use Rattle.guided_loop.specs.declared.turns.Ended.{Ended}
 
 -- all tables of the search
@@ -33,20 +33,22 @@ pub record Space (z : Shape) (x : Work) (log : List ℕ) : Type 0 where
   pub stack-fits : pairsIn z ≤ length (x .stack)
   pub log-fits : pairsIn z ≤ length log
 
--- the pair of start and root has the estimate `rest`, and no pair that may be opened has a key
+-- the pair of start and root has the estimate `rest`, and only pairs of the chart's stages have one
 pub record Start (z : Shape) (on : Walk) (t : Estimates) (yes-at : List Bool) (rest : ℕ) (x : Work) (log : List ℕ) : Type 0 where
   pub prepared : Prepared z on t yes-at
   pub space : Space z x log
   pub has : prepared .by .h (z .start .0) (z .root .0) ≡ some rest
-  pub clear : (k : ℕ) → Openable (graphIn z (on .read)) (automatonIn z (on .read)) (prepared .by .h) k → getD (x .keys) k 0 ≡ unopened
+  pub inside : (s n m : ℕ) → prepared .by .h s n ≡ some m → s < z .stages
 
 module _ {z : Shape} {on : Walk} {t : Estimates} (by : Guides z on t) where
   -- between two turns: from the slices x₀ and log₀ it came to x and log, in which `count` pairs are settled, the last one at the key `floor`, and those of the queue are open
-  pub record Turning (x₀ : Work) (log₀ : List ℕ) (x : Work) (log : List ℕ) (c : Counts) (floor count : ℕ) : Type 0 where
-    pub queue : Queue (pairsIn z) floor (queueIn x c)
-    pub fits : pairsIn z ≤ length (x .via)
-    pub running : Running (chartIn z (on .read)) (diagramIn z (on .read)) (by .h) (marksIn x c) log₀ log count floor
-    pub past : Past (pairsIn z) x₀ x
+  pub record Turning (size : Size) (x₀ : Work) (log₀ : List ℕ) (x : Progress) (log : List ℕ) (floor count : ℕ) : Type 0 where
+    pub sized : Sized z size
+    pub queue : Queue (size .pairs) floor (queueOf x)
+    pub fits : size .pairs ≤ length (x .slices .via)
+    pub rows : length (x .filled) ≡ 256
+    pub running : Running (chartIn z (on .read)) (diagramIn z (on .read)) (by .h) (seenIn (automatonIn z (on .read)) x) log₀ log count floor
+    pub past : Past (pairsIn z) x₀ (x .slices)
 
   -- what the search leaves
   pub record Searched (x : Work) (log : List ℕ) (x′ : Work) (log′ : List ℕ) (r : Ended) : Type 0 where
@@ -55,7 +57,8 @@ module _ {z : Shape} {on : Walk} {t : Estimates} (by : Guides z on t) where
     pub no-goal : r .found ≡ false → NoneSettled (chartIn z (on .read)) (diagramIn z (on .read)) (by .h) (by .guide .base) (r .count) log log′
     pub past : Past (pairsIn z) x x′
 
--- nothing is settled yet, and the pairs of the queue are open
-pub record Begun (z : Shape) (on : Walk) (t : Estimates) (yes-at : List Bool) (x : Work) (c : Counts) (log : List ℕ) : Type 0 where
+-- nothing is settled yet, the pairs of the queue are open, and `begin` is the pair of start and root
+pub record Begun (z : Shape) (on : Walk) (t : Estimates) (yes-at : List Bool) (size : Size) (begin : ℕ) (x : Progress) (log : List ℕ) : Type 0 where
   pub prepared : Prepared z on t yes-at
-  pub turning : Turning (prepared .by) x log x log c 0 0
+  pub begins : begin ≡ startPair (graphIn z (on .read)) (automatonIn z (on .read))
+  pub turning : Turning (prepared .by) size (x .slices) log x log 0 0

@@ -2,16 +2,18 @@
 ghost use Rattle.checks.specs.Tables.{read};
 ghost use Rattle.checks.specs.Ready.{walk};
 ghost use Rattle.guided_expand.specs.Estimates.{estimates};
-ghost use Rattle.guided_expand.specs.Work.{work};
+ghost use Rattle.guided_expand.specs.Work.{work, progress};
 ghost use Rattle.guided_loop.specs.Search.{Start, Begun, Searched};
 use crate::places::is_goal;
 use crate::places::pair_of;
 use chart::TO;
 use definitions::Node;
 use definitions::Shape;
+use guided_expand::Size;
 use guided_expand::Source;
 use guided_expand::pair_estimate;
 use guided_expand::settle;
+use guided_rows::open_row;
 use queue::Counts;
 use trace::pair_at;
 
@@ -23,7 +25,8 @@ pub struct Ended {
     pub count: usize,
 }
 
-// Settles open pairs in turn and writes each to the log, until a goal pair is settled or none is open.
+// Settles open pairs in turn and writes each to the log, until a goal pair is settled or none is open. `begin` is the pair of
+// start and root.
 fn settle_open<'a>(
     keys: &mut [u32],
     via: &mut [u32],
@@ -31,6 +34,9 @@ fn settle_open<'a>(
     pos: &mut [u32],
     stack: &mut [u32],
     log: &mut [u32],
+    filled: &mut [bool; 256],
+    size: Size,
+    opened: Counts,
     steps: &'a [[u32; 1024]; 3],
     first: &'a [u16; 257],
     row: &'a [u32; 256],
@@ -39,25 +45,25 @@ fn settle_open<'a>(
     by_node: &'a [u32; 512],
     yes: &'a [bool; 512],
     z: Shape,
-    opened: Counts,
+    begin: usize,
 ) -> Ended
     requires { ⌜
-        (let before = work (now keys) (now via) (now heap) (now pos) (now stack) in
+        (let slices = work (now keys) (now via) (now heap) (now pos) (now stack) in
+        let before = progress slices (now filled) opened in
         let on = walk (read (now steps) (now inner)) (now first) (now row) in
         let estimated = estimates (now «by_stage») (now «by_node») in
-        Begun z on estimated (now yes) before opened (now log))
+        Begun z on estimated (now yes) size begin before (now log))
         ⌝ }
     ensures { λ r. ⌜
-        (let before = work (now (keys .entry)) (now (via .entry)) (now (heap .entry)) (now (pos .entry)) (now (stack .entry)) in
+        (let slices = work (now (keys .entry)) (now (via .entry)) (now (heap .entry)) (now (pos .entry)) (now (stack .entry)) in
+        let before = progress slices (now (filled .entry)) opened in
         let after = work (now (keys .exit)) (now (via .exit)) (now (heap .exit)) (now (pos .exit)) (now (stack .exit)) in
         let on = walk (read (now (steps .entry)) (now (inner .entry))) (now (first .entry)) (now (row .entry)) in
         let estimated = estimates (now («by_stage» .entry)) (now («by_node» .entry)) in
-        (x : Begun z on estimated (now (yes .entry)) before opened (now (log .entry)))
-        → Searched (x .prepared .by) before (now (log .entry)) after (now (log .exit)) r)
+        (x : Begun z on estimated (now (yes .entry)) size begin before (now (log .entry)))
+        → Searched (x .prepared .by) slices (now (log .entry)) after (now (log .exit)) r)
         ⌝ }
 {
-    let p = z.stages as usize * (z.nodes + 2);
-    let begin = pair_at(row, z.start, z.root);
     let mut counts = opened;
     let mut floor: u32 = 0;
     let mut count: usize = 0;
@@ -65,7 +71,7 @@ fn settle_open<'a>(
     let mut node = Node(0);
     let mut cost: u32 = 0;
     'search: while 0 < counts.held {
-        let next = queue::take(keys, heap, pos, stack, p, counts, floor);
+        let next = queue::take(keys, heap, pos, stack, size.pairs, counts, floor);
         let x = next.pair;
         floor = next.key;
         log[count] = x as u32;
@@ -89,7 +95,8 @@ fn settle_open<'a>(
             heap,
             pos,
             stack,
-            p,
+            filled,
+            size,
             next.counts,
             steps,
             first,
@@ -109,7 +116,7 @@ fn settle_open<'a>(
 }
 
 // Opens the pair of start and root, whose estimate is `rest`, and settles open pairs until a goal pair is settled or none
-// is open.
+// is open. Each row of keys is filled when its first pair is opened.
 pub fn search<'a>(
     keys: &mut [u32],
     via: &mut [u32],
@@ -142,9 +149,23 @@ pub fn search<'a>(
         → Searched (x .prepared .by) before (now (log .entry)) after (now (log .exit)) r)
         ⌝ }
 {
-    let p = z.stages as usize * (z.nodes + 2);
+    let width = z.nodes + 2;
+    let pairs = z.stages as usize * width;
+    let size = Size { pairs, width };
     let begin = pair_at(row, z.start, z.root);
-    let opened = queue::insert(keys, heap, pos, stack, p, queue::empty(), 0, begin, rest);
+    let mut filled = [false; 256];
+    open_row(keys, &mut filled, row, z.start, width);
+    let opened = queue::insert(
+        keys,
+        heap,
+        pos,
+        stack,
+        pairs,
+        queue::empty(),
+        0,
+        begin,
+        rest,
+    );
     settle_open(
         keys,
         via,
@@ -152,6 +173,9 @@ pub fn search<'a>(
         pos,
         stack,
         log,
+        &mut filled,
+        size,
+        opened,
         steps,
         first,
         row,
@@ -160,6 +184,6 @@ pub fn search<'a>(
         by_node,
         yes,
         z,
-        opened,
+        begin,
     )
 }

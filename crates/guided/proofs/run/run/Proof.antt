@@ -1,8 +1,8 @@
 -- `guided::run` meets its contract.
-use mathlib.Core.Path.{refl, _∙_}
+use mathlib.Core.Path.{refl}
 use native.Mathlib.Omega.{arith}
 use Rattle.guided.proofs.Preparing.{run-lo, run-nodes, run-sorted, run-staged, run-narrow, run-root}
-use Rattle.guided.proofs.Finding.{runs-none, clears, cleared-start, found-traceable, found-runs}
+use Rattle.guided.proofs.Finding.{runs-none, run-start, found-traceable, found-runs}
 use borrow.Author.Needs.{needs}
 use Rattle.guided.proofs.run.run.Statement.{statement}
 use Rattle.guided.proofs.run.run.Tie as tie
@@ -11,10 +11,7 @@ use Rattle.guided.proofs.run.run.Tie as tie
 abbrev searched-of : tie.After-conclude → tie.After-search
 searched-of c = search
 
-abbrev cleared-of : tie.After-search → tie.After-clear-rows
-cleared-of c = search
-
-abbrev yes-of : tie.After-clear-rows → tie.After-fill-finishing
+abbrev yes-of : tie.After-search → tie.After-fill-finishing
 yes-of c = search
 
 abbrev row-of : tie.After-fill-finishing → tie.After-fill-row-starts
@@ -108,35 +105,9 @@ fill-finishing-requires c κs =
     let start = start-of first in
     (run-lo (start .pre .0), search needs)
 
-add-clear-rows : tie.Need-add-clear-rows
-add-clear-rows c =
-    let yes : tie.After-fill-finishing = search in
-    let row = row-of yes in
-    let some = some-of row in
-    let rest = rest-of some in
-    let by-node = by-node-of rest in
-    let by-stage = by-stage-of by-node in
-    let first = first-of by-stage in
-    let start = start-of first in
-    omega (arith, run-narrow (start .pre .0))
-
-clear-rows-requires : tie.Need-clear-rows-requires
-clear-rows-requires c κs =
-    let yes : tie.After-fill-finishing = search in
-    let row = row-of yes in
-    let some = some-of row in
-    let rest = rest-of some in
-    let by-node = by-node-of rest in
-    let by-stage = by-stage-of by-node in
-    let first = first-of by-stage in
-    let start = start-of first in
-    clears (start .pre .0) (by-stage .chart-estimates .ensures) (by-node .fill-diagram-estimates .ensures) (rest .pair-estimate .ensures)
-    (some .if1 .left) (first .fill-first-steps .ensures) (row .fill-row-starts .ensures) (yes .fill-finishing .ensures) (start .pre .1)
-
 search-requires : tie.Need-search-requires
 search-requires c κs =
-    let cleared : tie.After-clear-rows = search in
-    let yes = yes-of cleared in
+    let yes : tie.After-fill-finishing = search in
     let row = row-of yes in
     let some = some-of row in
     let rest = rest-of some in
@@ -144,15 +115,13 @@ search-requires c κs =
     let by-stage = by-stage-of by-node in
     let first = first-of by-stage in
     let start = start-of first in
-    cleared-start (start .pre .0) (by-stage .chart-estimates .ensures) (by-node .fill-diagram-estimates .ensures) (rest .pair-estimate .ensures)
+    run-start (start .pre .0) (by-stage .chart-estimates .ensures) (by-node .fill-diagram-estimates .ensures) (rest .pair-estimate .ensures)
     (some .if1 .left) (first .fill-first-steps .ensures) (row .fill-row-starts .ensures) (yes .fill-finishing .ensures) (start .pre .1)
-    (cleared .clear-rows .ensures) (cleared .clear-rows .kept .0)
 
 conclude-requires : tie.Need-conclude-requires
 conclude-requires c κs =
     let searched : tie.After-search = search in
-    let cleared = cleared-of searched in
-    let yes = yes-of cleared in
+    let yes = yes-of searched in
     let row = row-of yes in
     let some = some-of row in
     let rest = rest-of some in
@@ -160,19 +129,17 @@ conclude-requires c κs =
     let by-stage = by-stage-of by-node in
     let first = first-of by-stage in
     let start = start-of first in
-    let begun = cleared-start (start .pre .0) (by-stage .chart-estimates .ensures) (by-node .fill-diagram-estimates .ensures) (rest .pair-estimate .ensures)
-    (some .if1 .left) (first .fill-first-steps .ensures) (row .fill-row-starts .ensures) (yes .fill-finishing .ensures) (start .pre .1)
-    (cleared .clear-rows .ensures) (cleared .clear-rows .kept .0) in
+    let begun = run-start (start .pre .0) (by-stage .chart-estimates .ensures) (by-node .fill-diagram-estimates .ensures) (rest .pair-estimate .ensures)
+    (some .if1 .left) (first .fill-first-steps .ensures) (row .fill-row-starts .ensures) (yes .fill-finishing .ensures) (start .pre .1) in
     found-traceable (start .pre .0) (by-stage .chart-estimates .ensures) (by-node .fill-diagram-estimates .ensures) (rest .pair-estimate .ensures)
     (some .if1 .left) (first .fill-first-steps .ensures) (row .fill-row-starts .ensures) (yes .fill-finishing .ensures) (start .pre .1)
-    (cleared .clear-rows .ensures) (cleared .clear-rows .kept .0) (searched .search .ensures begun) (searched .search .kept .1 .0)
+    (searched .search .ensures begun) (searched .search .kept .1 .0)
 
 same-length : tie.Need-same-length
 same-length c =
     let ended : tie.After-conclude = search in
     let searched = searched-of ended in
-    let cleared = cleared-of searched in
-    searched .search .kept .0 ∙ cleared .clear-rows .kept .0
+    searched .search .kept .0
 
 same-length-2 : tie.Need-same-length-2
 same-length-2 c = search needs
@@ -196,8 +163,7 @@ returns-2 : tie.Need-returns-2
 returns-2 c =
     let ended : tie.After-conclude = search in
     let searched = searched-of ended in
-    let cleared = cleared-of searched in
-    let yes = yes-of cleared in
+    let yes = yes-of searched in
     let row = row-of yes in
     let some = some-of row in
     let rest = rest-of some in
@@ -205,12 +171,11 @@ returns-2 c =
     let by-stage = by-stage-of by-node in
     let first = first-of by-stage in
     let start = start-of first in
-    let begun = cleared-start (start .pre .0) (by-stage .chart-estimates .ensures) (by-node .fill-diagram-estimates .ensures) (rest .pair-estimate .ensures)
-    (some .if1 .left) (first .fill-first-steps .ensures) (row .fill-row-starts .ensures) (yes .fill-finishing .ensures) (start .pre .1)
-    (cleared .clear-rows .ensures) (cleared .clear-rows .kept .0) in
+    let begun = run-start (start .pre .0) (by-stage .chart-estimates .ensures) (by-node .fill-diagram-estimates .ensures) (rest .pair-estimate .ensures)
+    (some .if1 .left) (first .fill-first-steps .ensures) (row .fill-row-starts .ensures) (yes .fill-finishing .ensures) (start .pre .1) in
     found-runs (start .pre .0) (by-stage .chart-estimates .ensures) (by-node .fill-diagram-estimates .ensures) (rest .pair-estimate .ensures)
     (some .if1 .left) (first .fill-first-steps .ensures) (row .fill-row-starts .ensures) (yes .fill-finishing .ensures) (start .pre .1)
-    (cleared .clear-rows .ensures) (cleared .clear-rows .kept .0) (searched .search .ensures begun) (searched .search .kept .1 .0)
+    (searched .search .ensures begun) (searched .search .kept .1 .0)
     (ended .conclude .ensures) (ended .conclude .kept .1 .1 .1 .1 .1 .0)
 
 pub run-spec : {M : Type 1} → statement M
@@ -230,8 +195,6 @@ run-spec =
     fill-row-starts-requires
     index-1-fill-finishing
     fill-finishing-requires
-    add-clear-rows
-    clear-rows-requires
     search-requires
     conclude-requires
     same-length

@@ -1,10 +1,27 @@
 -- `guided_expand::offer` meets its contract.
-use mathlib.Core.Path.{refl}
+use mathlib.Core.Path.{refl, _∙_}
 use native.Mathlib.Omega.{arith}
-use Rattle.guided_expand.proofs.Stepping.{step-small, stage-small, target-small, leads-none, leads-fit, leads-ask, leads-some}
+use Rattle.guided_expand.specs.Opening.{opened-more}
+use Rattle.guided_expand.proofs.Stepping.{step-small, stage-small, target-small, leads-none, leads-fit, leads-row, leads-ask, leads-some, row-opened, row-leading}
 use borrow.Author.Needs.{needs}
 use Rattle.guided_expand.proofs.steps.offer.Statement.{statement}
 use Rattle.guided_expand.proofs.steps.offer.Tie as tie
+
+-- the places before a place
+abbrev target-of : tie.After-packed → tie.After-pair-at
+target-of c = search
+
+abbrev row-of : tie.After-pair-at → tie.After-open-row
+row-of c = search
+
+abbrev some-of : tie.After-open-row → tie.Else1
+some-of c = search
+
+abbrev rest-of : tie.Else1 → tie.After-pair-estimate
+rest-of c = search
+
+abbrev start-of : tie.After-pair-estimate → tie.Start
+start-of c = search
 
 cast-i : tie.Need-cast-i
 cast-i c = search needs
@@ -34,6 +51,11 @@ returns : tie.Need-returns
 returns c =
     let rest : tie.After-pair-estimate = search in
     λ x. leads-none x _ (rest .pair-estimate .ensures) (c .if1 .taken)
+
+open-row-requires : tie.Need-open-row-requires
+open-row-requires c κs =
+    let start : tie.Start = search in
+    leads-row (start .pre)
 
 pair-at-requires : tie.Need-pair-at-requires
 pair-at-requires c κs =
@@ -71,34 +93,56 @@ packed-requires c κs = search needs
 relax-requires : tie.Need-relax-requires
 relax-requires c κs =
     let target : tie.After-pair-at = search in
-    let some : tie.Else1 = search in
-    let rest : tie.After-pair-estimate = search in
-    let start : tie.Start = search in
-    leads-ask (start .pre) _ (rest .pair-estimate .ensures) (some .if1 .left) _ _ (target .pair-at .ensures) refl
+    let ready = row-of target in
+    let some = some-of ready in
+    let rest = rest-of some in
+    let start = start-of rest in
+    let row = ready .open-row in
+    let l = row-leading (start .pre) (row .kept .0) (row .ensures) in
+    leads-ask l _ (rest .pair-estimate .ensures) (some .if1 .left) _ _ (target .pair-at .ensures) refl (row .ensures .marked)
 
 same-length : tie.Need-same-length
-same-length c = search needs
+same-length c =
+    let relaxed : tie.After-relax = search in
+    let marked : tie.After-packed = search in
+    let target = target-of marked in
+    let ready = row-of target in
+    relaxed .relax .kept .0 ∙ ready .open-row .kept .0
 
 same-length-2 : tie.Need-same-length-2
-same-length-2 c = search needs
+same-length-2 c =
+    let relaxed : tie.After-relax = search in
+    relaxed .relax .kept .1 .0
 
 same-length-3 : tie.Need-same-length-3
-same-length-3 c = search needs
+same-length-3 c =
+    let relaxed : tie.After-relax = search in
+    relaxed .relax .kept .1 .1 .0
 
 same-length-4 : tie.Need-same-length-4
-same-length-4 c = search needs
+same-length-4 c =
+    let relaxed : tie.After-relax = search in
+    relaxed .relax .kept .1 .1 .1 .0
 
 same-length-5 : tie.Need-same-length-5
-same-length-5 c = search needs
+same-length-5 c =
+    let relaxed : tie.After-relax = search in
+    relaxed .relax .kept .1 .1 .1 .1 .0
 
 returns-2 : tie.Need-returns-2
 returns-2 c =
     let relaxed : tie.After-relax = search in
     let marked : tie.After-packed = search in
-    let target : tie.After-pair-at = search in
-    let some : tie.Else1 = search in
-    let rest : tie.After-pair-estimate = search in
-    λ x. leads-some x _ (rest .pair-estimate .ensures) (some .if1 .left) _ _ (target .pair-at .ensures) refl (marked .packed .ensures) (relaxed .relax .ensures)
+    let target = target-of marked in
+    let ready = row-of target in
+    let some = some-of ready in
+    let rest = rest-of some in
+    let row = ready .open-row in
+    λ x.
+    let l = row-leading x (row .kept .0) (row .ensures) in
+    opened-more (x .by) _ _ (row-opened x (row .kept .0) (row .ensures))
+    (leads-some l _ (rest .pair-estimate .ensures) (some .if1 .left) _ _ (target .pair-at .ensures) refl (row .ensures .marked)
+    (marked .packed .ensures) (relaxed .relax .kept .0) (relaxed .relax .ensures))
 
 pub offer-spec : {M : Type 1} → statement M
 offer-spec =
@@ -111,6 +155,7 @@ offer-spec =
     cast-entered
     pair-estimate-requires
     returns
+    open-row-requires
     pair-at-requires
     mul-v
     index-1-v

@@ -6,7 +6,7 @@ use lib.ListN.{length}
 use Rattle.checks.specs.Tables.{read}
 use Rattle.checks.specs.Ready.{walk}
 use Rattle.guided_expand.specs.Estimates.{estimates}
-use Rattle.guided_expand.specs.Work.{work}
+use Rattle.guided_expand.specs.Work.{work, progress}
 use Rattle.guided_expand.specs.Opening.{Opening}
 use Rattle.guided_expand.proofs.Walking.{Walking, settles-stage, settles-order, walk-start, walk-falls, walk-step, walk-branches, walk-dead, walk-leading, walk-more, walk-done}
 use borrow.Author.Needs.{needs}
@@ -14,9 +14,9 @@ use Rattle.guided_expand.proofs.steps.settle.Statement.{statement}
 use Rattle.guided_expand.proofs.steps.settle.Tie as tie
 
 abbrev Inv-loop : tie.InvT-loop
-Inv-loop keys₀ via₀ heap₀ pos₀ stack₀ p steps first row inner by-stage by-node source s until left₀ m₀ e₀ keys via heap pos stack left m e =
-    ((x : Opening (walk (read steps inner) first row) (estimates by-stage by-node) source p (work keys₀ via₀ heap₀ pos₀ stack₀) left₀)
-    → Walking (x .by) source p (work keys₀ via₀ heap₀ pos₀ stack₀) left₀ (work keys via heap pos stack) left (m .0) e)
+Inv-loop keys₀ via₀ heap₀ pos₀ stack₀ filled₀ size steps first row inner by-stage by-node source s until left₀ m₀ e₀ keys via heap pos stack filled left m e =
+    ((x : Opening (walk (read steps inner) first row) (estimates by-stage by-node) source size (progress (work keys₀ via₀ heap₀ pos₀ stack₀) filled₀ left₀))
+    → Walking (x .by) source size (progress (work keys₀ via₀ heap₀ pos₀ stack₀) filled₀ left₀) (progress (work keys via heap pos stack) filled left) (m .0) e)
     × (e ≤ until)
     × (length keys ≡ length keys₀)
     × (length via ≡ length via₀)
@@ -25,7 +25,7 @@ Inv-loop keys₀ via₀ heap₀ pos₀ stack₀ p steps first row inner by-stage
     × (length stack ≡ length stack₀)
 
 abbrev μ-loop : tie.MeasureT-loop
-μ-loop keys₀ via₀ heap₀ pos₀ stack₀ p steps first row inner by-stage by-node source s until left₀ m₀ e₀ keys via heap pos stack left m e = until - e
+μ-loop keys₀ via₀ heap₀ pos₀ stack₀ filled₀ size steps first row inner by-stage by-node source s until left₀ m₀ e₀ keys via heap pos stack filled left m e = until - e
 
 -- the place before a place
 abbrev start-of : tie.At-loop Inv-loop μ-loop → tie.Start Inv-loop μ-loop

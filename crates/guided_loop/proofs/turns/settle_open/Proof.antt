@@ -1,25 +1,24 @@
--- `guided_loop::settle_open` meets its contract: the pairs in the log are settled, those in the queue are open.
+-- `guided_loop::settle_open` meets its contract.
 use mathlib.Core.Path.{_≡_, refl, _∙_}
 use mathlib.Core.Bool.{false}
 use Prim.Native.Nat.{_-_, _≤_}
 use native.Mathlib.Omega.{arith}
+use borrow.Author.Needs.{needs}
 use lib.ListN.{length, length-set}
 use Rattle.checks.specs.Tables.{read}
 use Rattle.checks.specs.Ready.{walk}
 use Rattle.guided_expand.specs.Estimates.{estimates}
-use Rattle.guided_expand.specs.Work.{work}
+use Rattle.guided_expand.specs.Work.{work, progress}
 use Rattle.guided_loop.specs.Search.{Turning, Begun}
-use Rattle.guided_loop.proofs.Beginning.{narrow, few-pairs, start-small, begin-is}
 use Rattle.guided_loop.proofs.Turning.{turn-none, turn-room, turn-fits, turn-small, turn-placed, turn-inside, turn-estimate, turn-asks, turn-goal, turn-more}
-use borrow.Author.Needs.{needs}
 use Rattle.guided_loop.proofs.turns.settle_open.Statement.{statement}
 use Rattle.guided_loop.proofs.turns.settle_open.Tie as tie
 
 abbrev Inv-search : tie.InvT-search
-Inv-search keys₀ via₀ heap₀ pos₀ stack₀ log₀ steps first row inner by-stage by-node yes' z p begin counts₀ floor₀ count₀ found₀ node₀ cost₀ keys via heap pos stack log counts floor count found node cost =
-    ((x : Begun z (walk (read steps inner) first row) (estimates by-stage by-node) yes' (work keys₀ via₀ heap₀ pos₀ stack₀) counts₀ log₀)
-    → Turning (x .prepared .by) (work keys₀ via₀ heap₀ pos₀ stack₀) log₀ (work keys via heap pos stack) log counts floor count)
-    × (count ≤ p)
+Inv-search keys₀ via₀ heap₀ pos₀ stack₀ log₀ filled₀ size steps first row inner by-stage by-node yes' z begin counts₀ floor₀ count₀ found₀ node₀ cost₀ keys via heap pos stack log filled counts floor count found node cost =
+    ((x : Begun z (walk (read steps inner) first row) (estimates by-stage by-node) yes' size begin (progress (work keys₀ via₀ heap₀ pos₀ stack₀) filled₀ counts₀) log₀)
+    → Turning (x .prepared .by) size (work keys₀ via₀ heap₀ pos₀ stack₀) log₀ (progress (work keys via heap pos stack) filled counts) log floor count)
+    × (count ≤ size .pairs)
     × (found ≡ false)
     × (length keys ≡ length keys₀)
     × (length via ≡ length via₀)
@@ -29,14 +28,11 @@ Inv-search keys₀ via₀ heap₀ pos₀ stack₀ log₀ steps first row inner b
     × (length log ≡ length log₀)
 
 abbrev μ-search : tie.MeasureT-search
-μ-search keys₀ via₀ heap₀ pos₀ stack₀ log₀ steps first row inner by-stage by-node yes' z p begin counts₀ floor₀ count₀ found₀ node₀ cost₀ keys via heap pos stack log counts floor count found node cost = p - count
+μ-search keys₀ via₀ heap₀ pos₀ stack₀ log₀ filled₀ size steps first row inner by-stage by-node yes' z begin counts₀ floor₀ count₀ found₀ node₀ cost₀ keys via heap pos stack log filled counts floor count found node cost = size .pairs - count
 
 -- the places before a place
-abbrev start-of : tie.After-pair-at Inv-search μ-search → tie.Start Inv-search μ-search
+abbrev start-of : tie.At-search Inv-search μ-search → tie.Start Inv-search μ-search
 start-of c = search
-
-abbrev first-of : tie.At-search Inv-search μ-search → tie.After-pair-at Inv-search μ-search
-first-of c = search
 
 abbrev head-of : tie.After-take Inv-search μ-search → tie.At-search Inv-search μ-search
 head-of c = search
@@ -50,32 +46,14 @@ pair-of c = search
 abbrev rest-of : tie.After-is-goal Inv-search μ-search → tie.After-pair-estimate Inv-search μ-search
 rest-of c = search
 
-abbrev goal-of-no : tie.Else2 Inv-search μ-search → tie.After-is-goal Inv-search μ-search
-goal-of-no c = search
-
 abbrev goal-of-yes : tie.Then2 Inv-search μ-search → tie.After-is-goal Inv-search μ-search
 goal-of-yes c = search
 
+abbrev goal-of-no : tie.Else2 Inv-search μ-search → tie.After-is-goal Inv-search μ-search
+goal-of-no c = search
+
 abbrev no-of : tie.After-settle Inv-search μ-search → tie.Else2 Inv-search μ-search
 no-of c = search
-
-cast-p : tie.Need-cast-p Inv-search μ-search
-cast-p c = search needs
-
-add-p : tie.Need-add-p Inv-search μ-search
-add-p c =
-    let start : tie.Start Inv-search μ-search = search in
-    omega (arith, narrow (start .pre .prepared .by))
-
-mul-p : tie.Need-mul-p Inv-search μ-search
-mul-p c =
-    let start : tie.Start Inv-search μ-search = search in
-    omega (arith, few-pairs (start .pre .prepared .by))
-
-pair-at-requires : tie.Need-pair-at-requires Inv-search μ-search
-pair-at-requires c κs =
-    let start : tie.Start Inv-search μ-search = search in
-    start-small (start .pre .prepared .by)
 
 search-holds : tie.Need-search-holds Inv-search μ-search
 search-holds c = ((λ x. x .turning), omega arith, refl, refl, refl, refl, refl, refl, refl)
@@ -84,48 +62,40 @@ take-requires : tie.Need-take-requires Inv-search μ-search
 take-requires c κs =
     let tested : tie.Then1 Inv-search μ-search = search in
     let head : tie.At-search Inv-search μ-search = search in
-    let start : tie.Start Inv-search μ-search = search in
+    let start = start-of head in
     (head .search .inv .0 (start .pre) .queue, tested .if1 .taken)
 
 cast-log : tie.Need-cast-log Inv-search μ-search
 cast-log c =
     let taken : tie.After-take Inv-search μ-search = search in
     let head = head-of taken in
-    let first = first-of head in
-    let start = start-of first in
+    let start = start-of head in
     let w = head .search .inv .0 (start .pre) in
-    let begin = begin-is (start .pre .prepared .by) (first .pair-at .ensures) in
-    omega (arith, turn-small (start .pre .prepared) w begin (taken .take .ensures) .0)
+    omega (arith, turn-small (start .pre .prepared) w (start .pre .begins) (taken .take .ensures) .0)
 
 mul-log : tie.Need-mul-log Inv-search μ-search
 mul-log c =
     let taken : tie.After-take Inv-search μ-search = search in
     let head = head-of taken in
-    let first = first-of head in
-    let start = start-of first in
+    let start = start-of head in
     let w = head .search .inv .0 (start .pre) in
-    let begin = begin-is (start .pre .prepared .by) (first .pair-at .ensures) in
-    omega (arith, turn-small (start .pre .prepared) w begin (taken .take .ensures) .1)
+    omega (arith, turn-small (start .pre .prepared) w (start .pre .begins) (taken .take .ensures) .1)
 
 slice-write-log : tie.Need-slice-write-log Inv-search μ-search
 slice-write-log c =
     let taken : tie.After-take Inv-search μ-search = search in
     let head = head-of taken in
-    let first = first-of head in
-    let start = start-of first in
+    let start = start-of head in
     let w = head .search .inv .0 (start .pre) in
-    let begin = begin-is (start .pre .prepared .by) (first .pair-at .ensures) in
-    turn-fits (start .pre .prepared) w begin (taken .take .ensures)
+    turn-fits (start .pre .prepared) w (start .pre .begins) (taken .take .ensures)
 
 add-count : tie.Need-add-count Inv-search μ-search
 add-count c =
     let taken : tie.After-take Inv-search μ-search = search in
     let head = head-of taken in
-    let first = first-of head in
-    let start = start-of first in
+    let start = start-of head in
     let w = head .search .inv .0 (start .pre) in
-    let begin = begin-is (start .pre .prepared .by) (first .pair-at .ensures) in
-    omega (arith, turn-small (start .pre .prepared) w begin (taken .take .ensures) .1)
+    omega (arith, turn-small (start .pre .prepared) w (start .pre .begins) (taken .take .ensures) .1)
 
 index-1-pair-of : tie.Need-index-1-pair-of Inv-search μ-search
 index-1-pair-of c = search needs
@@ -134,22 +104,18 @@ pair-of-requires : tie.Need-pair-of-requires Inv-search μ-search
 pair-of-requires c κs =
     let taken : tie.After-take Inv-search μ-search = search in
     let head = head-of taken in
-    let first = first-of head in
-    let start = start-of first in
+    let start = start-of head in
     let w = head .search .inv .0 (start .pre) in
-    let begin = begin-is (start .pre .prepared .by) (first .pair-at .ensures) in
-    turn-placed (start .pre .prepared) w begin (taken .take .ensures)
+    turn-placed (start .pre .prepared) w (start .pre .begins) (taken .take .ensures)
 
 pair-estimate-requires : tie.Need-pair-estimate-requires Inv-search μ-search
 pair-estimate-requires c κs =
     let at : tie.After-pair-of Inv-search μ-search = search in
     let taken = taken-of at in
     let head = head-of taken in
-    let first = first-of head in
-    let start = start-of first in
+    let start = start-of head in
     let w = head .search .inv .0 (start .pre) in
-    let begin = begin-is (start .pre .prepared .by) (first .pair-at .ensures) in
-    turn-inside (start .pre .prepared) w begin (taken .take .ensures) (at .pair-of .result) (at .pair-of .ensures)
+    turn-inside (start .pre .prepared) w (start .pre .begins) (taken .take .ensures) (at .pair-of .result) (at .pair-of .ensures)
 
 sub-spent : tie.Need-sub-spent Inv-search μ-search
 sub-spent c =
@@ -157,22 +123,18 @@ sub-spent c =
     let at = pair-of rest in
     let taken = taken-of at in
     let head = head-of taken in
-    let first = first-of head in
-    let start = start-of first in
+    let start = start-of head in
     let w = head .search .inv .0 (start .pre) in
-    let begin = begin-is (start .pre .prepared .by) (first .pair-at .ensures) in
-    turn-estimate (start .pre .prepared) w begin (taken .take .ensures) (at .pair-of .result) (at .pair-of .ensures) (rest .pair-estimate .ensures)
+    turn-estimate (start .pre .prepared) w (start .pre .begins) (taken .take .ensures) (at .pair-of .result) (at .pair-of .ensures) (rest .pair-estimate .ensures)
 
 is-goal-requires : tie.Need-is-goal-requires Inv-search μ-search
 is-goal-requires c κs =
     let at : tie.After-pair-of Inv-search μ-search = search in
     let taken = taken-of at in
     let head = head-of taken in
-    let first = first-of head in
-    let start = start-of first in
+    let start = start-of head in
     let w = head .search .inv .0 (start .pre) in
-    let begin = begin-is (start .pre .prepared .by) (first .pair-at .ensures) in
-    turn-inside (start .pre .prepared) w begin (taken .take .ensures) (at .pair-of .result) (at .pair-of .ensures) .1
+    turn-inside (start .pre .prepared) w (start .pre .begins) (taken .take .ensures) (at .pair-of .result) (at .pair-of .ensures) .1
 
 settle-requires : tie.Need-settle-requires Inv-search μ-search
 settle-requires c κs =
@@ -180,11 +142,9 @@ settle-requires c κs =
     let at = pair-of rest in
     let taken = taken-of at in
     let head = head-of taken in
-    let first = first-of head in
-    let start = start-of first in
+    let start = start-of head in
     let w = head .search .inv .0 (start .pre) in
-    let begin = begin-is (start .pre .prepared .by) (first .pair-at .ensures) in
-    turn-asks (start .pre .prepared) w begin (taken .take .ensures) (at .pair-of .result) (at .pair-of .ensures) (rest .pair-estimate .ensures)
+    turn-asks (start .pre .prepared) w (start .pre .begins) (taken .take .ensures) (at .pair-of .result) (at .pair-of .ensures) (rest .pair-estimate .ensures)
 
 search-less : tie.Need-search-less Inv-search μ-search
 search-less c =
@@ -195,11 +155,9 @@ search-less c =
     let at = pair-of rest in
     let taken = taken-of at in
     let head = head-of taken in
-    let first = first-of head in
-    let start = start-of first in
+    let start = start-of head in
     let w = head .search .inv .0 (start .pre) in
-    let begin = begin-is (start .pre .prepared .by) (first .pair-at .ensures) in
-    omega (arith, turn-room (start .pre .prepared) w begin (taken .take .ensures))
+    omega (arith, turn-room (start .pre .prepared) w (start .pre .begins) (taken .take .ensures))
 
 search-again : tie.Need-search-again Inv-search μ-search
 search-again c =
@@ -210,15 +168,14 @@ search-again c =
     let at = pair-of rest in
     let taken = taken-of at in
     let head = head-of taken in
-    let first = first-of head in
-    let start = start-of first in
+    let start = start-of head in
     let w = head .search .inv .0 (start .pre) in
-    let begin = begin-is (start .pre .prepared .by) (first .pair-at .ensures) in
     let kept = settled .settle .kept in (
       (λ x.
-          turn-more (x .prepared) (head .search .inv .0 x) (begin-is (x .prepared .by) (first .pair-at .ensures)) (taken .take .ensures) (at .pair-of .result) (at .pair-of .ensures) (rest .pair-estimate .ensures)
-          (goal .is-goal .ensures) (no .if2 .left) (kept .1 .0) (settled .settle .ensures (turn-asks (x .prepared) (head .search .inv .0 x) (begin-is (x .prepared .by) (first .pair-at .ensures)) (taken .take .ensures) (at .pair-of .result) (at .pair-of .ensures) (rest .pair-estimate .ensures)))),
-      omega (arith, turn-room (start .pre .prepared) w begin (taken .take .ensures)),
+          let asked = turn-asks (x .prepared) (head .search .inv .0 x) (x .begins) (taken .take .ensures) (at .pair-of .result) (at .pair-of .ensures) (rest .pair-estimate .ensures) in
+          turn-more (x .prepared) (head .search .inv .0 x) (x .begins) (taken .take .ensures) (at .pair-of .result) (at .pair-of .ensures) (rest .pair-estimate .ensures)
+          (goal .is-goal .ensures) (no .if2 .left) (kept .1 .0) (settled .settle .ensures asked)),
+      omega (arith, turn-room (start .pre .prepared) w (start .pre .begins) (taken .take .ensures)),
       head .search .inv .2,
       kept .0 ∙ head .search .inv .3,
       kept .1 .0 ∙ head .search .inv .4,
@@ -303,9 +260,8 @@ returns-2 c =
     let at = pair-of rest in
     let taken = taken-of at in
     let head = head-of taken in
-    let first = first-of head in
     λ x.
-    turn-goal (x .prepared) (head .search .inv .0 x) (begin-is (x .prepared .by) (first .pair-at .ensures)) (taken .take .ensures) (at .pair-of .result) (at .pair-of .ensures) (rest .pair-estimate .ensures)
+    turn-goal (x .prepared) (head .search .inv .0 x) (x .begins) (taken .take .ensures) (at .pair-of .result) (at .pair-of .ensures) (rest .pair-estimate .ensures)
     (goal .is-goal .ensures) (yes .if2 .taken) refl refl refl refl
 
 pub settle-open-spec : {M : Type 1} → statement M
@@ -314,10 +270,6 @@ settle-open-spec =
     (tie.spec
     Inv-search
     μ-search
-    cast-p
-    add-p
-    mul-p
-    pair-at-requires
     search-holds
     take-requires
     cast-log

@@ -1,15 +1,15 @@
--- `guided::clear_keys` meets its contract.
+-- `guided_rows::fill_keys` meets its contract.
 use mathlib.Core.Path.{_≡_, refl}
 use Prim.Native.Nat.{_-_, _≤_}
 use native.Mathlib.Omega.{arith}
 use lib.ListN.{length, length-set}
-use Rattle.guided.proofs.Clearing.{Clearing, clear-none, clear-more, clear-all}
+use Rattle.guided_rows.proofs.Filling.{Filling, fill-none, fill-more, fill-all}
 use borrow.Author.Needs.{needs}
-use Rattle.guided.proofs.clear.clear_keys.Statement.{statement}
-use Rattle.guided.proofs.clear.clear_keys.Tie as tie
+use Rattle.guided_rows.proofs.fill_keys.Statement.{statement}
+use Rattle.guided_rows.proofs.fill_keys.Tie as tie
 
 abbrev Inv-loop : tie.InvT-loop
-Inv-loop keys₀ first until k₀ keys k = (length keys ≡ length keys₀) × (first ≤ k) × (k ≤ until) × Clearing first k until keys₀ keys
+Inv-loop keys₀ first until k₀ keys k = (length keys ≡ length keys₀) × (first ≤ k) × (k ≤ until) × Filling first k until keys₀ keys
 
 abbrev μ-loop : tie.MeasureT-loop
 μ-loop keys₀ first until k₀ keys k = until - k
@@ -17,7 +17,7 @@ abbrev μ-loop : tie.MeasureT-loop
 loop-holds : tie.Need-loop-holds Inv-loop μ-loop
 loop-holds c =
     let start : tie.Start Inv-loop μ-loop = search in
-    (refl, omega arith, start .pre .0, clear-none _ _ _)
+    (refl, omega arith, start .pre .0, fill-none _ _ _)
 
 mul-keys : tie.Need-mul-keys Inv-loop μ-loop
 mul-keys c = search needs
@@ -38,7 +38,7 @@ loop-again c =
     let start : tie.Start Inv-loop μ-loop = search in
     let inv = head .loop .inv in
     let more = turn .loop-test .taken in
-    (simp length-set (inv .0), omega (arith, inv .1), omega (arith, more), clear-more (inv .3) more (omega (arith, inv .0, more, start .pre .1)))
+    (simp length-set (inv .0), omega (arith, inv .1), omega (arith, more), fill-more (inv .3) (inv .1) more (omega (arith, inv .0, more, start .pre .1)))
 
 same-length : tie.Need-same-length Inv-loop μ-loop
 same-length c =
@@ -48,10 +48,10 @@ same-length c =
 returns : tie.Need-returns Inv-loop μ-loop
 returns c =
     let head : tie.At-loop Inv-loop μ-loop = search in
-    clear-all (head .loop .inv .3) (c .loop-test .left)
+    fill-all (head .loop .inv .3) (c .loop-test .left)
 
-pub clear-keys-spec : {M : Type 1} → statement M
-clear-keys-spec =
+pub fill-keys-spec : {M : Type 1} → statement M
+fill-keys-spec =
     tie.close
     (tie.spec
     Inv-loop
