@@ -7,6 +7,7 @@ use mathlib.Core.List.{List}
 use mathlib.Core.Option.{some}
 use native.Mathlib.Omega.{arith}
 use lib.ListN.{length}
+use Rattle.definitions.specs.Basics.{NONE}
 use Rattle.definitions.specs.Charts.{Chart}
 use Rattle.definitions.specs.Diagrams.{Diagram}
 use Rattle.definitions.specs.Plans.{cheapest}
@@ -22,7 +23,6 @@ use Rattle.rows.specs.Rows.{rowStarts}
 use Rattle.trace.specs.Trails.{Trail}
 use Rattle.checks.specs.Tables.{Read, chartIn, diagramIn, Tables}
 use Rattle.checks.specs.Ready.{Walk, walk, Ready, graphIn, automatonIn, width-is}
-use Rattle.guided_model.specs.State.{unopened}
 use Rattle.guided_model.specs.Bounds.{estimate-none, estimate-some}
 use Rattle.guided_model.specs.Based.{logged-plain}
 use Rattle.guided_model.specs.Charts.{GoalSettled, NoneSettled, none-begun}
@@ -45,7 +45,7 @@ module _ {z : Shape} {t : Read} (in-tables : Tables z t) {byStage byNode : List 
   D = diagramIn z t
 
   -- the pair of start and root has no estimate: nothing is settled
-  pub runs-none : {x : GuidedSlices} {r : Answer} → rest ≡ unopened → r ≡ refusal 8 0 0 0 → Runs z t x x r
+  pub runs-none : {x : GuidedSlices} {r : Answer} → rest ≡ NONE → r ≡ refusal 8 0 0 0 → Runs z t x x r
   runs-none {x} {r} q e = record {
     outcome = outcome-none C D 0 (x .plan) (x .plan) r (begun .best) e refl;
     logged = subst (λ (i : Answer). Logged (graphIn z t) (automatonIn z t) (estimateIn z t) (cheapest C D) (i .count) (x .log) (x .log)) (sym e)
@@ -58,7 +58,7 @@ module _ {z : Shape} {t : Read} (in-tables : Tables z t) {byStage byNode : List 
           none-begun C D (sound in-tables) (run-guide in-tables) (x .log)
           (estimate-none (run-guide in-tables) (z .start .0) (z .root .0) rest (sound in-tables .root-inside) (run-shown in-tables es en er) q)
 
-  module _ (q : rest ≡ unopened → ⊥) {first row : List ℕ} {yes-at : List Bool} (ef : FirstTable (z .steps) (z .stages) (t .steps .from) first)
+  module _ (q : rest ≡ NONE → ⊥) {first row : List ℕ} {yes-at : List Bool} (ef : FirstTable (z .steps) (z .stages) (t .steps .from) first)
       (ew : row ≡ rowStarts (z .stages) (z .nodes + 2)) (ey : Finishing (t .inner .lo) (z .nodes) yes-at) {x : GuidedSlices} (room : Room z x) where
     abbrev on : Walk
     on = walk t first row

@@ -6,10 +6,10 @@ use mathlib.Core.List.{List}
 use native.Mathlib.Omega.{arith}
 use lib.ListN.{length, getD, set, drop}
 use lib.Seq.{drop-set-lt}
+use Rattle.definitions.specs.Basics.{NONE}
 use Rattle.queue.specs.declared.Counts.{Counts}
 use Rattle.queue.specs.Queue.{state, Contains, Inserted, Decreasing, Decreased}
 use Rattle.queue.proofs.Facts.{keys-fit}
-use Rattle.guided_model.specs.State.{unopened}
 use Rattle.guided_model.specs.Moves.{relaxed-none, relaxed-falls}
 use Rattle.guided_expand.specs.Work.{Work, work, queueIn, marksIn, kept-same, Offering, Relaxes}
 
@@ -59,5 +59,5 @@ module _ {p floor y v : ℕ} {x : Work} {c : Counts} (o : Offering p floor y v x
     }
 
   -- y is open where it has a key
-  abbrev pub relax-lowers : v < getD (x .keys) y 0 → getD (x .keys) y 0 ≤ unopened → (getD (x .keys) y 0 ≡ unopened → ⊥) → Decreasing p y v (queueIn x c)
+  abbrev pub relax-lowers : v < getD (x .keys) y 0 → getD (x .keys) y 0 ≤ NONE → (getD (x .keys) y 0 ≡ NONE → ⊥) → Decreasing p y v (queueIn x c)
   relax-lowers less b n = record { floor = floor; queue = o .queue; here = o .offerable .inside less (omega arith); above = o .above; lower = less }

@@ -8,6 +8,7 @@ use mathlib.Core.Logic.{inl}
 use mathlib.Core.Option.{some}
 use native.Mathlib.Omega.{arith}
 use lib.ListN.{length, getD}
+use Rattle.definitions.specs.Basics.{NONE}
 use Rattle.queue.specs.declared.Counts.{Counts}
 use Rattle.queue.specs.Queue.{Contains}
 use Rattle.queue.proofs.Facts.{keys-fit, contains-pair, contains-keys, queue-keys}
@@ -20,7 +21,6 @@ use Rattle.trace.specs.Trails.{packed}
 use Rattle.chart.specs.Tables.{Steps}
 use Rattle.checks.specs.Tables.{Tables}
 use Rattle.checks.specs.Ready.{Walk, walk, graphIn, automatonIn, count-is, width-is, few-stages, few-nodes, few-steps, to-at, cost-at}
-use Rattle.guided_model.specs.State.{unopened}
 use Rattle.guided_model.specs.Bounds.{stage-is, estimate-none, estimate-some}
 use Rattle.guided_model.specs.Moves.{offerable, step-none, step-relaxed}
 use Rattle.guided_model.specs.Settling.{Target, target}
@@ -111,14 +111,14 @@ module _ {steps : Steps} {row : List ℕ} {t : Estimates} {from : Source} {size 
     shown-is : rest ≡ shown (h (g .to e) (a .next e n))
     shown-is = er ∙ l .by .holds (getD (steps .to) e 0) to stage-late stage-small (omega (arith, l .enters, next-inside, width)) ∙ ap shown (ap₂ h to-stage (l .enters))
 
-    pub leads-none : rest ≡ unopened → Opened (l .by) from size e (e + 1) x x
+    pub leads-none : rest ≡ NONE → Opened (l .by) from size e (e + 1) x x
     leads-none q = record {
       expanded = step-none g a h s n spent e (seenIn a x) (estimate-none (l .by .guide) (g .to e) (a .next e n) rest next-inside shown-is q);
       kept = kept-same (l .opens .queue);
       rows = refl;
     }
 
-    module _ (q : rest ≡ unopened → ⊥) where
+    module _ (q : rest ≡ NONE → ⊥) where
       has : h (g .to e) (a .next e n) ≡ some rest
       has = estimate-some (l .by .guide) (g .to e) (a .next e n) rest shown-is q
 

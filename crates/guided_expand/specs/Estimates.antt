@@ -18,6 +18,6 @@ estimates stage node = record { stage = stage; node = node }
 abbrev pub paired : Estimates → ℕ → ℕ → ℕ
 paired t s n = max (getD (t .stage) s 0) (getD (t .node) n 0)
 
--- the tables hold the estimate h from the start on, with rows of `width` nodes: what is read for a pair is its estimate, 4,294,967,295 where it has none
+-- the tables hold the estimate h from the start on, with rows of `width` nodes: what is read for a pair is its estimate, NONE where it has none
 abbrev pub Holds : ℕ → Estimate → ℕ → Estimates → Type 0
 Holds start h width t = (s n : ℕ) → start ≤ s → s < 256 → n < width → paired t s n ≡ shown (h s n)

@@ -5,10 +5,11 @@ use mathlib.Core.Path.{_≡_, refl, _∙_}
 use mathlib.Core.Bool.{Bool}
 use mathlib.Core.List.{List}
 use lib.ListN.{length, drop}
+use Rattle.definitions.specs.Basics.{NONE}
 use Rattle.definitions.specs.Pairs.{Automaton}
 use Rattle.queue.specs.declared.Counts.{Counts}
 use Rattle.queue.specs.Queue.{State, state, Contains, Queue}
-use Rattle.guided_model.specs.State.{unopened, Marks, marks}
+use Rattle.guided_model.specs.State.{Marks, marks}
 use Rattle.guided_model.specs.Moves.{Offerable, Relaxed}
 use Rattle.guided_rows.specs.Seen.{seen}
 
@@ -83,7 +84,7 @@ pub record Offering (p floor y v : ℕ) (x : Work) (c : Counts) : Type 0 where
   pub pair : y < p
   pub fits : p ≤ length (x .via)
   pub above : floor ≤ v
-  pub low : v < unopened
+  pub low : v < NONE
   pub offerable : Offerable (marksIn x c) y v
 
 -- what the offer leaves; `mark` has the step and the node that it came by

@@ -8,6 +8,7 @@ use native.Mathlib.Omega.{arith}
 use native.Mathlib.Nat.{mul-le-mul-right}
 use lib.ListN.{length, getD, set, drop, replicate, length-replicate, getD-replicate}
 use lib.Seq.{drop-set-lt}
+use Rattle.definitions.specs.Basics.{NONE}
 use Rattle.definitions.specs.Ways.{Graph}
 use Rattle.definitions.specs.Pairs.{Automaton, stageOf, nodeOf}
 use Rattle.definitions.specs.declared.Shape.{Shape}
@@ -20,7 +21,7 @@ use Rattle.queue.specs.Queue.{state, Contains, Queue, Empty, Inserted}
 use Rattle.queue.proofs.Facts.{queue-empty, contains-none}
 use Rattle.checks.specs.Tables.{chartIn, diagramIn, Tables}
 use Rattle.checks.specs.Ready.{Walk, graphIn, automatonIn, width-is, sound-in, few-stages, few-nodes, row-start}
-use Rattle.guided_model.specs.State.{unopened, Openable}
+use Rattle.guided_model.specs.State.{Openable}
 use Rattle.guided_model.specs.Bounds.{stage-is}
 use Rattle.guided_model.specs.Charts.{Running, running-start}
 use Rattle.guided_expand.specs.Estimates.{Estimates}
@@ -105,7 +106,7 @@ module _ {z : Shape} {on : Walk} {t : Estimates} {yes-at : List Bool} {rest : �
     begin-asks = (begin-queue, (begin-inside, omega arith, λ w. contains-none begin-queue (no .none-held) w))
 
     -- no pair that may be opened has a key
-    clear : (k : ℕ) → Openable (g by) (a by) (by .h) k → getD (seen (a by) filled keys₁) k 0 ≡ unopened
+    clear : (k : ℕ) → Openable (g by) (a by) (by .h) k → getD (seen (a by) filled keys₁) k 0 ≡ NONE
     clear k may =
         let s = stageOf (a by) k in
         let some-nodes : 0 < a by .size = omega (arith, width by) in

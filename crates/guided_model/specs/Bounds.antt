@@ -4,6 +4,7 @@ use Prim.Native.Nat.{ℕ, _+_, _≤_, _<_}
 use mathlib.Core.Path.{_≡_, refl, sym, _∙_, ap, ap₂}
 use mathlib.Core.Option.{Option, none, some}
 use native.Mathlib.Omega.{arith}
+use Rattle.definitions.specs.Basics.{NONE}
 use Rattle.definitions.specs.Ways.{Graph}
 use Rattle.definitions.specs.Pairs.{Automaton, Estimate, pair, stageOf, nodeOf}
 use Rattle.definitions.specs.Promises.{shown}
@@ -11,14 +12,14 @@ use Rattle.theory.specs.Basics.{at-most, none-not-some}
 use Rattle.theory.specs.Ways.{way-climbs}
 use Rattle.theory.specs.Pairs.{way-inside, nodeOf-inside, stageOf-pair, nodeOf-pair}
 use Rattle.theory.specs.Product.{Reaches, reach-way, estimateAt}
-use Rattle.guided_model.specs.State.{unopened, Guide, Openable}
+use Rattle.guided_model.specs.State.{Guide, Openable}
 
 -- an estimate as the tables have it: the mark where there is none
-shown-none : (o : Option ℕ) (r : ℕ) → r ≡ shown o → ((m : ℕ) → o ≡ some m → m ≤ 1800000000) → r ≡ unopened → o ≡ none
+shown-none : (o : Option ℕ) (r : ℕ) → r ≡ shown o → ((m : ℕ) → o ≡ some m → m ≤ 1800000000) → r ≡ NONE → o ≡ none
 shown-none none r e b q = refl
 shown-none (some m) r e b q = absurd (omega (arith, b m refl))
 
-shown-some : (o : Option ℕ) (r : ℕ) → r ≡ shown o → (r ≡ unopened → ⊥) → o ≡ some r
+shown-some : (o : Option ℕ) (r : ℕ) → r ≡ shown o → (r ≡ NONE → ⊥) → o ≡ some r
 shown-some none r e q = absurd (q e)
 shown-some (some m) r e q = ap (λ (x : ℕ). some x) (sym e)
 
@@ -50,10 +51,10 @@ module _ {g : Graph} {a : Automaton} {h : Estimate} (u : Guide g a h) where
   estimate-small p r e = u .bounded (stageOf a p) (nodeOf a p) r (node-inside p) e
 
   -- what the estimate is where the tables show r for it
-  pub estimate-none : (s n r : ℕ) → n < a .size → r ≡ shown (h s n) → r ≡ unopened → h s n ≡ none
+  pub estimate-none : (s n r : ℕ) → n < a .size → r ≡ shown (h s n) → r ≡ NONE → h s n ≡ none
   estimate-none s n r i e q = shown-none (h s n) r e (λ m f. u .bounded s n m i f) q
 
-  pub estimate-some : (s n r : ℕ) → r ≡ shown (h s n) → (r ≡ unopened → ⊥) → h s n ≡ some r
+  pub estimate-some : (s n r : ℕ) → r ≡ shown (h s n) → (r ≡ NONE → ⊥) → h s n ≡ some r
   estimate-some s n r e q = shown-some (h s n) r e q
 
   -- a pair with an estimate is not one of node 0

@@ -8,6 +8,7 @@ use mathlib.Core.Logic.{inr}
 use mathlib.Core.Option.{Option, none, some}
 use native.Mathlib.Omega.{arith}
 use lib.ListN.{length, getD, set, take, drop, length-set, length-take}
+use Rattle.definitions.specs.Basics.{NONE}
 use Rattle.definitions.specs.Charts.{Chart}
 use Rattle.definitions.specs.Diagrams.{Diagram, size}
 use Rattle.definitions.specs.Ways.{Graph, wayCost}
@@ -22,7 +23,7 @@ use Rattle.theory.specs.BestFirst.{Invariant}
 use Rattle.theory.specs.Product.{Edge, startPair, estimateAt}
 use Rattle.theory.specs.Agreement.{settled-few}
 use Rattle.trace.specs.Trails.{Trail}
-use Rattle.guided_model.specs.State.{unopened, Guide, Marks, Smallest, Without, without, In, Openable, costSoFar, Searching}
+use Rattle.guided_model.specs.State.{Guide, Marks, Smallest, Without, without, In, Openable, costSoFar, Searching}
 use Rattle.guided_model.specs.Moves.{Expanded}
 use Rattle.guided_model.specs.Logs.{nothing-settled, longer, take-next, drop-next}
 use Rattle.guided_model.specs.Bounds.{stage-is, node-is}
@@ -104,7 +105,7 @@ module _ (c : Chart) (d : Diagram) (s : Sound (length (c .steps)) d) {h : Estima
       (nothing-settled g a h) (λ p i. absurd (omega (arith, i .1))) (λ k o. o) (omega arith) refl refl
 
   pub running-start : (filled log : List ℕ) (now : Marks) (r : ℕ) → h (c .start) (d .root) ≡ some r
-      → ((p : ℕ) → Openable g a h p → getD filled p 0 ≡ unopened) → startPair g a < length filled → now .keys ≡ set filled (startPair g a) r
+      → ((p : ℕ) → Openable g a h p → getD filled p 0 ≡ NONE) → startPair g a < length filled → now .keys ≡ set filled (startPair g a) r
       → now .Open (startPair g a) → ((k : ℕ) → now .Open k → k ≡ startPair g a) → workNeed c d ≤ length log → Running c d h now log log 0 0
   running-start filled log now r e clear fits stored here only room = record {
     searching = search-start u filled now r e clear fits stored here only;

@@ -7,6 +7,7 @@ use mathlib.Core.Logic.{_⊎_, inl, inr}
 use mathlib.Core.Option.{some}
 use native.Mathlib.Omega.{arith}
 use lib.ListN.{length, getD}
+use Rattle.definitions.specs.Basics.{NONE}
 use Rattle.definitions.specs.Ways.{Graph}
 use Rattle.definitions.specs.Pairs.{Automaton, Estimate, pair, pairs, stageOf, nodeOf}
 use Rattle.definitions.specs.Promises.{leastCostAt, sumAt, Follows, Settled}
@@ -15,7 +16,7 @@ use Rattle.theory.specs.Counting.{room}
 use Rattle.theory.specs.BestFirst.{Consistent, smallest-is-least}
 use Rattle.theory.specs.Pairs.{sum-some}
 use Rattle.theory.specs.Product.{Edge, Reaches, LeastTo, startPair, estimateAt, reach-inside, least-is-cost, consistent}
-use Rattle.guided_model.specs.State.{unopened, Guide, Marks, Smallest, Without, without, In, costSoFar, Keyed, key-is, Came, Searching}
+use Rattle.guided_model.specs.State.{Guide, Marks, Smallest, Without, without, In, costSoFar, Keyed, key-is, Came, Searching}
 use Rattle.guided_model.specs.Logs.{longer, longer-before, Place, earlier, last, place}
 use Rattle.guided_model.specs.Bounds.{reach-stage, reach-cheap, estimate-small, estimate-alive}
 use Rattle.guided_model.specs.Moves.{Frontier}
@@ -39,7 +40,7 @@ module _ {g : Graph} {a : Automaton} {h : Estimate} (u : Guide g a h) where
     opened-reach p (inl t) = s .best .settled p t .attained
     opened-reach p (inr o) = s .best .opened p o
 
-    pub opened-low : (p : ℕ) → In log p ⊎ now .Open p → getD (now .keys) p 0 < unopened
+    pub opened-low : (p : ℕ) → In log p ⊎ now .Open p → getD (now .keys) p 0 < NONE
     opened-low p t =
         let k = s .has-key p t in
         omega (arith, k .sums, reach-cheap u p (cost p) (opened-reach p t), estimate-small u p (k .rest) (k .has))

@@ -8,11 +8,12 @@ use mathlib.Core.Option.{none, some}
 use native.Mathlib.Omega.{arith}
 use lib.ListN.{length, getD, set}
 use lib.Seq.{getD-set-same, getD-set-other}
+use Rattle.definitions.specs.Basics.{NONE}
 use Rattle.definitions.specs.Ways.{Graph}
 use Rattle.definitions.specs.Pairs.{Automaton, Estimate, pair}
 use Rattle.theory.specs.Basics.{either, lt-or-le, same-or-not, none-not-some, some-inj}
 use Rattle.trace.specs.Trails.{packed}
-use Rattle.guided_model.specs.State.{unopened, Openable, Marks}
+use Rattle.guided_model.specs.State.{Openable, Marks}
 
 -- ---- one edge
 
@@ -27,14 +28,14 @@ pub record Stayed (now after : Marks) (k : ℕ) : Type 0 where
 pub record Fell (v mark : ℕ) (now after : Marks) (k : ℕ) : Type 0 where
   pub new-key : getD (after .keys) k 0 ≡ v
   pub lower : v < getD (now .keys) k 0
-  pub low : v < unopened
+  pub low : v < NONE
   pub new-via : getD (after .via) k 0 ≡ mark
   pub is-open : after .Open k
 
 -- what is asked of the pair y that is offered the key v: where it was never opened it is not in the queue, where it has a higher key it is
 pub record Offerable (now : Marks) (y v : ℕ) : Type 0 where
-  pub outside : getD (now .keys) y 0 ≡ unopened → now .Open y → ⊥
-  pub inside : v < getD (now .keys) y 0 → getD (now .keys) y 0 < unopened → now .Open y
+  pub outside : getD (now .keys) y 0 ≡ NONE → now .Open y → ⊥
+  pub inside : v < getD (now .keys) y 0 → getD (now .keys) y 0 < NONE → now .Open y
 
 -- what an edge to the pair y that offers the key v leaves
 pub record Relaxed (y v mark : ℕ) (now after : Marks) : Type 0 where
@@ -55,7 +56,7 @@ relaxed-none y v mark now h = record {
 
 -- the target is put into the queue, or moved up in it
 pub relaxed-falls : (y v mark : ℕ) (now after : Marks)
-    → y < length (now .keys) → y < length (now .via) → v < getD (now .keys) y 0 → v < unopened → after .keys ≡ set (now .keys) y v → after .via ≡ set (now .via) y mark
+    → y < length (now .keys) → y < length (now .via) → v < getD (now .keys) y 0 → v < NONE → after .keys ≡ set (now .keys) y v → after .via ≡ set (now .via) y mark
     → after .Open y → ((k : ℕ) → now .Open k → after .Open k) → ((k : ℕ) → after .Open k → (k ≡ y → ⊥) → now .Open k)
     → Relaxed y v mark now after
 relaxed-falls y v mark now after fk fv less low ek ev here kept only = record {
@@ -83,8 +84,8 @@ relaxed-falls y v mark now after fk fv less low ek ev here kept only = record {
 module _ (g : Graph) (a : Automaton) (h : Estimate) where
   -- the open pairs have keys, and a pair that may be opened and has a key is open or has at most the floor
   pub record Frontier (now : Marks) (floor : ℕ) : Type 0 where
-    pub finite : (k : ℕ) → now .Open k → getD (now .keys) k 0 < unopened
-    pub covered : (k : ℕ) → Openable g a h k → getD (now .keys) k 0 < unopened → now .Open k ⊎ (getD (now .keys) k 0 ≤ floor)
+    pub finite : (k : ℕ) → now .Open k → getD (now .keys) k 0 < NONE
+    pub covered : (k : ℕ) → Openable g a h k → getD (now .keys) k 0 < NONE → now .Open k ⊎ (getD (now .keys) k 0 ≤ floor)
 
   -- so a candidate never beats a settled pair
   pub offerable : (now : Marks) (floor y v : ℕ) → Frontier now floor → Openable g a h y → floor ≤ v → Offerable now y v

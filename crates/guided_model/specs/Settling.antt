@@ -8,6 +8,7 @@ use mathlib.Core.Logic.{inr}
 use mathlib.Core.Option.{some}
 use native.Mathlib.Omega.{arith}
 use lib.ListN.{getD}
+use Rattle.definitions.specs.Basics.{NONE}
 use Rattle.definitions.specs.Ways.{Graph}
 use Rattle.definitions.specs.Pairs.{Automaton, Estimate, pair, pairs, stageOf, nodeOf}
 use Rattle.definitions.specs.Promises.{shown, goalAt}
@@ -16,7 +17,7 @@ use Rattle.theory.specs.Basics.{either, true-not-false}
 use Rattle.theory.specs.Pairs.{pair-inside, pair-of, stageOf-inside, goal-parts}
 use Rattle.theory.specs.Product.{startPair}
 use Rattle.trace.specs.Trails.{stepIn}
-use Rattle.guided_model.specs.State.{unopened, Guide, Marks, Smallest, Openable, costSoFar, Came, Searching}
+use Rattle.guided_model.specs.State.{Guide, Marks, Smallest, Openable, costSoFar, Came, Searching}
 use Rattle.guided_model.specs.Bounds.{stage-is, node-is, node-inside, openable, step-rises}
 use Rattle.guided_model.specs.Chosen.{chosen-key, chosen-stage, chosen-cheap, chosen-inside}
 
@@ -59,7 +60,7 @@ module _ {g : Graph} {a : Automaton} {h : Estimate} (u : Guide g a h) where
     pub pair-inside : y < pairs g a
     pub may-open : Openable g a h y
     pub above : floor ≤ k
-    pub low : k < unopened
+    pub low : k < NONE
 
   pub target : (t n spent floor e rest : ℕ) → Settling g a h t n spent floor → e < g .count → g .from e ≡ t → h (g .to e) (a .next e n) ≡ some rest
       → Target floor (pair a (g .to e) (a .next e n)) (spent + g .cost e + rest)

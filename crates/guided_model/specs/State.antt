@@ -9,6 +9,7 @@ use mathlib.Core.Logic.{_⊎_}
 use mathlib.Core.Option.{Option, none, some}
 use native.Mathlib.Omega.{arith}
 use lib.ListN.{length, getD}
+use Rattle.definitions.specs.Basics.{NONE}
 use Rattle.definitions.specs.Ways.{Graph}
 use Rattle.definitions.specs.Pairs.{Automaton, Estimate, pair, stageOf, nodeOf}
 use Rattle.definitions.specs.Promises.{goalAt, Settled}
@@ -21,8 +22,6 @@ use Rattle.theory.specs.Product.{Edge, startPair, estimateAt}
 use Rattle.trace.specs.Trails.{packed}
 
 -- the key of a pair that was never opened
-abbrev pub unopened : ℕ
-unopened = 4294967295
 
 -- what a search rests on: the graph and the automaton are within their limits; the estimate is consistent (`base` where a way may end), none at node 0, and small
 pub record Guide (g : Graph) (a : Automaton) (h : Estimate) : Type 0 where
@@ -113,7 +112,7 @@ module _ (g : Graph) (a : Automaton) (h : Estimate) where
   pub record Searching (now : Marks) (log : List ℕ) (floor : ℕ) : Type 0 where
     pub best : Invariant ℕ (Edge g a) (startPair g a) (estimateAt a h) (In log) (now .Open) (costSoFar (now .keys))
     pub has-key : (p : ℕ) → In log p ⊎ now .Open p → Keyed (now .keys) p
-    pub opened : (p : ℕ) → Openable g a h p → getD (now .keys) p 0 < unopened → In log p ⊎ now .Open p
+    pub opened : (p : ℕ) → Openable g a h p → getD (now .keys) p 0 < NONE → In log p ⊎ now .Open p
     pub apart : (p : ℕ) → In log p → now .Open p → ⊥
     pub came : (p : ℕ) → In log p ⊎ now .Open p → (p ≡ startPair g a) ⊎ Came now log p
     pub below : (p : ℕ) → In log p → getD (now .keys) p 0 ≤ floor

@@ -9,6 +9,7 @@ use mathlib.Core.Option.{some}
 use native.Mathlib.Omega.{arith}
 use lib.ListN.{length, getD, set}
 use lib.Seq.{getD-set-same, getD-set-other}
+use Rattle.definitions.specs.Basics.{NONE}
 use Rattle.definitions.specs.Ways.{Graph}
 use Rattle.definitions.specs.Pairs.{Automaton, Estimate, pair}
 use Rattle.definitions.specs.Promises.{goalAt}
@@ -17,7 +18,7 @@ use Rattle.theory.specs.Basics.{either, same-or-not}
 use Rattle.theory.specs.BestFirst.{here as begin-here, Turn, turn-keeps}
 use Rattle.theory.specs.Product.{Edge, edge-to, edge-from, startPair, estimateAt}
 use Rattle.trace.specs.Trails.{packed}
-use Rattle.guided_model.specs.State.{unopened, Guide, Marks, Smallest, Without, without, In, Openable, costSoFar, cost-is, cost-same, Keyed, keyed, key-is, keyed-same, Came, Searching}
+use Rattle.guided_model.specs.State.{Guide, Marks, Smallest, Without, without, In, Openable, costSoFar, cost-is, cost-same, Keyed, keyed, key-is, keyed-same, Came, Searching}
 use Rattle.guided_model.specs.Logs.{nothing-settled, longer, in-more, in-last, in-cases}
 use Rattle.guided_model.specs.Bounds.{stage-is, node-is, openable, step-rises}
 use Rattle.guided_model.specs.Moves.{Stayed, FellBy, Moved, Offered}
@@ -26,7 +27,7 @@ use Rattle.guided_model.specs.Chosen.{consistent-pairs, chosen-key, smal
 module _ {g : Graph} {a : Automaton} {h : Estimate} (u : Guide g a h) where
   -- only the pair of start and root is open, at its estimate; no pair that may be opened had a key, and the rest of the slices is arbitrary
   pub search-start : (filled : List ℕ) (now : Marks) (r : ℕ) → h (g .start) (a .root) ≡ some r
-      → ((p : ℕ) → Openable g a h p → getD filled p 0 ≡ unopened) → startPair g a < length filled → now .keys ≡ set filled (startPair g a) r
+      → ((p : ℕ) → Openable g a h p → getD filled p 0 ≡ NONE) → startPair g a < length filled → now .keys ≡ set filled (startPair g a) r
       → now .Open (startPair g a) → ((k : ℕ) → now .Open k → k ≡ startPair g a) → Searching g a h now [] 0
   search-start filled now r e clear fits stored here only = record {
     best = record {
@@ -128,7 +129,7 @@ module _ {g : Graph} {a : Automaton} {h : Estimate} (u : Guide g a h) where
         (λ f. keyed g a h (after .keys) k (spent + g .cost (f .step)) (f .rest) (fell-key k f) (f .fell .new-key))
 
     -- a pair that may be opened and has a key is opened
-    opened′ : (k : ℕ) → Openable g a h k → getD (after .keys) k 0 < unopened → In (longer log x) k ⊎ after .Open k
+    opened′ : (k : ℕ) → Openable g a h k → getD (after .keys) k 0 < NONE → In (longer log x) k ⊎ after .Open k
     opened′ k r b =
         either (moved k)
         (λ y. either (s .opened k r (omega (arith, y .same-key))) (λ i. inl (in-more log x k i))
@@ -168,7 +169,7 @@ module _ {g : Graph} {a : Automaton} {h : Estimate} (u : Guide g a h) where
             let b : getD (after .keys) y 0 ≤ spent + c + r = omega (arith, offered (w .0) (w .1) (w .2) r q, ap (λ (z : ℕ). getD (after .keys) z 0) (w .3), w .4) in
             let may-open : Openable g a h y = subst (Openable g a h) (sym (w .3)) (openable u (g .to (w .0)) (a .next (w .0) n) r
             (omega (arith, u .valid .forward (w .0) (w .1), w .2, stage-is a t n x inside is, chosen-stage u s o)) j q) in
-            let low : getD (after .keys) y 0 < unopened = omega (
+            let low : getD (after .keys) y 0 < NONE = omega (
               arith,
               b,
               costs,

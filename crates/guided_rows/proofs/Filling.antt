@@ -7,13 +7,13 @@ use mathlib.Core.List.{List}
 use native.Mathlib.Omega.{arith}
 use lib.ListN.{length, getD, set, drop, length-set}
 use lib.Seq.{getD-set-same, getD-set-other, drop-set-lt}
+use Rattle.definitions.specs.Basics.{NONE}
 use Rattle.theory.specs.Basics.{either, same-or-not, true-not-false}
-use Rattle.guided_model.specs.State.{unopened}
 use Rattle.guided_rows.specs.Fills.{Filled, RowOpened}
 
 -- keys filled so far
 pub record Filling (first k until : ℕ) (keys₀ keys : List ℕ) : Type 0 where
-  pub fresh : (j : ℕ) → first ≤ j → j < k → getD keys j 0 ≡ unopened
+  pub fresh : (j : ℕ) → first ≤ j → j < k → getD keys j 0 ≡ NONE
   pub before : (j : ℕ) → j < first → getD keys j 0 ≡ getD keys₀ j 0
   pub past : drop until keys ≡ drop until keys₀
 
@@ -21,12 +21,12 @@ pub fill-none : (first until : ℕ) (keys : List ℕ) → Filling first first un
 fill-none first until keys = record { fresh = λ j a b. absurd (omega arith); before = λ j a. refl; past = refl }
 
 pub fill-more : {first k until : ℕ} {keys₀ keys : List ℕ} → Filling first k until keys₀ keys → first ≤ k → k < until → k < length keys
-    → Filling first (k + 1) until keys₀ (set keys k 4294967295)
+    → Filling first (k + 1) until keys₀ (set keys k NONE)
 fill-more {first} {k} {until} {keys₀} {keys} c f l i = record {
-  fresh = λ j a b. either (same-or-not j k) (λ q. rw q (getD-set-same keys k unopened 0 i))
-      (λ q. getD-set-other keys k j unopened 0 q ∙ c .fresh j a (omega arith));
-  before = λ j a. getD-set-other keys k j unopened 0 (λ q. omega arith) ∙ c .before j a;
-  past = drop-set-lt until keys k unopened l ∙ c .past;
+  fresh = λ j a b. either (same-or-not j k) (λ q. rw q (getD-set-same keys k NONE 0 i))
+      (λ q. getD-set-other keys k j NONE 0 q ∙ c .fresh j a (omega arith));
+  before = λ j a. getD-set-other keys k j NONE 0 (λ q. omega arith) ∙ c .before j a;
+  past = drop-set-lt until keys k NONE l ∙ c .past;
 }
 
 pub fill-all : {first k until : ℕ} {keys₀ keys : List ℕ} → Filling first k until keys₀ keys → until ≤ k → Filled first until keys₀ keys

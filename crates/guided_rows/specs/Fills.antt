@@ -7,11 +7,11 @@ use mathlib.Core.List.{List}
 use native.Mathlib.Omega.{arith}
 use lib.ListN.{length, getD, drop}
 use lib.Seq.{drop-drop}
-use Rattle.guided_model.specs.State.{unopened}
+use Rattle.definitions.specs.Basics.{NONE}
 
 -- the keys from `first` to before `until` are those of pairs that were never opened, and no other key is touched
 pub record Filled (first until : ℕ) (keys keys′ : List ℕ) : Type 0 where
-  pub fresh : (k : ℕ) → first ≤ k → k < until → getD keys′ k 0 ≡ unopened
+  pub fresh : (k : ℕ) → first ≤ k → k < until → getD keys′ k 0 ≡ NONE
   pub before : (k : ℕ) → k < first → getD keys′ k 0 ≡ getD keys k 0
   pub past : drop until keys′ ≡ drop until keys
 

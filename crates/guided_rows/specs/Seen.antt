@@ -9,17 +9,17 @@ use native.Mathlib.Omega.{arith}
 use native.Mathlib.Nat.{mul-le-mul-right}
 use lib.ListN.{length, getD, set, length-set}
 use lib.Seq.{getD-set-same, getD-set-other, getD-drop, ext-getD}
-use Rattle.definitions.specs.Basics.{pick, upto}
+use Rattle.definitions.specs.Basics.{NONE, pick, upto}
 use Rattle.definitions.specs.Pairs.{Automaton, stageOf, nodeOf}
 use Rattle.theory.specs.Basics.{either, lt-or-le, same-or-not, pick-true, pick-false, length-map-run, getD-map-upto}
 use Rattle.theory.specs.Pairs.{pair-of, nodeOf-inside}
-use Rattle.guided_model.specs.State.{unopened, marks}
+use Rattle.guided_model.specs.State.{marks}
 use Rattle.guided_model.specs.Moves.{Stayed, Fell, Offerable, Relaxed}
 use Rattle.guided_rows.specs.Fills.{Filled, RowOpened}
 
 -- the key of pair k: the one in the slice where its row is filled
 unfoldable pub seenAt : Automaton → List Bool → List ℕ → ℕ → ℕ
-seenAt a filled keys k = pick (getD filled (stageOf a k) false) (getD keys k 0) unopened
+seenAt a filled keys k = pick (getD filled (stageOf a k) false) (getD keys k 0) NONE
 
 unfoldable pub seen : Automaton → List Bool → List ℕ → List ℕ
 seen a filled keys = map (seenAt a filled keys) (upto (length keys))
@@ -39,12 +39,12 @@ module _ (a : Automaton) (filled : List Bool) (keys : List ℕ) where
     unfolding seen seenAt
     seen-filled q = getD-map-upto (seenAt a filled keys) (length keys) k 0 i ∙ pick-true _ _ _ q
 
-    pub seen-fresh : getD filled (stageOf a k) false ≡ false → getD (seen a filled keys) k 0 ≡ unopened
+    pub seen-fresh : getD filled (stageOf a k) false ≡ false → getD (seen a filled keys) k 0 ≡ NONE
     unfolding seen seenAt
     seen-fresh q = getD-map-upto (seenAt a filled keys) (length keys) k 0 i ∙ pick-false _ _ _ q
 
     -- the row of a pair that was opened is filled
-    pub seen-row : getD (seen a filled keys) k 0 < unopened → getD filled (stageOf a k) false ≡ true
+    pub seen-row : getD (seen a filled keys) k 0 < NONE → getD filled (stageOf a k) false ≡ true
     seen-row l = go (getD filled (stageOf a k) false) refl
       where
         go : (b : Bool) → getD filled (stageOf a k) false ≡ b → getD filled (stageOf a k) false ≡ true
@@ -135,7 +135,7 @@ module _ (a : Automaton) (some-nodes : 0 < a .size) {s first until : ℕ} (begin
             let e : until + (k - until) ≡ k = omega arith in
             rw (← e) (sym (getD-drop until keys′ (k - until) 0) ∙ ap (λ (t : List ℕ). getD t (k - until) 0) (f .past) ∙ getD-drop until keys (k - until) 0)
 
-    pub row-keys : (k : ℕ) → stageOf a k ≡ s → getD keys′ k 0 ≡ unopened
+    pub row-keys : (k : ℕ) → stageOf a k ≡ s → getD keys′ k 0 ≡ NONE
     row-keys k q = let r = in-row k q in f .fresh k (r .0) (r .1)
 
   module _ {keys : List ℕ} {filled : List Bool} {keys′ : List ℕ} {filled′ : List Bool} (l : length keys′ ≡ length keys) (o : RowOpened s first until keys filled keys′ filled′) where
