@@ -10,14 +10,7 @@ use heap_sift::sift_up;
 use heap_sift::swap;
 
 // Puts pair q, which is not in the heap, into it at the key v. There is room for it: the heap holds no pair twice.
-pub fn push(
-    keys: &mut [u32],
-    heap: &mut [u32],
-    pos: &mut [u32],
-    n: usize,
-    q: usize,
-    v: u32,
-)
+pub fn push(keys: &mut [u32], heap: &mut [u32], pos: &mut [u32], n: usize, q: usize, v: u32)
     requires { ⌜ Pushing n q (slices (now keys) (now heap) (now pos)) ⌝ }
     ensures { λ _. ⌜
         (let before = slices (now (keys .entry)) (now (heap .entry)) (now (pos .entry)) in
@@ -32,13 +25,7 @@ pub fn push(
 }
 
 // Gives pair q, which is in the heap, the key v, at most the one that it has.
-pub fn decrease_key(
-    keys: &mut [u32],
-    heap: &mut [u32],
-    pos: &mut [u32],
-    q: usize,
-    v: u32,
-)
+pub fn decrease_key(keys: &mut [u32], heap: &mut [u32], pos: &mut [u32], q: usize, v: u32)
     requires { ⌜ Decreasing q v (slices (now keys) (now heap) (now pos)) ⌝ }
     ensures { λ _. ⌜
         (let before = slices (now (keys .entry)) (now (heap .entry)) (now (pos .entry)) in
