@@ -64,11 +64,10 @@ loop-again c =
     let smaller : tie.Else1 Inv-loop μ-loop = search in
     let key : tie.After-key-at Inv-loop μ-loop = search in
     let above : tie.After-parent Inv-loop μ-loop = search in
-    let body : tie.In-loop Inv-loop μ-loop = search in
     let head : tie.At-loop Inv-loop μ-loop = search in (
       search needs,
       search needs,
-      λ a. lift-turn (head .loop .inv .2 a) (above .parent .ensures) (key .key-at .ensures) (body .loop-test .taken) (smaller .if1 .left) (swapped .swap .ensures),
+      λ a. lift-turn (head .loop .inv .2 a) (above .parent .ensures) (key .key-at .ensures) (omega arith) (smaller .if1 .left) (swapped .swap .ensures),
     )
 
 same-length-3 : tie.Need-same-length-3 Inv-loop μ-loop
@@ -80,7 +79,7 @@ same-length-4 c = search needs
 returns-2 : tie.Need-returns-2 Inv-loop μ-loop
 returns-2 c =
     let head : tie.At-loop Inv-loop μ-loop = search in
-    λ a. lift-top (head .loop .inv .2 a) (c .loop-test .left)
+    λ a. lift-top (head .loop .inv .2 a) (omega arith)
 
 pub sift-up-spec : {M : Type 1} → statement M
 sift-up-spec =
