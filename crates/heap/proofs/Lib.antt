@@ -1,5 +1,5 @@
--- The laws of the heap: its places, its order, its loops, and what each call leaves.
-pub mod Places
-mod Order
-mod Loops
-pub mod Calls
+-- The laws of the heap: what a caller may cite, and what each call asks of the loops and leaves.
+pub mod Facts
+mod Pushing
+mod Decreasing
+mod Popping

@@ -1,3 +1,2 @@
--- The definitions of the heap and of the steps inside its calls.
-pub mod Heap
-pub mod Sift
+-- What the calls of the heap ask and leave.
+pub mod Calls

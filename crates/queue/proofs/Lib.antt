@@ -2,4 +2,5 @@
 pub mod Facts
 mod Recent
 mod Inserting
+mod Decreasing
 mod Taking

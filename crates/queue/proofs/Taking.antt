@@ -1,4 +1,4 @@
--- What `decrease` and `take` leave, on plain lists.
+-- What `take` asks of the heap, and what it leaves, on plain lists.
 -- Assumes nothing.
 use mathlib.Core.Path.{_≡_, refl, sym, ap, _∙_}
 use mathlib.Core.Logic.{_≢_}
@@ -7,65 +7,21 @@ use Prim.Native.Nat.{ℕ, _-_, _≤_, _<_}
 use native.Mathlib.Decide.{ℕ-discrete}
 use native.Mathlib.Omega.{arith}
 use lib.ListN.{length, getD}
-use lib.Seq.{getD-set-same, getD-set-other}
 use Rattle.theory.specs.Counting.{pigeons}
-use Rattle.heap.specs.Heap.{slices, In, Heap, Popped}
-use Rattle.heap.specs.Heap as heap-specs
+use Rattle.heap_sift.specs.Heap.{slices, In, Heap}
+use Rattle.heap.specs.Calls.{Popping, Popped}
 use Rattle.queue.specs.declared.Counts.{Counts}
-use Rattle.queue.specs.Queue.{state, heaped, Contains, Queue, recent, Decreasing, Decreased, Taken}
+use Rattle.queue.specs.Queue.{state, heaped, Contains, Queue, recent, Taking, Taken}
 use Rattle.queue.proofs.Facts.{contains-pair, floor-le}
 use Rattle.queue.proofs.Recent.{recent-last, recent-none}
 
--- ---- `decrease`: a pair whose key is above the floor is in the heap
-module _ {keys heap pos stack : List ℕ} {p : ℕ} {c : Counts} {q v : ℕ} (d : Decreasing p q v (state keys heap pos stack c)) where
-  abbrev floor : ℕ
-  floor = d .floor
+module _ {keys heap pos stack : List ℕ} {floor : ℕ} {c : Counts} (asks : Taking floor (state keys heap pos stack c)) where
+  abbrev p : ℕ
+  p = asks .p
 
   abbrev x : Queue p floor (state keys heap pos stack c)
-  x = d .queue
+  x = asks .queue
 
-  pub in-the-heap : In heap pos (heaped c) q
-  in-the-heap = go (d .here)
-    where
-      go : Contains (state keys heap pos stack c) q → In heap pos (heaped c) q
-      go (Contains.in-heap i) = i
-      go (Contains.on-stack i h e) = absurd (omega (arith, x .level i h, ap (λ (k : ℕ). getD keys k 0) e, d .above, d .lower))
-
-  module _ {keys′ heap′ pos′ : List ℕ} (u : heap-specs.Decreased p (heaped c) q v (slices keys heap pos) (slices keys′ heap′ pos′)) where
-    lower-queue : Queue p floor (state keys′ heap′ pos′ stack c)
-    lower-queue = record {
-      ordered = u .ordered;
-      top-held = x .top-held;
-      stack-fits = x .stack-fits;
-      pairs = x .pairs;
-      distinct = x .distinct;
-      level = λ i h. rw (u .stored) (getD-set-other keys q (getD stack i 0) v 0 (λ e. x .apart i h (rw e in-the-heap)) ∙ x .level i h);
-      apart = λ i h a. x .apart i h (u .only (getD stack i 0) a);
-      above = λ k a. above k a (ℕ-discrete k q);
-    }
-      where
-        above : (k : ℕ) → In heap′ pos′ (heaped c) k → Dec (k ≡ q) → floor ≤ getD keys′ k 0
-        above k a (yes e) = rw (u .stored, e) (omega (arith, d .above, getD-set-same keys q v 0 (omega (arith, contains-pair x (d .here), x .ordered .keys-fit))))
-        above k a (no nd) = rw (u .stored) (omega (arith, getD-set-other keys q k v 0 nd, x .above k (u .only k a)))
-
-    pub decrease-done : Decreased p floor q v (state keys heap pos stack c) (state keys′ heap′ pos′ stack c)
-    decrease-done = record {
-      stored = u .stored;
-      queue = lower-queue;
-      kept = kept;
-      only = only;
-      past = record { heap-past = u .past .heap-past; pos-past = u .past .pos-past; stack-past = refl };
-    }
-      where
-        kept : (k : ℕ) → Contains (state keys heap pos stack c) k → Contains (state keys′ heap′ pos′ stack c) k
-        kept k (Contains.in-heap i) = Contains.in-heap (u .kept k i)
-        kept k (Contains.on-stack i h e) = Contains.on-stack i h e
-
-        only : (k : ℕ) → Contains (state keys′ heap′ pos′ stack c) k → Contains (state keys heap pos stack c) k
-        only k (Contains.in-heap i) = Contains.in-heap (u .only k i)
-        only k (Contains.on-stack i h e) = Contains.on-stack i h e
-
-module _ {keys heap pos stack : List ℕ} {p floor : ℕ} {c : Counts} (x : Queue p floor (state keys heap pos stack c)) where
   -- the stack is within its slice
   pub stack-within : c .top ≤ length stack
   stack-within = omega (arith, pigeons p (c .top) (λ (i : ℕ). getD stack i 0) (x .pairs) (x .distinct), x .stack-fits)
@@ -133,12 +89,15 @@ module _ {keys heap pos stack : List ℕ} {p floor : ℕ} {c : Counts} (x : Queu
     }
 
   -- ---- `take` from the heap, where the stack is empty
-  module _ (z : c .top ≤ 0) where
-    all : heaped c ≡ c .held
-    all = omega arith
+  all : c .top ≤ 0 → heaped c ≡ c .held
+  all z = omega arith
 
-    pub all-heaped : Heap (slices keys heap pos) p (c .held)
-    all-heaped = rw all at (x .ordered)
+  pub all-heaped : c .top ≤ 0 → Heap (slices keys heap pos) p (c .held)
+  all-heaped z = rw (all z) at (x .ordered)
+
+  -- what `pop_min` asks
+  abbrev pub take-popping : c .top ≤ 0 → Popping (c .held) (slices keys heap pos)
+  take-popping z = record { p = p; ordered = all-heaped z; filled = asks .filled }
 
   module _ {r : ℕ} {heap′ pos′ : List ℕ} (z : c .top ≤ 0) (u : Popped p (c .held) r (slices keys heap pos) (slices keys heap′ pos′)) where
     abbrev left : Counts
@@ -169,8 +128,11 @@ module _ {keys heap pos stack : List ℕ} {p floor : ℕ} {c : Counts} (x : Queu
     none : recent stack c ≡ []
     none = recent-none stack c (omega arith)
 
-    pub take-heap : 0 < c .held → Taken p floor r (getD keys r 0) (state keys heap pos stack c) (state keys heap′ pos′ stack left)
-    take-heap y = record {
+    pub take-within : r < length keys
+    take-within = omega (arith, u .pair, x .ordered .keys-fit)
+
+    pub take-heap : Taken p floor r (getD keys r 0) (state keys heap pos stack c) (state keys heap′ pos′ stack left)
+    take-heap = record {
       was = Contains.in-heap (rw (all z) (u .was));
       pair = u .pair;
       least = least;
@@ -184,7 +146,7 @@ module _ {keys heap pos stack : List ℕ} {p floor : ℕ} {c : Counts} (x : Queu
         apart = λ i h w. omega arith;
         above = λ k w. u .least k (was-in′ w);
       };
-      one-fewer = omega arith;
+      one-fewer = omega (arith, asks .filled);
       its-key = refl;
       rises = floor-le x (Contains.in-heap (rw (all z) (u .was)));
       gone = gone′;

@@ -1,4 +1,5 @@
 -- A queue of the pairs 0 to p - 1, smallest key first: what is in it, and what each call leaves.
+-- No call reads p: what a call asks has a field for it, and what the call leaves holds for every p that fits.
 -- A caller passes `Queue` and `Contains` on as they are, and learns of them from the fields of `Inserted`, `Decreased` and `Taken` and from the laws of proofs/Facts.antt.
 -- Assumes nothing.
 use Prim.Native.Nat.{ℕ, zero, suc, _+_, _-_, _≤_, _<_}
@@ -6,7 +7,7 @@ use mathlib.Core.Path.{_≡_}
 use mathlib.Core.Logic.{_≢_}
 use mathlib.Core.List.{List, [], _∷_}
 use lib.ListN.{length, getD, set, drop}
-use Rattle.heap.specs.Heap.{slices, In, Heap}
+use Rattle.heap_sift.specs.Heap.{slices, In, Heap}
 use Rattle.theory.specs.Counting.{Distinct}
 use Rattle.queue.specs.declared.Counts.{Counts}
 
@@ -61,6 +62,14 @@ pub record Empty (c : Counts) : Type 0 where
   pub none-held : c .held ≡ 0
   pub none-stacked : c .top ≡ 0
 
+-- what `insert` asks: q is not in the queue, and v is not below the floor
+pub record Inserting (floor q v : ℕ) (x : State) : Type 0 where
+  pub p : ℕ
+  pub queue : Queue p floor x
+  pub pair : q < p
+  pub at-least : floor ≤ v
+  pub outside : Contains x q → ⊥
+
 -- what `insert` leaves: the same pairs and q, which has the key v
 pub record Inserted (p floor q v : ℕ) (x x′ : State) : Type 0 where
   pub stored : x′ .keys ≡ set (x .keys) q v
@@ -74,7 +83,8 @@ pub record Inserted (p floor q v : ℕ) (x x′ : State) : Type 0 where
   pub past : Past p x x′
 
 -- what `decrease` asks: q is in a queue, and v is below its key and not below the floor
-pub record Decreasing (p q v : ℕ) (x : State) : Type 0 where
+pub record Decreasing (q v : ℕ) (x : State) : Type 0 where
+  pub p : ℕ
   pub floor : ℕ
   pub queue : Queue p floor x
   pub here : Contains x q
@@ -88,6 +98,12 @@ pub record Decreased (p floor q v : ℕ) (x x′ : State) : Type 0 where
   pub kept : (k : ℕ) → Contains x k → Contains x′ k
   pub only : (k : ℕ) → Contains x′ k → Contains x k
   pub past : Past p x x′
+
+-- what `take` asks: a queue that is not empty
+pub record Taking (floor : ℕ) (x : State) : Type 0 where
+  pub p : ℕ
+  pub queue : Queue p floor x
+  pub filled : 0 < x .counts .held
 
 -- what `take` leaves: the same pairs without r, which had the least key, now the floor; of recent ones r is the last in; the keys and the stack stay
 pub record Taken (p floor r key : ℕ) (x x′ : State) : Type 0 where

@@ -1,8 +1,11 @@
 // The open pairs of a best-first search, smallest key first: a min-heap with a stack before it. A pair that is inserted at the
 // key just taken goes on the stack and is taken before all others, last in first out. The slices keys, heap, pos and stack are
-// lent with any content, and nothing from p on is touched. `floor` is the key last taken, or any number before the first.
-ghost use Prim.Native.Nat.{_≤_, _<_};
-ghost use Rattle.queue.specs.Queue.{state, Contains, Queue, Empty, Inserted, Decreasing, Decreased, Taken};
+// lent with any content. The pairs are 0 to p - 1, for any p that fits the slices: no call reads it, and nothing from p on is
+// touched. `floor` is the key last taken, or any number before the first.
+ghost use Prim.Native.Nat.{ℕ};
+ghost use mathlib.Core.List.{List};
+ghost use Rattle.queue.specs.declared.Counts.{Counts};
+ghost use Rattle.queue.specs.Queue.{state, Empty, Inserting, Inserted, Decreasing, Decreased, Taking, Taken};
 use convert::wide;
 
 // How many pairs the queue holds, and how many of them are on the stack.
@@ -31,21 +34,16 @@ pub fn insert(
     heap: &mut [u32],
     pos: &mut [u32],
     stack: &mut [u32],
-    p: usize,
     counts: Counts,
     floor: u32,
     q: usize,
     v: u32,
 ) -> Counts
-    requires { ⌜ Queue p floor (state (now keys) (now heap) (now pos) (now stack) counts) ⌝ }
-    requires { ⌜
-        (let before = state (now keys) (now heap) (now pos) (now stack) counts in
-        (q < p) × (floor ≤ v) × (Contains before q → ⊥))
-        ⌝ }
+    requires { ⌜ Inserting floor q v (state (now keys) (now heap) (now pos) (now stack) counts) ⌝ }
     ensures { λ r. ⌜
         (let before = state (now (keys .entry)) (now (heap .entry)) (now (pos .entry)) (now (stack .entry)) counts in
         let after = state (now (keys .exit)) (now (heap .exit)) (now (pos .exit)) (now (stack .exit)) r in
-        Inserted p floor q v before after)
+        (x : Inserting floor q v before) → Inserted (x .p) floor q v before after)
         ⌝ }
 {
     let held = counts.held;
@@ -58,34 +56,25 @@ pub fn insert(
             top: top + 1,
         };
     }
-    heap::push(keys, heap, pos, p, held - top, q, v);
+    heap::push(keys, heap, pos, held - top, q, v);
     Counts {
         held: held + 1,
         top: top,
     }
 }
 
-// Gives pair q, which is in the queue, the key v, below the one that it has and at least floor.
-pub fn decrease(
-    keys: &mut [u32],
-    heap: &mut [u32],
-    pos: &mut [u32],
-    stack: &[u32],
-    p: usize,
-    counts: Counts,
-    q: usize,
-    v: u32,
-)
-    requires { ⌜ Decreasing p q v (state (now keys) (now heap) (now pos) (now stack) counts) ⌝ }
+// Gives pair q, which is in the queue, the key v, below the one that it has and at least the floor. The counts and the stack,
+// whatever they are, stay.
+pub fn decrease(keys: &mut [u32], heap: &mut [u32], pos: &mut [u32], q: usize, v: u32)
+    requires { ⌜ ((stack : List ℕ) × (counts : Counts) × Decreasing q v (state (now keys) (now heap) (now pos) stack counts)) ⌝ }
     ensures { λ _. ⌜
-        (let before = state (now (keys .entry)) (now (heap .entry)) (now (pos .entry)) (now (stack .entry)) counts in
-        let after = state (now (keys .exit)) (now (heap .exit)) (now (pos .exit)) (now (stack .entry)) counts in
-        (x : Decreasing p q v before) → Decreased p (x .floor) q v before after)
+        ((stack : List ℕ) (counts : Counts) →
+        let before = state (now (keys .entry)) (now (heap .entry)) (now (pos .entry)) stack counts in
+        let after = state (now (keys .exit)) (now (heap .exit)) (now (pos .exit)) stack counts in
+        (x : Decreasing q v before) → Decreased (x .p) (x .floor) q v before after)
         ⌝ }
 {
-    let held = counts.held;
-    let top = counts.top;
-    heap::decrease_key(keys, heap, pos, p, held - top, q, v);
+    heap::decrease_key(keys, heap, pos, q, v);
 }
 
 // Takes a pair with the least key out of the queue: the last one on the stack, if there is one.
@@ -94,16 +83,14 @@ pub fn take(
     heap: &mut [u32],
     pos: &mut [u32],
     stack: &[u32],
-    p: usize,
     counts: Counts,
     floor: u32,
 ) -> Next
-    requires { ⌜ Queue p floor (state (now keys) (now heap) (now pos) (now stack) counts) ⌝ }
-    requires { ⌜ 0 < counts .held ⌝ }
+    requires { ⌜ Taking floor (state (now keys) (now heap) (now pos) (now stack) counts) ⌝ }
     ensures { λ r. ⌜
         (let before = state (now (keys .entry)) (now (heap .entry)) (now (pos .entry)) (now (stack .entry)) counts in
         let after = state (now (keys .entry)) (now (heap .exit)) (now (pos .exit)) (now (stack .entry)) (r .counts) in
-        Taken p floor (r .pair) (r .key) before after)
+        (x : Taking floor before) → Taken (x .p) floor (r .pair) (r .key) before after)
         ⌝ }
 {
     let held = counts.held;
@@ -120,7 +107,7 @@ pub fn take(
             counts: left,
         };
     }
-    let q = heap::pop_min(keys, heap, pos, p, held);
+    let q = heap::pop_min(keys, heap, pos, held);
     let v = keys[q];
     let left = Counts {
         held: held - 1,

@@ -3,7 +3,8 @@
 use Prim.Native.Nat.{_-_}
 use native.Mathlib.Omega.{arith}
 use borrow.Author.Needs.{needs}
-use Rattle.heap.proofs.Calls.{pop-indexed, pop-sinking, pop-moving, pop-done}
+use Rattle.heap_sift.proofs.Places.{entry, key-within}
+use Rattle.heap.proofs.Popping.{pop-sifting, pop-done}
 use Rattle.heap.proofs.pop_min.Statement.{statement}
 use Rattle.heap.proofs.pop_min.Tie as tie
 
@@ -22,24 +23,21 @@ wide-requires c κs = search needs
 key-at-requires : tie.Need-key-at-requires
 key-at-requires c κs =
     let start : tie.Start = search in
-    omega (arith, start .pre .0 .indexed .pair (start .args .n - 1) (omega arith))
+    let heap = start .pre .ordered in
+    key-within (heap .indexed) (start .args .keys .now) (heap .keys-fit) (start .args .n - 1) (omega arith)
 
 swap-requires : tie.Need-swap-requires
-swap-requires c κs = search needs
+swap-requires c κs =
+    let start : tie.Start = search in
+    let place = entry (start .pre .ordered .indexed) in
+    (place 0 (start .pre .filled), place (start .args .n - 1) (omega arith))
 
 sift-down-requires : tie.Need-sift-down-requires
 sift-down-requires c κs =
     let swapped : tie.After-swap = search in
     let lowest : tie.After-key-at = search in
-    let start : tie.Start = search in (
-      pop-indexed (start .pre .0) (start .pre .1) (swapped .swap .ensures),
-      (
-        omega arith,
-        omega arith,
-        pop-moving (start .pre .0) (start .pre .1) (swapped .swap .ensures) (lowest .key-at .ensures),
-        pop-sinking (start .pre .0) (start .pre .1) (swapped .swap .ensures),
-      ),
-    )
+    let start : tie.Start = search in
+    pop-sifting (start .pre) (swapped .swap .ensures) (lowest .key-at .ensures)
 
 same-length : tie.Need-same-length
 same-length c = search needs
@@ -48,7 +46,12 @@ same-length-2 : tie.Need-same-length-2
 same-length-2 c = search needs
 
 returns : tie.Need-returns
-returns c = search pop-done
+returns c =
+    let sifted : tie.After-sift-down = search in
+    let swapped : tie.After-swap = search in
+    let lowest : tie.After-key-at = search in
+    let first : tie.After-wide = search in
+    λ a. pop-done a (swapped .swap .ensures) (first .wide .ensures .0) (sifted .sift-down .ensures (pop-sifting a (swapped .swap .ensures) (lowest .key-at .ensures)))
 
 pub pop-min-spec : {M : Type 1} → statement M
 pop-min-spec =

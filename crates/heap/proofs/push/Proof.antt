@@ -4,7 +4,7 @@ use mathlib.Core.Path.{_∙_}
 use native.Mathlib.Omega.{arith}
 use lib.ListN.{length-set}
 use borrow.Author.Needs.{needs}
-use Rattle.heap.proofs.Calls.{push-room, push-indexed, push-moving, push-rising, push-done}
+use Rattle.heap.proofs.Pushing.{push-room, push-sifting, push-done}
 use Rattle.heap.proofs.push.Statement.{statement}
 use Rattle.heap.proofs.push.Tie as tie
 
@@ -23,12 +23,12 @@ mul-heap c = search needs
 slice-write-heap : tie.Need-slice-write-heap
 slice-write-heap c =
     let start : tie.Start = search in
-    omega (arith, push-room (start .pre .0) (start .pre .1 .0) (start .pre .1 .1))
+    omega (arith, push-room (start .pre))
 
 cast-pos : tie.Need-cast-pos
 cast-pos c =
     let start : tie.Start = search in
-    omega (arith, push-room (start .pre .0) (start .pre .1 .0) (start .pre .1 .1))
+    omega (arith, push-room (start .pre))
 
 mul-pos : tie.Need-mul-pos
 mul-pos c = search needs
@@ -36,33 +36,30 @@ mul-pos c = search needs
 slice-write-pos : tie.Need-slice-write-pos
 slice-write-pos c = search needs
 
-add-sift-up : tie.Need-add-sift-up
-add-sift-up c = search needs
-
 sift-up-requires : tie.Need-sift-up-requires
 sift-up-requires c κs =
     let start : tie.Start = search in
-    let v = start .args .v in
-    let heap = start .pre .0 in
-    let inside = start .pre .1 .0 in
-    let outside = start .pre .1 .1 in
-    (push-indexed heap inside outside, (simp length-set (omega arith), push-moving heap inside outside v, push-rising heap inside outside v))
+    push-sifting (start .pre) (start .args .v)
 
 same-length : tie.Need-same-length
 same-length c = search needs
 
 same-length-2 : tie.Need-same-length-2
 same-length-2 c =
-    let lifted : tie.After-sift-up = search in
-    lifted .sift-up .kept .1 .0 ∙ simp length-set
+    let sifted : tie.After-sift-up = search in
+    sifted .sift-up .kept .1 .0 ∙ simp length-set
 
 same-length-3 : tie.Need-same-length-3
 same-length-3 c =
-    let lifted : tie.After-sift-up = search in
-    lifted .sift-up .kept .1 .1 .0 ∙ simp length-set
+    let sifted : tie.After-sift-up = search in
+    sifted .sift-up .kept .1 .1 .0 ∙ simp length-set
 
 returns : tie.Need-returns
-returns c = search push-done
+returns c =
+    let sifted : tie.After-sift-up = search in
+    let start : tie.Start = search in
+    let v = start .args .v in
+    λ a. push-done a v (sifted .sift-up .ensures (push-sifting a v))
 
 pub push-spec : {M : Type 1} → statement M
 push-spec =
@@ -76,7 +73,6 @@ push-spec =
     cast-pos
     mul-pos
     slice-write-pos
-    add-sift-up
     sift-up-requires
     same-length
     same-length-2

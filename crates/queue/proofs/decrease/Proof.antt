@@ -1,18 +1,14 @@
 -- `decrease` meets its contract. A pair whose key is above the floor is in the heap.
 -- Assumes nothing.
-use native.Mathlib.Omega.{arith}
 use borrow.Author.Needs.{needs}
-use Rattle.queue.proofs.Taking.{in-the-heap, decrease-done}
+use Rattle.queue.proofs.Decreasing.{decrease-heaped, decrease-done}
 use Rattle.queue.proofs.decrease.Statement.{statement}
 use Rattle.queue.proofs.decrease.Tie as tie
-
-sub-decrease-key : tie.Need-sub-decrease-key
-sub-decrease-key c = search needs
 
 decrease-key-requires : tie.Need-decrease-key-requires
 decrease-key-requires c κs =
     let start : tie.Start = search in
-    (start .pre .queue .ordered, (in-the-heap (start .pre), omega (arith, start .pre .lower)))
+    decrease-heaped (start .pre .2)
 
 same-length : tie.Need-same-length
 same-length c = search needs
@@ -26,13 +22,12 @@ same-length-3 c = search needs
 returns : tie.Need-returns
 returns c =
     let decreased : tie.After-decrease-key = search in
-    λ x. decrease-done x (decreased .decrease-key .ensures)
+    λ stack counts a. decrease-done a (decreased .decrease-key .ensures (decrease-heaped a))
 
 pub decrease-spec : {M : Type 1} → statement M
 decrease-spec =
     tie.close
     (tie.spec
-    sub-decrease-key
     decrease-key-requires
     same-length
     same-length-2

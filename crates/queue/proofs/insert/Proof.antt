@@ -2,8 +2,7 @@
 -- Assumes nothing.
 use native.Mathlib.Omega.{arith}
 use borrow.Author.Needs.{needs}
-use Rattle.queue.proofs.Inserting.{stack-room, held-room, insert-stack, insert-heap}
-use Rattle.queue.specs.Queue.{Contains}
+use Rattle.queue.proofs.Inserting.{stack-room, held-room, insert-stack, insert-pushing, insert-heap}
 use Rattle.queue.proofs.insert.Statement.{statement}
 use Rattle.queue.proofs.insert.Tie as tie
 
@@ -19,22 +18,22 @@ cast-stack c = search needs
 mul-stack : tie.Need-mul-stack
 mul-stack c =
     let start : tie.Start = search in
-    omega (arith, stack-room (start .pre .0) (start .pre .1 .0) (start .pre .1 .2), start .pre .0 .stack-fits)
+    omega (arith, stack-room (start .pre), start .pre .queue .stack-fits)
 
 slice-write-stack : tie.Need-slice-write-stack
 slice-write-stack c =
     let start : tie.Start = search in
-    omega (arith, stack-room (start .pre .0) (start .pre .1 .0) (start .pre .1 .2), start .pre .0 .stack-fits)
+    omega (arith, stack-room (start .pre), start .pre .queue .stack-fits)
 
-add-t13 : tie.Need-add-t13
-add-t13 c =
+add-t12 : tie.Need-add-t12
+add-t12 c =
     let start : tie.Start = search in
-    omega (arith, held-room (start .pre .0) (start .pre .1 .0) (start .pre .1 .2), start .pre .0 .stack-fits)
+    omega (arith, held-room (start .pre), start .pre .queue .stack-fits)
 
-add-t17 : tie.Need-add-t17
-add-t17 c =
+add-t16 : tie.Need-add-t16
+add-t16 c =
     let start : tie.Start = search in
-    omega (arith, stack-room (start .pre .0) (start .pre .1 .0) (start .pre .1 .2), start .pre .0 .stack-fits)
+    omega (arith, stack-room (start .pre), start .pre .queue .stack-fits)
 
 same-length : tie.Need-same-length
 same-length c = search needs
@@ -43,7 +42,9 @@ same-length-2 : tie.Need-same-length-2
 same-length-2 c = search needs
 
 returns : tie.Need-returns
-returns c = search insert-stack
+returns c =
+    let level : tie.Then1 = search in
+    λ a. insert-stack a (level .if1 .taken)
 
 sub-push : tie.Need-sub-push
 sub-push c = search needs
@@ -51,12 +52,12 @@ sub-push c = search needs
 push-requires : tie.Need-push-requires
 push-requires c κs =
     let start : tie.Start = search in
-    (start .pre .0 .ordered, (start .pre .1 .0, λ w. start .pre .1 .2 (Contains.in-heap w)))
+    insert-pushing (start .pre)
 
-add-t25 : tie.Need-add-t25
-add-t25 c =
+add-t24 : tie.Need-add-t24
+add-t24 c =
     let start : tie.Start = search in
-    omega (arith, held-room (start .pre .0) (start .pre .1 .0) (start .pre .1 .2), start .pre .0 .stack-fits)
+    omega (arith, held-room (start .pre), start .pre .queue .stack-fits)
 
 same-length-3 : tie.Need-same-length-3
 same-length-3 c = search needs
@@ -68,7 +69,10 @@ same-length-5 : tie.Need-same-length-5
 same-length-5 c = search needs
 
 returns-2 : tie.Need-returns-2
-returns-2 c = search insert-heap
+returns-2 c =
+    let pushed : tie.After-push = search in
+    let above : tie.Else1 = search in
+    λ a. insert-heap a (above .if1 .left) (pushed .push .ensures (insert-pushing a))
 
 pub insert-spec : {M : Type 1} → statement M
 insert-spec =
@@ -79,14 +83,14 @@ insert-spec =
     cast-stack
     mul-stack
     slice-write-stack
-    add-t13
-    add-t17
+    add-t12
+    add-t16
     same-length
     same-length-2
     returns
     sub-push
     push-requires
-    add-t25
+    add-t24
     same-length-3
     same-length-4
     same-length-5

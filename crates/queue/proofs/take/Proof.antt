@@ -2,7 +2,7 @@
 -- Assumes nothing.
 use native.Mathlib.Omega.{arith}
 use borrow.Author.Needs.{needs}
-use Rattle.queue.proofs.Taking.{stack-within, all-heaped, take-stack, take-heap}
+use Rattle.queue.proofs.Taking.{stack-within, take-popping, take-within, take-stack, take-heap}
 use Rattle.queue.proofs.take.Statement.{statement}
 use Rattle.queue.proofs.take.Tie as tie
 
@@ -12,39 +12,52 @@ sub-wide c = search needs
 mul-wide : tie.Need-mul-wide
 mul-wide c =
     let start : tie.Start = search in
-    omega (arith, stack-within (start .pre .0))
+    omega (arith, stack-within (start .pre))
 
 shared-slice-read-wide : tie.Need-shared-slice-read-wide
 shared-slice-read-wide c =
     let start : tie.Start = search in
-    omega (arith, stack-within (start .pre .0))
+    omega (arith, stack-within (start .pre))
 
 wide-requires : tie.Need-wide-requires
 wide-requires c κs = search needs
 
+sub-t15 : tie.Need-sub-t15
+sub-t15 c = search needs
+
 sub-t16 : tie.Need-sub-t16
 sub-t16 c = search needs
 
-sub-t17 : tie.Need-sub-t17
-sub-t17 c = search needs
-
 returns : tie.Need-returns
-returns c = search take-stack
+returns c =
+    let stacked : tie.Then1 = search in
+    let last : tie.After-wide = search in
+    λ a. take-stack a (stacked .if1 .taken) (last .wide .ensures .0)
 
 pop-min-requires : tie.Need-pop-min-requires
 pop-min-requires c κs =
     let none-stacked : tie.Else1 = search in
     let start : tie.Start = search in
-    (all-heaped (start .pre .0) (none-stacked .if1 .left), start .pre .1)
+    take-popping (start .pre) (none-stacked .if1 .left)
 
 mul-v : tie.Need-mul-v
-mul-v c = search needs
+mul-v c =
+    let start : tie.Start = search in
+    let popped : tie.After-pop-min = search in
+    let none-stacked : tie.Else1 = search in
+    let z = none-stacked .if1 .left in
+    omega (arith, take-within (start .pre) z (popped .pop-min .ensures (take-popping (start .pre) z)))
 
 shared-slice-read-v : tie.Need-shared-slice-read-v
-shared-slice-read-v c = search needs
+shared-slice-read-v c =
+    let start : tie.Start = search in
+    let popped : tie.After-pop-min = search in
+    let none-stacked : tie.Else1 = search in
+    let z = none-stacked .if1 .left in
+    omega (arith, take-within (start .pre) z (popped .pop-min .ensures (take-popping (start .pre) z)))
 
-sub-t24 : tie.Need-sub-t24
-sub-t24 c = search needs
+sub-t23 : tie.Need-sub-t23
+sub-t23 c = search needs
 
 same-length : tie.Need-same-length
 same-length c = search needs
@@ -53,7 +66,11 @@ same-length-2 : tie.Need-same-length-2
 same-length-2 c = search needs
 
 returns-2 : tie.Need-returns-2
-returns-2 c = search take-heap
+returns-2 c =
+    let popped : tie.After-pop-min = search in
+    let none-stacked : tie.Else1 = search in
+    let z = none-stacked .if1 .left in
+    λ a. take-heap a z (popped .pop-min .ensures (take-popping a z))
 
 pub take-spec : {M : Type 1} → statement M
 take-spec =
@@ -63,13 +80,13 @@ take-spec =
     mul-wide
     shared-slice-read-wide
     wide-requires
+    sub-t15
     sub-t16
-    sub-t17
     returns
     pop-min-requires
     mul-v
     shared-slice-read-v
-    sub-t24
+    sub-t23
     same-length
     same-length-2
     returns-2)

@@ -1,11 +1,11 @@
--- `swap` meets its contract. What it reads from `heap` is below p, so within `pos`.
+-- `swap` meets its contract.
 -- Assumes nothing.
 use native.Mathlib.Omega.{arith}
 use lib.ListN.{length-set}
 use borrow.Author.Needs.{needs}
-use Rattle.heap.proofs.Places.{swap-done}
-use Rattle.heap.proofs.swap.Statement.{statement}
-use Rattle.heap.proofs.swap.Tie as tie
+use Rattle.heap_sift.proofs.Places.{swap-done}
+use Rattle.heap_sift.proofs.swap.Statement.{statement}
+use Rattle.heap_sift.proofs.swap.Tie as tie
 
 mul-a : tie.Need-mul-a
 mul-a c = search needs
@@ -41,27 +41,19 @@ cast-pos : tie.Need-cast-pos
 cast-pos c = search needs
 
 mul-pos : tie.Need-mul-pos
-mul-pos c =
-    let start : tie.Start = search in
-    omega (arith, start .pre .0 .pair (start .args .i) (start .pre .1 .0))
+mul-pos c = search needs
 
 slice-write-pos : tie.Need-slice-write-pos
-slice-write-pos c =
-    let start : tie.Start = search in
-    omega (arith, start .pre .0 .pair (start .args .i) (start .pre .1 .0))
+slice-write-pos c = search needs
 
 cast-pos-2 : tie.Need-cast-pos-2
 cast-pos-2 c = search needs
 
 mul-pos-2 : tie.Need-mul-pos-2
-mul-pos-2 c =
-    let start : tie.Start = search in
-    omega (arith, start .pre .0 .pair (start .args .j) (start .pre .1 .1))
+mul-pos-2 c = search needs
 
 slice-write-pos-2 : tie.Need-slice-write-pos-2
-slice-write-pos-2 c =
-    let start : tie.Start = search in
-    simp length-set (omega (arith, start .pre .0 .pair (start .args .j) (start .pre .1 .1)))
+slice-write-pos-2 c = simp length-set (omega arith)
 
 same-length : tie.Need-same-length
 same-length c = search needs

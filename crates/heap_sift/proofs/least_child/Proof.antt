@@ -3,9 +3,9 @@
 use Prim.Native.Nat.{_+_}
 use native.Mathlib.Omega.{arith}
 use borrow.Author.Needs.{needs}
-use Rattle.heap.proofs.Loops.{child-only, child-right, child-left}
-use Rattle.heap.proofs.least_child.Statement.{statement}
-use Rattle.heap.proofs.least_child.Tie as tie
+use Rattle.heap_sift.proofs.Loops.{child-only, child-right, child-left}
+use Rattle.heap_sift.proofs.least_child.Statement.{statement}
+use Rattle.heap_sift.proofs.least_child.Tie as tie
 
 add-l : tie.Need-add-l
 add-l c = search needs

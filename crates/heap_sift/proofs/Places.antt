@@ -3,13 +3,13 @@
 use mathlib.Core.Path.{_≡_, refl, sym, ap, _∙_}
 use mathlib.Core.Logic.{_≢_}
 use mathlib.Core.List.{List}
-use Prim.Native.Nat.{ℕ, _<_}
+use Prim.Native.Nat.{ℕ, _≤_, _<_}
 use native.Mathlib.Decide.{ℕ-discrete}
 use native.Mathlib.Omega.{arith}
 use lib.ListN.{length, getD, set, length-set}
 use lib.Seq.{getD-set-same, getD-set-other, drop-set-lt}
-use Rattle.heap.specs.Heap.{In, Indexed, Past}
-use Rattle.heap.specs.Sift.{Moved, swapped, Swapped}
+use Rattle.heap_sift.specs.Heap.{In, Indexed, Past}
+use Rattle.heap_sift.specs.Sift.{Entry, Moved, swapped, Swapped}
 
 -- what stands at m after the stores of v at i and then of w at j
 pub data Two (s : List ℕ) (t : List ℕ) (i v j w m : ℕ) : Type 0 where
@@ -35,6 +35,13 @@ module _ {heap pos : List ℕ} {p n : ℕ} (x : Indexed heap pos p n) where
   -- what is in the heap is a pair
   pub in-pair : (q : ℕ) → In heap pos n q → q < p
   in-pair q w = omega (arith, x .pair (getD pos q 0) (w .place), w .held)
+
+  -- a place below n can be swapped, and its key read
+  pub entry : (i : ℕ) → i < n → Entry heap pos i
+  entry i h = record { place = omega (arith, x .heap-fits, x .count); small = omega (arith, x .small, x .count); pair = omega (arith, x .pair i h, x .pos-fits) }
+
+  pub key-within : (keys : List ℕ) → p ≤ length keys → (i : ℕ) → i < n → (i < length heap) × (getD heap i 0 < length keys)
+  key-within keys f i h = (omega (arith, x .heap-fits, x .count), omega (arith, x .pair i h))
 
   -- a pair stands at one place only
   pub one-place : (i j : ℕ) → i < n → j < n → getD heap i 0 ≡ getD heap j 0 → i ≡ j
@@ -138,24 +145,24 @@ module _ {heap pos : List ℕ} {p n i j : ℕ} (x : Indexed heap pos p n) (hi : 
       go (sooner a b e) = (j, hj, sym e)
       go (never a b e) = (m, h, sym e)
 
-  swap-moved : Swapped p n i j heap pos (swapped heap i j) (set (set pos (getD heap i 0) j) (getD heap j 0) i)
+  swap-same : Moved p n heap pos (swapped heap i j) (set (set pos (getD heap i 0) j) (getD heap j 0) i)
   unfolding pos₂
-  swap-moved = record {
-    places = refl;
-    moved = record {
-      indexed = swap-indexed;
-      kept = same-held swap-indexed there;
-      only = same-held x here;
-      past = record {
-        heap-past = drop-set-lt p (set heap i (getD heap j 0)) j (getD heap i 0) (omega (arith, x .count)) ∙ drop-set-lt p heap i (getD heap j 0) (omega (arith, x .count));
-        pos-past = drop-set-lt p (set pos (getD heap i 0) j) (getD heap j 0) i (x .pair j hj) ∙ drop-set-lt p pos (getD heap i 0) j (x .pair i hi);
-      };
+  swap-same = record {
+    indexed = swap-indexed;
+    kept = same-held swap-indexed there;
+    only = same-held x here;
+    past = record {
+      heap-past = drop-set-lt p (set heap i (getD heap j 0)) j (getD heap i 0) (omega (arith, x .count)) ∙ drop-set-lt p heap i (getD heap j 0) (omega (arith, x .count));
+      pos-past = drop-set-lt p (set pos (getD heap i 0) j) (getD heap j 0) i (x .pair j hj) ∙ drop-set-lt p pos (getD heap i 0) j (x .pair i hi);
     };
   }
 
-  -- the same, where a and b are what the code read
-  pub swap-done : {a b : ℕ} → a ≡ getD heap i 0 → b ≡ getD heap j 0 → Swapped p n i j heap pos (swapped heap i j) (set (set pos a j) b i)
-  swap-done ea eb = rw (ea, eb) swap-moved
+  pub swap-moved : {heap′ pos′ : List ℕ} → Swapped i j heap pos heap′ pos′ → Moved p n heap pos heap′ pos′
+  swap-moved s = rw (s .places, s .positions) swap-same
+
+-- where a and b are what the code read
+pub swap-done : {heap pos : List ℕ} {i j a b : ℕ} → a ≡ getD heap i 0 → b ≡ getD heap j 0 → Swapped i j heap pos (swapped heap i j) (set (set pos a j) b i)
+swap-done ea eb = rw (ea, eb) (record { places = refl; positions = refl })
 
 -- ---- one after the other
 past-none : {p : ℕ} {heap pos : List ℕ} → Past p heap pos heap pos

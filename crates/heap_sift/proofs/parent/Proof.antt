@@ -1,8 +1,8 @@
 -- `parent` meets its contract.
 -- Assumes nothing.
 use borrow.Author.Needs.{needs}
-use Rattle.heap.proofs.parent.Statement.{statement}
-use Rattle.heap.proofs.parent.Tie as tie
+use Rattle.heap_sift.proofs.parent.Statement.{statement}
+use Rattle.heap_sift.proofs.parent.Tie as tie
 
 sub-result : tie.Need-sub-result
 sub-result c = search needs

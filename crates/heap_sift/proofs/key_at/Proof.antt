@@ -4,9 +4,9 @@ use mathlib.Core.Path.{ap}
 use Prim.Native.Nat.{ℕ}
 use lib.ListN.{getD}
 use borrow.Author.Needs.{needs}
-use Rattle.heap.specs.Heap.{key}
-use Rattle.heap.proofs.key_at.Statement.{statement}
-use Rattle.heap.proofs.key_at.Tie as tie
+use Rattle.heap_sift.specs.Heap.{key}
+use Rattle.heap_sift.proofs.key_at.Statement.{statement}
+use Rattle.heap_sift.proofs.key_at.Tie as tie
 
 mul-wide : tie.Need-mul-wide
 mul-wide c = search needs

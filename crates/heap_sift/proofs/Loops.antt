@@ -7,10 +7,10 @@ use Prim.Native.Nat.{ℕ, _+_, _≤_, _<_}
 use native.Mathlib.Decide.{ℕ-discrete}
 use native.Mathlib.Omega.{arith}
 use lib.ListN.{length, getD}
-use Rattle.heap.specs.Heap.{parent, Indexed, key}
-use Rattle.heap.specs.Sift.{Moved, swapped, Swapped, Sifted, Rising, Sinking, LeastChild}
-use Rattle.heap.proofs.Places.{Two, two, moved-none, moved-more}
-use Rattle.heap.proofs.Order.{At, at-first, at-second, rise, rise-stop, rise-top, sink, sink-stop, sink-end}
+use Rattle.heap_sift.specs.Heap.{slices, parent, key}
+use Rattle.heap_sift.specs.Sift.{Moved, swapped, Swapped, Rising, Sinking, LeastChild, SiftingUp, SiftingDown, Sifted}
+use Rattle.heap_sift.proofs.Places.{Two, two, swap-moved, moved-none, moved-more}
+use Rattle.heap_sift.proofs.Order.{At, at-first, at-second, rise, rise-stop, rise-top, sink, sink-stop, sink-end}
 
 -- the keys after a swap
 pub key-swap : (keys heap heap′ : List ℕ) (i j : ℕ) → i < length heap → j < length heap → heap′ ≡ swapped heap i j → (m : ℕ) → At (key keys heap) (key keys heap′) i j m
@@ -28,29 +28,29 @@ pub record Lifting (keys : List ℕ) (p n v : ℕ) (heap₀ pos₀ heap pos : Li
   pub rising : Rising (key keys heap) n x
   pub moving : v ≡ key keys heap x
 
-pub lift-start : {keys heap pos : List ℕ} {p n v x : ℕ} → Indexed heap pos p n → v ≡ key keys heap x → Rising (key keys heap) n x → Lifting keys p n v heap pos heap pos x
-lift-start a e r = record { moved = moved-none a; rising = r; moving = e }
+pub lift-start : {keys heap pos : List ℕ} {v x : ℕ} (a : SiftingUp x v (slices keys heap pos)) → Lifting keys (a .p) (a .n) v heap pos heap pos x
+lift-start a = record { moved = moved-none (a .indexed); rising = a .rising; moving = a .moving }
 
 module _ {keys : List ℕ} {p n v : ℕ} {heap₀ pos₀ heap pos : List ℕ} {x : ℕ} (t : Lifting keys p n v heap₀ pos₀ heap pos x) where
-  pub lift-top : x ≤ 0 → Sifted keys p n heap₀ pos₀ heap pos
+  pub lift-top : x ≤ 0 → Sifted p n (slices keys heap₀ pos₀) (slices keys heap pos)
   lift-top h = record { moved = t .moved; order = rise-top (key keys heap) n x (t .rising) h }
 
   module _ {y a : ℕ} (ey : y ≡ parent x) (ea : a ≡ key keys heap y) where
     at-parent : a ≡ key keys heap (parent x)
     at-parent = ea ∙ ap (key keys heap) ey
 
-    pub lift-stop : a < v → Sifted keys p n heap₀ pos₀ heap pos
+    pub lift-stop : a < v → Sifted p n (slices keys heap₀ pos₀) (slices keys heap pos)
     lift-stop h = record { moved = t .moved; order = rise-stop (key keys heap) n x (t .rising) (omega (arith, at-parent, t .moving)) }
 
-    pub lift-turn : {heap′ pos′ : List ℕ} → 0 < x → v ≤ a → Swapped p n y x heap pos heap′ pos′ → Lifting keys p n v heap₀ pos₀ heap′ pos′ y
+    pub lift-turn : {heap′ pos′ : List ℕ} → 0 < x → v ≤ a → Swapped y x heap pos heap′ pos′ → Lifting keys p n v heap₀ pos₀ heap′ pos′ y
     lift-turn {heap′} {pos′} z h s = rw ey (turn (rw ey at s))
       where
         inside : x < length heap
         inside = omega (arith, t .moved .indexed .heap-fits, t .moved .indexed .count, t .rising .place)
 
-        turn : Swapped p n (parent x) x heap pos heap′ pos′ → Lifting keys p n v heap₀ pos₀ heap′ pos′ (parent x)
+        turn : Swapped (parent x) x heap pos heap′ pos′ → Lifting keys p n v heap₀ pos₀ heap′ pos′ (parent x)
         turn u = record {
-          moved = moved-more (t .moved) (u .moved);
+          moved = moved-more (t .moved) (swap-moved (t .moved .indexed) (omega (arith, t .rising .place)) (t .rising .place) u);
           rising = rise (key keys heap) (key keys heap′) n x (t .rising) z (omega (arith, at-parent, t .moving)) keys-after;
           moving = t .moving ∙ sym (at-first (keys-after (parent x)));
         }
@@ -64,20 +64,20 @@ pub record Dropping (keys : List ℕ) (p n v : ℕ) (heap₀ pos₀ heap pos : L
   pub sinking : Sinking (key keys heap) n x
   pub moving : v ≡ key keys heap x
 
-pub drop-start : {keys heap pos : List ℕ} {p n v x : ℕ} → Indexed heap pos p n → v ≡ key keys heap x → Sinking (key keys heap) n x → Dropping keys p n v heap pos heap pos x
-drop-start a e r = record { moved = moved-none a; sinking = r; moving = e }
+pub drop-start : {keys heap pos : List ℕ} {n v x : ℕ} (a : SiftingDown n x v (slices keys heap pos)) → Dropping keys (a .p) n v heap pos heap pos x
+drop-start a = record { moved = moved-none (a .indexed); sinking = a .sinking; moving = a .moving }
 
 module _ {keys : List ℕ} {p n v : ℕ} {heap₀ pos₀ heap pos : List ℕ} {x : ℕ} (t : Dropping keys p n v heap₀ pos₀ heap pos x) where
-  pub drop-end : n ≤ x + x + 1 → Sifted keys p n heap₀ pos₀ heap pos
+  pub drop-end : n ≤ x + x + 1 → Sifted p n (slices keys heap₀ pos₀) (slices keys heap pos)
   drop-end h = record { moved = t .moved; order = sink-end (key keys heap) n x (t .sinking) h }
 
   module _ {c b : ℕ} (d : LeastChild (key keys heap) n x c) (eb : b ≡ key keys heap c) where
-    pub drop-stop : v ≤ b → Sifted keys p n heap₀ pos₀ heap pos
+    pub drop-stop : v ≤ b → Sifted p n (slices keys heap₀ pos₀) (slices keys heap pos)
     drop-stop h = record { moved = t .moved; order = sink-stop (key keys heap) n x (t .sinking) c d (omega (arith, t .moving)) }
 
-    pub drop-turn : {heap′ pos′ : List ℕ} → b < v → Swapped p n x c heap pos heap′ pos′ → Dropping keys p n v heap₀ pos₀ heap′ pos′ c
+    pub drop-turn : {heap′ pos′ : List ℕ} → b < v → Swapped x c heap pos heap′ pos′ → Dropping keys p n v heap₀ pos₀ heap′ pos′ c
     drop-turn {heap′} h s = record {
-      moved = moved-more (t .moved) (s .moved);
+      moved = moved-more (t .moved) (swap-moved (t .moved .indexed) (omega (arith, d .place, d .first, d .child)) (d .place) s);
       sinking = sink (key keys heap) (key keys heap′) n x c (t .sinking) d (omega (arith, t .moving)) swap-keys;
       moving = t .moving ∙ sym (at-second (swap-keys c));
     }

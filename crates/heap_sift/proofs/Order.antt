@@ -5,8 +5,8 @@ use mathlib.Core.Logic.{_≢_}
 use Prim.Native.Nat.{ℕ, zero, suc, _+_, _≤_, _<_}
 use native.Mathlib.Decide.{ℕ-discrete}
 use native.Mathlib.Omega.{arith}
-use Rattle.heap.specs.Heap.{parent, Order}
-use Rattle.heap.specs.Sift.{Rising, Sinking, LeastChild}
+use Rattle.heap_sift.specs.Heap.{parent, Order}
+use Rattle.heap_sift.specs.Sift.{Rising, Sinking, LeastChild}
 
 -- k′ is k with the places i and j exchanged, at place m
 pub data At (k k′ : ℕ → ℕ) (i j m : ℕ) : Type 0 where

@@ -1,0 +1,3 @@
+-- The definitions of the heap and of the steps inside its calls.
+pub mod Heap
+pub mod Sift
