@@ -80,14 +80,14 @@ const FEW_SETTLED: [&str; 7] = [
     ", random 128 wide",
 ];
 
-/// Diagrams of growing size on one chart, and charts of growing size under one rule.
+/// Diagrams of growing size on a chart of 256 stages, and charts of fewer stages under one of them.
 pub fn growth() -> Vec<Load> {
     let chart = generated(256);
     let nodes = (1..=8).map(|pairs| {
         let diagram = must_fit(&needs(&chart, pairs));
         Load::new(format!("growth: 256 stages, {pairs} needs"), &chart, &diagram)
     });
-    let stages = [16, 32, 64, 128, 256].into_iter().map(|stages| {
+    let stages = [16, 32, 64, 128].into_iter().map(|stages| {
         let chart = generated(stages);
         let diagram = must_fit(&needs(&chart, 6));
         Load::new(format!("growth: {stages} stages, 6 needs"), &chart, &diagram)
