@@ -1,7 +1,7 @@
 -- One call, the other way round: from demands 1 and 2, and that no legal plan costs less, what both searches promise alike.
 -- Assumes nothing.
 use Prim.Native.Nat.{ℕ, _≤_}
-use mathlib.Core.Path.{_≡_, refl, sym, _∙_, ap, subst, subst₂}
+use mathlib.Core.Path.{_≡_, refl, sym, _∙_, ap, subst}
 use mathlib.Core.List.{List, [], _++_}
 use mathlib.Core.Logic.{inl, inr}
 use mathlib.Core.Option.{Option, none, some}
@@ -18,9 +18,9 @@ use Rattle.definitions.specs.declared.Answer.{Answer}
 use Rattle.theory.specs.Least.{IsLeast}
 use Rattle.checks.specs.Outcome.{refused-not-ready}
 use Rattle.theory.specs.Plans.{LegalCost, cheapest-least}
-use Rattle.demands.specs.Demands.{Call, Passes, Refusal, Demand1, Given, Demand2, Cheapest, Searched}
+use Rattle.demands.specs.Demands.{Call, Passes, Refusal, Demand1, Given, NoPlan, Demand2, Cheapest, Searched}
 use Rattle.demands.specs.Numbers.{chart-few, rules-few}
-use Rattle.demands.specs.Checked.{loadOf, Judged, chart-bad, rules-bad, too-short, all-pass, judged, ready-passes, valid}
+use Rattle.demands.specs.Checked.{loadOf, Judged, chart-bad, rules-bad, too-short, all-pass, judged, ready-passes, valid, held-alike}
 use Rattle.demands.specs.Results.{Promised}
 
 -- ---- answers and slices
@@ -77,19 +77,12 @@ module _ (chart rules : List ℕ) (x : Call) (one : Demand1 chart rules x) (two 
   -- ---- searched
 
   module _ (c : Chart) (d : Diagram) (a : Passes chart rules x c d) (cheap : Cheapest c d (x .answer)) where
-    -- the plan is one of this chart under this diagram
+    -- the plan is one of this chart under this diagram, and 8 means that they have none
     given-here : x .answer .number ≡ 0 → Given x c d
-    given-here z =
-        let g = two .given z in
-        let f = g .2 .files in
-        subst₂ (λ (i : Chart) (j : Diagram). Given x i j) (sym (f .chart-held) ∙ a .files .chart-held) (sym (f .rules-held) ∙ a .files .rules-held) (g .3)
+    given-here z = let g = two .given z in held-alike chart rules _ _ _ _ (g .2 .files) (a .files) (Given x) (g .3)
 
-    no-plan-here : x .answer .number ≡ 8 → (w : List ℕ) → Legal c d w → ⊥
-    no-plan-here z =
-        let g = two .exactly .0 z in
-        let f = g .2 .files in
-        subst₂ (λ (i : Chart) (j : Diagram). (w : List ℕ) → Legal i j w → ⊥)
-        (sym (f .chart-held) ∙ a .files .chart-held) (sym (f .rules-held) ∙ a .files .rules-held) (g .3)
+    no-plan-here : x .answer .number ≡ 8 → NoPlan c d
+    no-plan-here z = let g = two .exactly .0 z in held-alike chart rules _ _ _ _ (g .2 .files) (a .files) NoPlan (g .3)
 
     planned : (m : ℕ) → Given x c d → x .answer .cost ≡ m → Planned c d m (x .answer .length) (x .plan) (x .plan′)
     planned m g q =

@@ -11,3 +11,4 @@ pub mod ConverseCall
 pub mod ConverseSweep
 pub mod ConverseLog
 pub mod Converse
+pub mod Concluded
