@@ -1,14 +1,14 @@
 -- Two calls on the same files agree, by what both searches promise alike.
 -- Assumes nothing.
 use Prim.Native.Nat.{ℕ, _≤_}
-use mathlib.Core.Path.{_≡_, sym, _∙_, subst₂}
+use mathlib.Core.Path.{_≡_, sym, _∙_}
 use mathlib.Core.List.{List}
 use mathlib.Core.Logic.{_⊎_, inl, inr}
 use native.Mathlib.Omega.{arith}
 use Rattle.definitions.specs.Charts.{Chart}
 use Rattle.definitions.specs.Diagrams.{Diagram}
 use Rattle.demands.specs.Demands.{Call, Files, Passes, Refusal, Searched, Agree}
-use Rattle.demands.specs.Checked.{loadOf, Judged, chart-bad, rules-bad, too-short, all-pass, judged, chart-load, rules-load}
+use Rattle.demands.specs.Checked.{loadOf, Judged, chart-bad, rules-bad, too-short, all-pass, judged, chart-load, rules-load, held-alike}
 use Rattle.demands.specs.Results.{Promised, Found, Lacks, ends, searched-passes, answer-is, demand-1}
 
 -- both were searched
@@ -29,9 +29,7 @@ module _ (chart rules : List ℕ) where
     same-pass h i =
         let a = searched-passes chart rules x promise h in
         let b = searched-passes chart rules y promise′ i in
-        let f = a .2 .files in
-        let g = b .2 .files in
-        (a .0, a .1, a .2, subst₂ (λ (i : Chart) (j : Diagram). Passes chart rules y i j) (sym (g .chart-held) ∙ f .chart-held) (sym (g .rules-held) ∙ f .rules-held) (b .2))
+        (a .0, a .1, a .2, held-alike chart rules _ _ _ _ (b .2 .files) (a .2 .files) (Passes chart rules y) (b .2))
 
     together : Searched (x .answer) → Searched (y .answer) → (x .answer .number ≡ y .answer .number) × (x .answer .cost ≡ y .answer .cost)
     together h i =

@@ -1,7 +1,7 @@
 -- What the checks of a call give: `load` is `ready c d` exactly where all checks pass for the chart c and the diagram d, and else it is the one refusal.
 -- Assumes nothing.
 use Prim.Native.Nat.{ℕ, zero, suc, _-_, _≤_, _<_}
-use mathlib.Core.Path.{_≡_, refl, sym, _∙_, ap₂}
+use mathlib.Core.Path.{_≡_, refl, sym, _∙_, ap₂, subst₂}
 use mathlib.Core.Bool.{Bool, true, false, cond}
 use mathlib.Core.List.{List, [], _∷_, map}
 use native.Mathlib.Omega.{arith}
@@ -118,3 +118,7 @@ module _ (chart rules : List ℕ) (x : Call) where
 -- an accepted chart is within its limits
 pub valid : (chart rules : List ℕ) (c : Chart) (d : Diagram) → Files chart rules c d → Valid (graph c)
 valid chart rules c d f = rw (← (f .chart-held)) (chart-accepted chart (f .chart-passes) .0)
+
+-- what is said of the chart and the diagram that the files hold goes over to the same ones under other names
+pub held-alike : (chart rules : List ℕ) (c c′ : Chart) (d d′ : Diagram) → Files chart rules c d → Files chart rules c′ d′ → (P : Chart → Diagram → Type 0) → P c d → P c′ d′
+held-alike chart rules c c′ d d′ f g P = subst₂ P (sym (f .chart-held) ∙ g .chart-held) (sym (f .rules-held) ∙ g .rules-held)

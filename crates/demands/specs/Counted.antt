@@ -90,14 +90,14 @@ module _ (c : Chart) (d : Diagram) (v : Valid (graph c)) where
 
   -- ---- the cost slice
 
-  abbrev costAt : ℕ → ℕ
+  abbrev pub costAt : ℕ → ℕ
   costAt p = shown (leastCost (graph c) (automaton c d) (p / size d) (p % size d))
 
-  costs-long : length (leastCosts (graph c) (automaton c d)) ≡ need c d
+  pub costs-long : length (leastCosts (graph c) (automaton c d)) ≡ need c d
   unfolding leastCosts
   costs-long = length-map-run costAt 0 (need c d)
 
-  costs-entry : (p : ℕ) → p < need c d → getD (leastCosts (graph c) (automaton c d)) p 0 ≡ costAt p
+  pub costs-entry : (p : ℕ) → p < need c d → getD (leastCosts (graph c) (automaton c d)) p 0 ≡ costAt p
   unfolding leastCosts
   costs-entry p h = getD-map-upto costAt (need c d) p 0 h
 

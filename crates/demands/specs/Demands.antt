@@ -1,6 +1,7 @@
 -- The three demands on both searches, for every pair of files, sound or broken, and for lent slices of every length. Read it from top to bottom.
 -- Of the definitions it uses what the readers give (`readChart`, `readDiagram`), legal plans and their cost (`Legal`, `wayCost`), the node at which a way
--- stands (`stands`), `advance`, `finish` and `estimate`. `Demanded` proves it from what the calls promise (`SweepCall`, `GuidedCall`).
+-- stands (`stands`), `advance`, `finish` and `estimate`. `Demanded` proves it from what the calls promise (`SweepCall`, `GuidedCall`),
+-- and `Converse` these from it.
 -- Assumes nothing.
 use Prim.Native.Nat.{ℕ, suc, _+_, _-_, _*_, _/_, _%_, _≤_, _<_}
 use mathlib.Core.Path.{_≡_}

@@ -7,3 +7,8 @@ pub mod Results
 pub mod Agreed
 pub mod Settled
 pub mod Demanded
+pub mod ConverseCall
+pub mod ConverseSweep
+pub mod ConverseLog
+pub mod Converse
+pub mod Concluded

@@ -111,3 +111,14 @@ module _ (c : Chart) (d : Diagram) (v : Valid (graph c)) where
     reached = is-reached p (f .before) (f .least-before);
     least = is-reached q (f .before + graph c .cost (f .step)) (f .least);
   }
+
+  pub next-is : (p q : ℕ) → Follows c d p q → promises.Follows (graph c) (automaton c d) (estimate c d) p q
+  next-is p q f = record {
+    step = f .step;
+    exists = f .exists;
+    leaves = f .leaves;
+    enters = f .enters;
+    before = f .cost;
+    least-before = reached-is p (f .cost) (f .reached);
+    least = reached-is q (f .cost + graph c .cost (f .step)) (f .least);
+  }
