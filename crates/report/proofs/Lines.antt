@@ -12,19 +12,19 @@ use lib.Seq.{take-suc, take-all}
 use Rattle.definitions.specs.Basics.{each}
 use Rattle.definitions.specs.declared.Answer.{Answer}
 use Rattle.theory.specs.Basics.{pick-true, pick-false}
-use Rattle.report.specs.Appending.{Appended}
+use Rattle.buffer.specs.Appending.{Appended}
+use Rattle.buffer.specs.Appends.{append-none, append-both, append-long, append-inside}
 use Rattle.report.specs.Text.{decimal, costWord, stepWord, settledWord, reachedWord, refusedWord, fileWord, placeWord, lineEnd}
 use Rattle.report.specs.Text.{item, lastItem, stepLines, planText, refusedText, report}
-use Rattle.report.proofs.Appends.{append-none, append-both, append-long, append-inside}
 
 module _ {out o o′ : List ℕ} {at r r′ : ℕ} (h : at ≤ length out) where
   pub item-written : (word : List ℕ) (n : ℕ) → Appended out at word o r → Appended o r (decimal n) o′ r′ → Appended out at (item word n) o′ r′
   unfolding item
-  item-written word n p q = append-both out at word (decimal n) o o′ r r′ h p q
+  item-written word n p q = append-both h p q
 
   pub last-item-written : (word : List ℕ) (n : ℕ) → Appended out at (item word n) o r → Appended o r lineEnd o′ r′ → Appended out at (lastItem word n) o′ r′
   unfolding lastItem
-  last-item-written word n p q = append-both out at (item word n) lineEnd o o′ r r′ h p q
+  last-item-written word n p q = append-both h p q
 
 -- ---- the lines of the steps
 
@@ -48,9 +48,9 @@ module _ {out plan now : List ℕ} {at end i : ℕ} (h : at ≤ length out) (t :
       let e : stepLines (take i plan) ++ line ≡ stepLines (take (i + 1) plan) =
       sym (each-snoc (lastItem stepWord) (take i plan) (getD plan i 0)) ∙ ap stepLines (sym (take-suc plan i 0 l) ∙ ap (λ (k : ℕ). take k plan) (sym (add-one i))) in
       record {
-        written = subst (λ (z : List ℕ). Appended out at z o r) e (append-both out at (stepLines (take i plan)) line now o end r h (t .written) p);
-        inside = append-inside now end line o r (t .inside) p;
-        long = append-long now end line o r (t .inside) p ∙ t .long;
+        written = subst (λ (z : List ℕ). Appended out at z o r) e (append-both h (t .written) p);
+        inside = append-inside (t .inside) p;
+        long = append-long (t .inside) p ∙ t .long;
       }
 
   pub steps-written : (count steps : ℕ) → steps ≡ min count (length plan) → i ≤ steps → steps ≤ i → Appended out at (stepLines (take count plan)) now end
@@ -69,8 +69,7 @@ module _ {out a b c : List ℕ} {r s t : ℕ} where
   unfolding refusedText
   refused-written number file place p q w =
       let h : 0 ≤ length out = omega arith in
-      append-both out 0 (item refusedWord number) (item fileWord file ++ lastItem placeWord place) a c r t h p
-      (append-both a r (item fileWord file) (lastItem placeWord place) b c s t (append-inside out 0 (item refusedWord number) a r h p) q w)
+      append-both h p (append-both (append-inside h p) q w)
 
   pub plan-written : {d : List ℕ} {u : ℕ} (cost settled reached : ℕ) (steps : List ℕ)
       → Appended out 0 (lastItem costWord cost) a r → Appended a r (stepLines steps) b s
@@ -79,11 +78,8 @@ module _ {out a b c : List ℕ} {r s t : ℕ} where
   unfolding planText
   plan-written {d} {u} cost settled reached steps p q w z =
       let h : 0 ≤ length out = omega arith in
-      let first = append-inside out 0 (lastItem costWord cost) a r h p in
-      let second = append-inside a r (stepLines steps) b s first q in
-      append-both out 0 (lastItem costWord cost) (stepLines steps ++ (item settledWord settled ++ lastItem reachedWord reached)) a d r u h p
-      (append-both a r (stepLines steps) (item settledWord settled ++ lastItem reachedWord reached) b d s u first q
-      (append-both b s (item settledWord settled) (lastItem reachedWord reached) c d t u second w z))
+      let first = append-inside h p in
+      append-both h p (append-both first q (append-both (append-inside first q) w z))
 
 module _ {out o : List ℕ} {r : ℕ} (guided : Answer) (plan : List ℕ) (sweep : Answer) where
   pub report-plan : guided .number ≡ 0 → Appended out 0 (planText (guided .cost) (take (guided .length) plan) (guided .count) (sweep .count)) o r

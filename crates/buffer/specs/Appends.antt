@@ -1,35 +1,16 @@
--- Laws of `Appended`: one copy appends its bytes, and two parts written one behind the other append the joined bytes.
+-- Laws of `Appended`: no part, one byte, and two parts written one behind the other, which append the joined bytes.
 -- Assumes nothing.
 use Prim.Native.Nat.{ℕ, _+_, _-_, _≤_, _<_, min}
 use mathlib.Core.Path.{_≡_, sym, _∙_, ap, ap₂}
-use mathlib.Core.List.{List, [], _++_, append-assoc, append-nil}
+use mathlib.Core.List.{List, [], _∷_, _++_, append-assoc, append-nil}
 use native.Mathlib.Omega.{arith}
 use native.Mathlib.Decide.{decLt}
 use native.Mathlib.Numerals.{add-one}
-use lib.ListN.{length, getD, take, drop, set, length-append, take-append-drop}
-use lib.Seq.{take-nil, take-all, paste, paste-suc, length-paste, take-paste, drop-paste, drop-drop, take-append-le, take-append-add}
-use Rattle.report.specs.Appending.{Appended}
+use lib.ListN.{length, take, drop, set, length-append, take-append-drop}
+use lib.Seq.{take-nil, take-all, paste, length-paste, take-paste, drop-paste, drop-drop, take-append-le, take-append-add, append-snoc, set-split}
+use Rattle.buffer.specs.Appending.{Appended}
 
--- ---- the loop that copies: after i turns the buffer is `paste out at bytes i`
-
-pub copy-more : (out : List ℕ) (at : ℕ) (bytes now : List ℕ) (i count : ℕ)
-    → at ≤ length out → count ≡ min (length bytes) (length out - at) → i < count → now ≡ paste out at bytes i
-    → set now (at + i) (getD bytes i 0) ≡ paste out at bytes (i + 1)
-copy-more out at bytes now i count h e l p =
-    ap (λ (z : List ℕ). set z (at + i) (getD bytes i 0)) p
-    ∙ paste-suc out at bytes i 0 (omega arith) (omega arith)
-    ∙ ap (paste out at bytes) (sym (add-one i))
-
--- a copy of as many bytes as there is room for
-pub copied : (out : List ℕ) (at : ℕ) (bytes now : List ℕ) (i count : ℕ)
-    → count ≡ min (length bytes) (length out - at) → i ≤ count → count ≤ i → now ≡ paste out at bytes i
-    → Appended out at bytes now (at + count)
-copied out at bytes now i count e l g p =
-    let a : i ≡ at + count - at = omega arith in
-    let b : at + i ≡ at + count = omega arith in
-    record { end = ap (λ (k : ℕ). at + k) e; held = p ∙ ap₂ (λ (n m : ℕ). take at out ++ take n bytes ++ drop m out) a b }
-
--- ---- no part, and two parts
+-- ---- no part, one byte, and two parts
 
 pub append-none : (out : List ℕ) (at : ℕ) → Appended out at [] out at
 append-none out at = record {
@@ -37,7 +18,18 @@ append-none out at = record {
   held = sym (ap (λ (z : List ℕ). take at out ++ z ++ drop at out) (take-nil (at - at)) ∙ ap (λ (z : List ℕ). z ++ drop at out) (append-nil (take at out)) ∙ take-append-drop at out);
 }
 
-module _ (out : List ℕ) (at : ℕ) (x o : List ℕ) (r : ℕ) (h : at ≤ length out) (p : Appended out at x o r) where
+-- one store
+pub append-byte : (out : List ℕ) (at x : ℕ) → at < length out → Appended out at (x ∷ []) (set out at x) (at + 1)
+append-byte out at x h =
+    let a : at + 1 - at ≡ 1 = omega arith in
+    record {
+      end = omega arith;
+      held =
+          set-split out at x h ∙ ap (λ (i : ℕ). take at out ++ x ∷ drop i out) (sym (add-one at)) ∙ sym (append-snoc (take at out) x (drop (at + 1) out))
+          ∙ ap (λ (k : ℕ). take at out ++ take k (x ∷ []) ++ drop (at + 1) out) (sym a);
+    }
+
+module _ {out : List ℕ} {at : ℕ} {x o : List ℕ} {r : ℕ} (h : at ≤ length out) (p : Appended out at x o r) where
   pasted : o ≡ paste out at x (r - at)
   pasted =
       let a : r ≡ at + (r - at) = omega (arith, p .end) in
@@ -94,13 +86,13 @@ module _ (x y size at r r′ : ℕ) (h : at ≤ size) (p : r ≡ at + min x (siz
 counts-both : (at r r′ : ℕ) → (at ≤ r) × (r ≤ r′) → r - at + (r′ - r) ≡ r′ - at
 counts-both at r r′ (h, g) = omega arith
 
-pub append-both : (out : List ℕ) (at : ℕ) (x y o o′ : List ℕ) (r r′ : ℕ)
+pub append-both : {out : List ℕ} {at : ℕ} {x y o o′ : List ℕ} {r r′ : ℕ}
     → at ≤ length out → Appended out at x o r → Appended o r y o′ r′ → Appended out at (x ++ y) o′ r′
-append-both out at x y o o′ r r′ h p q =
-    let e : r′ ≡ r + min (length y) (length out - r) = q .end ∙ ap (λ (k : ℕ). r + min (length y) (k - r)) (append-long out at x o r h p) in
+append-both {out} {at} {x} {y} {o} {o′} {r} {r′} h p q =
+    let e : r′ ≡ r + min (length y) (length out - r) = q .end ∙ ap (λ (k : ℕ). r + min (length y) (k - r)) (append-long h p) in
     let a = steps-on (length x) (length y) (length out) at r r′ h (p .end) e in
     let b = counts-both at r r′ (rises (length x) (length y) (length out) at r r′ h (p .end) e) in
-    let rest : drop r′ o ≡ drop r′ out = ap (λ (k : ℕ). drop k o) (sym a) ∙ further out at x o r h p (r′ - r) ∙ ap (λ (k : ℕ). drop k out) a in
+    let rest : drop r′ o ≡ drop r′ out = ap (λ (k : ℕ). drop k o) (sym a) ∙ further h p (r′ - r) ∙ ap (λ (k : ℕ). drop k out) a in
     let both : take (r′ - at) (x ++ y) ≡ take (r - at) x ++ take (r′ - r) y =
     ap (λ (k : ℕ). take k (x ++ y)) (sym b)
     ∙ take-joined (r - at) (r′ - r) x y (fits-first (length x) (length y) (length out) at r r′ h (p .end) e)
@@ -109,6 +101,18 @@ append-both out at x y o o′ r r′ h p q =
       end = end-both (length x) (length y) (length out) at r r′ h (p .end) e ∙ ap (λ (k : ℕ). at + min k (length out - at)) (sym (length-append x y));
       held =
           q .held
-          ∙ ap₂ (λ (s t : List ℕ). s ++ take (r′ - r) y ++ t) (front out at x o r h p) rest
+          ∙ ap₂ (λ (s t : List ℕ). s ++ take (r′ - r) y ++ t) (front h p) rest
           ∙ ap (λ (z : List ℕ). z ++ drop r′ out) (append-assoc (take at out) (take (r - at) x) (take (r′ - r) y) ∙ ap (λ (z : List ℕ). take at out ++ z) (sym both));
     }
+
+-- ---- where all the bytes have room
+
+pub append-whole : {out bytes out′ : List ℕ} {at r : ℕ} → at + length bytes ≤ length out → Appended out at bytes out′ r → r ≡ at + length bytes
+append-whole h p = omega (arith, p .end)
+
+-- from the buffer's front on
+pub append-front : {out bytes out′ : List ℕ} {r : ℕ} → length bytes ≤ length out → Appended out 0 bytes out′ r → out′ ≡ bytes ++ drop (length bytes) out
+append-front {out} {bytes} {out′} {r} h p =
+    let e : r ≡ length bytes = omega (arith, p .end) in
+    let f : length bytes ≤ length bytes - 0 = omega arith in
+    p .held ∙ ap (λ (i : ℕ). take 0 out ++ take (i - 0) bytes ++ drop i out) e ∙ ap (λ (l : List ℕ). take 0 out ++ l ++ drop (length bytes) out) (take-all (length bytes - 0) bytes f)

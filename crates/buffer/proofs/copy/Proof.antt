@@ -1,14 +1,14 @@
--- `report::copy` meets its contract.
+-- `buffer::copy` meets its contract.
 use Prim.Native.Nat.{_-_, _≤_}
 use mathlib.Core.Path.{_≡_, refl}
 use borrow.Author.Needs.{needs}
 use lib.ListN.{length}
 use lib.Seq.{paste, paste-zero}
-use Rattle.report.proofs.Appends.{copy-more, copied}
-use Rattle.report.proofs.copy.Statement.{statement}
-use Rattle.report.proofs.copy.Tie as tie
-use Rattle.report.proofs.copy.Reads as reads
-use Rattle.report.proofs.copy.Lts as lts
+use Rattle.buffer.proofs.Copies.{copy-more, copied}
+use Rattle.buffer.proofs.copy.Statement.{statement}
+use Rattle.buffer.proofs.copy.Tie as tie
+use Rattle.buffer.proofs.copy.Reads as reads
+use Rattle.buffer.proofs.copy.Lts as lts
 use Rattle.convert.proofs.lesser.Reads as lesser-reads
 
 abbrev Inv-loop : tie.InvT-loop
