@@ -14,6 +14,7 @@ use Rattle.definitions.specs.declared.Answer.{Answer}
 use Rattle.theory.specs.Basics.{pick-true, pick-false}
 use Rattle.buffer.specs.Appending.{Appended}
 use Rattle.buffer.specs.Appends.{append-none, append-both, append-long, append-inside}
+use Rattle.buffer.specs.Members.{append-next}
 use Rattle.report.specs.Text.{decimal, costWord, stepWord, settledWord, reachedWord, refusedWord, fileWord, placeWord, lineEnd}
 use Rattle.report.specs.Text.{item, lastItem, stepLines, planText, refusedText, report}
 
@@ -28,10 +29,6 @@ module _ {out o o′ : List ℕ} {at r r′ : ℕ} (h : at ≤ length out) where
 
 -- ---- the lines of the steps
 
-each-snoc : (f : ℕ → List ℕ) (xs : List ℕ) (x : ℕ) → each f (xs ++ (x ∷ [])) ≡ each f xs ++ f x
-each-snoc f [] x = append-nil (f x)
-each-snoc f (y ∷ xs) x = ap (λ (z : List ℕ). f y ++ z) (each-snoc f xs x) ∙ sym (append-assoc (f y) (each f xs) (f x))
-
 -- the lines of the first i steps are written
 pub record Stepped (out : List ℕ) (at : ℕ) (plan now : List ℕ) (end i : ℕ) : Type 0 where
   pub written : Appended out at (stepLines (take i plan)) now end
@@ -43,15 +40,11 @@ steps-none out at plan h = record { written = append-none out at; inside = h; lo
 
 module _ {out plan now : List ℕ} {at end i : ℕ} (h : at ≤ length out) (t : Stepped out at plan now end i) where
   pub steps-more : {o : List ℕ} {r : ℕ} → i < length plan → Appended now end (lastItem stepWord (getD plan i 0)) o r → Stepped out at plan o r (i + 1)
-  steps-more {o} {r} l p =
-      let line : List ℕ = lastItem stepWord (getD plan i 0) in
-      let e : stepLines (take i plan) ++ line ≡ stepLines (take (i + 1) plan) =
-      sym (each-snoc (lastItem stepWord) (take i plan) (getD plan i 0)) ∙ ap stepLines (sym (take-suc plan i 0 l) ∙ ap (λ (k : ℕ). take k plan) (sym (add-one i))) in
-      record {
-        written = subst (λ (z : List ℕ). Appended out at z o r) e (append-both h (t .written) p);
-        inside = append-inside (t .inside) p;
-        long = append-long (t .inside) p ∙ t .long;
-      }
+  steps-more l p = record {
+    written = append-next (lastItem stepWord) plan i 0 h l (t .written) p;
+    inside = append-inside (t .inside) p;
+    long = append-long (t .inside) p ∙ t .long;
+  }
 
   pub steps-written : (count steps : ℕ) → steps ≡ min count (length plan) → i ≤ steps → steps ≤ i → Appended out at (stepLines (take count plan)) now end
   steps-written count steps e l g = subst (λ (z : List ℕ). Appended out at (stepLines z) now end) (go (decLt count (length plan))) (t .written)

@@ -1,21 +1,17 @@
 -- `planner_c::planner_both` meets its contract.
-use mathlib.Core.Path.{refl}
 use borrow.Author.Needs.{needs}
 use Rattle.planner_c.proofs.planner_both.Statement.{statement}
 use Rattle.planner_c.proofs.planner_both.Tie as tie
 use Rattle.planner_c.proofs.planner_both.Reads as reads
 use Rattle.planner_c.proofs.planner_both.Lts as lts
 use Rattle.planner.proofs.both.Reads as both-reads
-use Rattle.answer_arrays.proofs.store.Reads as store-reads
+use Rattle.answer_arrays.proofs.store_both.Reads as store-both-reads
 
 both-requires : tie.Need-both-requires
 both-requires c κs = search needs
 
-store-requires : tie.Need-store-requires
-store-requires c κs = search needs
-
-store-requires-2 : tie.Need-store-requires-2
-store-requires-2 c κs = search needs
+store-both-requires : tie.Need-store-both-requires
+store-both-requires c κs = search needs
 
 same-length : tie.Need-same-length
 same-length c = search needs
@@ -52,14 +48,14 @@ same-length-11 c = search needs
 
 returns : tie.Need-returns
 returns c =
-    let stored : tie.After-store = search in
     let got : tie.After-both = search in
+    let stored : tie.After-store-both = search in
     record {
       answers = got .both .result;
       kept = got .both .ensures;
-      sweep-held = stored .store .ensures;
-      guided-held = c .store2 .ensures;
-      returned = refl;
+      sweep-held = stored .store-both .ensures .1;
+      guided-held = stored .store-both .ensures .2;
+      returned = stored .store-both .ensures .0;
     }
 
 pub planner-both-spec : {M : Type 1} → statement M
@@ -67,8 +63,7 @@ planner-both-spec =
     tie.close
     (tie.spec
     both-requires
-    store-requires
-    store-requires-2
+    store-both-requires
     same-length
     same-length-2
     same-length-3

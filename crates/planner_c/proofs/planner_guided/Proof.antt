@@ -1,5 +1,4 @@
 -- `planner_c::planner_guided` meets its contract.
-use mathlib.Core.Path.{refl}
 use borrow.Author.Needs.{needs}
 use Rattle.planner_c.proofs.planner_guided.Statement.{statement}
 use Rattle.planner_c.proofs.planner_guided.Tie as tie
@@ -39,7 +38,7 @@ returns : tie.Need-returns
 returns c =
     let stored : tie.After-store = search in
     let found : tie.After-guided = search in
-    record { answer = found .guided .result; kept = found .guided .ensures; held = stored .store .ensures; returned = refl }
+    record { answer = found .guided .result; kept = found .guided .ensures; held = stored .store .ensures .1; returned = stored .store .ensures .0 }
 
 pub planner-guided-spec : {M : Type 1} → statement M
 planner-guided-spec =

@@ -1,11 +1,11 @@
--- `field_writer::write_u16` meets its contract.
-use Rattle.field_writer.specs.Written.{written-both}
+-- `field_bytes::write_u16` meets its contract.
+use Rattle.buffer.specs.Appends.{append-both}
 use borrow.Author.Needs.{needs}
-use Rattle.field_writer.proofs.write_u16.Statement.{statement}
-use Rattle.field_writer.proofs.write_u16.Tie as tie
-use Rattle.field_writer.proofs.write_u16.Reads as reads
-use Rattle.field_writer.proofs.write_u16.Lts as lts
-use Rattle.field_writer.proofs.write_u8.Reads as write-u8-reads
+use Rattle.field_bytes.proofs.write_u16.Statement.{statement}
+use Rattle.field_bytes.proofs.write_u16.Tie as tie
+use Rattle.field_bytes.proofs.write_u16.Reads as reads
+use Rattle.field_bytes.proofs.write_u16.Lts as lts
+use Rattle.field_bytes.proofs.write_u8.Reads as write-u8-reads
 
 cast-write-u8 : tie.Need-cast-write-u8
 cast-write-u8 c = search needs
@@ -26,7 +26,7 @@ returns : tie.Need-returns
 returns c =
     let first : tie.After-write-u8 = search in
     let second : tie.After-write-u82 = search in
-    written-both (first .write-u8 .ensures) (second .write-u82 .ensures)
+    append-both (search needs) (first .write-u8 .ensures) (second .write-u82 .ensures)
 
 pub write-u16-spec : {M : Type 1} → statement M
 write-u16-spec =

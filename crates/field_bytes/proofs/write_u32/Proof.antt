@@ -1,11 +1,11 @@
--- `field_writer::write_u32` meets its contract.
-use Rattle.field_writer.specs.Written.{written-both}
+-- `field_bytes::write_u32` meets its contract.
+use Rattle.buffer.specs.Appends.{append-both}
 use borrow.Author.Needs.{needs}
-use Rattle.field_writer.proofs.write_u32.Statement.{statement}
-use Rattle.field_writer.proofs.write_u32.Tie as tie
-use Rattle.field_writer.proofs.write_u32.Reads as reads
-use Rattle.field_writer.proofs.write_u32.Lts as lts
-use Rattle.field_writer.proofs.write_u16.Reads as write-u16-reads
+use Rattle.field_bytes.proofs.write_u32.Statement.{statement}
+use Rattle.field_bytes.proofs.write_u32.Tie as tie
+use Rattle.field_bytes.proofs.write_u32.Reads as reads
+use Rattle.field_bytes.proofs.write_u32.Lts as lts
+use Rattle.field_bytes.proofs.write_u16.Reads as write-u16-reads
 
 cast-write-u16 : tie.Need-cast-write-u16
 cast-write-u16 c = search needs
@@ -26,7 +26,7 @@ returns : tie.Need-returns
 returns c =
     let first : tie.After-write-u16 = search in
     let second : tie.After-write-u162 = search in
-    written-both (first .write-u16 .ensures) (second .write-u162 .ensures)
+    append-both (search needs) (first .write-u16 .ensures) (second .write-u162 .ensures)
 
 pub write-u32-spec : {M : Type 1} → statement M
 write-u32-spec =
