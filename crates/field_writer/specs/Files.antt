@@ -12,7 +12,8 @@ use Rattle.definitions.specs.Answers.{refusal, accepted}
 use Rattle.definitions.specs.Basics.{pick}
 use Rattle.definitions.specs.declared.Answer.{Answer}
 use Rattle.theory.specs.Basics.{pick-true, pick-false, either, lt-or-le}
-use Rattle.field_writer.specs.Written.{Written, written-front}
+use Rattle.buffer.specs.Appending.{Appended}
+use Rattle.buffer.specs.Appends.{append-front}
 
 -- the length is the file's bytes; a buffer of fewer is 7
 unfoldable pub fileAnswer : ℕ → ℕ → Answer
@@ -45,12 +46,11 @@ module _ (file out : List ℕ) (r : Answer) (bytes : ℕ) (long : length file �
   unfolding fileBuffer
   filed-short h = record { answer = answer-is; buffer = sym (pick-true _ _ _ (lt-ltb (length out) (length file) (omega arith))) }
 
-  pub filed-whole : (out′ : List ℕ) (end : ℕ) → Written out 0 file out′ end → Filed file out out′ r
+  pub filed-whole : bytes ≤ length out → (out′ : List ℕ) (end : ℕ) → Appended out 0 file out′ end → Filed file out out′ r
   unfolding fileBuffer
-  filed-whole out′ end w = record {
-    answer = answer-is;
-    buffer = written-front w ∙ sym (pick-false _ _ _ (le-ltb (length out) (length file) (omega (arith, w .end, w .room))));
-  }
+  filed-whole h out′ end w =
+      let fits : length file ≤ length out = omega arith in
+      record { answer = answer-is; buffer = append-front fits w ∙ sym (pick-false _ _ _ (le-ltb (length out) (length file) fits)) }
 
 -- where such a call is accepted, the file stands in the buffer's first bytes, as many as the answer's length
 pub filed-back : (file out out′ : List ℕ) (r : Answer) → Filed file out out′ r → r .number ≡ 0 → take (r .length) out′ ≡ file

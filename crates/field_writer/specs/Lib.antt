@@ -1,5 +1,3 @@
-pub mod Written
-pub mod Members
 pub mod Files
 pub mod Scanned
 pub mod RoundTrip

@@ -8,10 +8,12 @@ ghost use Rattle.definitions.specs.Answers.{readFiles};
 ghost use Rattle.definitions.specs.Promises.{sweepSlices, SweepCall, guidedSlices, GuidedCall};
 ghost use Rattle.space.specs.Space.{spaceNeeded};
 ghost use Rattle.planner.specs.Both.{BothCall};
-ghost use Rattle.report.specs.Appending.{Appended};
+ghost use Rattle.buffer.specs.Appending.{Appended};
 ghost use Rattle.answer_arrays.specs.Numbers.{spaceNumbers};
 ghost use Rattle.planner_c.specs.Exports.{Given, BothGiven};
 use answer_arrays::store;
+use answer_arrays::store_both;
+use answer_arrays::store_field;
 use answer_arrays::store_space;
 
 // How much space the searches need for two files: the number, file and place of a refusal, or 0; then the entries that
@@ -24,8 +26,7 @@ pub extern "C" fn planner_space_needed(chart: &[u8], rules: &[u8], space: &mut [
         ⌝ }
 {
     let s = space::space_needed(chart, rules);
-    store_space(s, space);
-    s.number
+    store_space(s, space)
 }
 
 // The sweep.
@@ -46,8 +47,7 @@ pub extern "C" fn planner_sweep(
         ⌝ }
 {
     let swept = sweep::sweep(chart, rules, cost, via, nodes, plan);
-    store(swept, answer);
-    swept.number
+    store(swept, answer)
 }
 
 // The guided search.
@@ -75,8 +75,7 @@ pub extern "C" fn planner_guided(
         ⌝ }
 {
     let found = guided::guided(chart, rules, keys, via, heap, pos, stack, log, plan);
-    store(found, answer);
-    found.number
+    store(found, answer)
 }
 
 // Both searches, on the slices of each. The number returned is the guided search's.
@@ -126,11 +125,7 @@ pub extern "C" fn planner_both(
         log,
         plan,
     );
-    let s = answers.sweep;
-    let g = answers.guided;
-    store(s, sweep_answer);
-    store(g, guided_answer);
-    g.number
+    store_both(answers.sweep, answers.guided, sweep_answer, guided_answer)
 }
 
 // The bytes of the field at a place of the chart (file 1) or of the diagram (file 2), copied to the front of `field` as
@@ -150,6 +145,5 @@ pub extern "C" fn planner_refused_field<'a>(
         ⌝ }
 {
     let bytes = fields::refused_field(chart, rules, file, place);
-    report::copy(field, 0, bytes);
-    bytes.len()
+    store_field(bytes, field)
 }

@@ -9,7 +9,7 @@ use borrow.Author.Tests.{lt-ltb, le-ltb}
 use lib.Dec.{ltb}
 use lib.ListN.{length, take, drop, set, replicate, length-set, length-drop}
 use lib.Seq.{drop-cons, drop-set-lt, getD-set-same, take-all}
-use Rattle.report.specs.Appending.{Appended}
+use Rattle.buffer.specs.Appending.{Appended}
 use Rattle.report.specs.Text.{digit, digitsIn, decimal}
 use Rattle.theory.specs.Basics.{pick-true, pick-false}
 

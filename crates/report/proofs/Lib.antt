@@ -1,3 +1,2 @@
-mod Appends
 mod Decimals
 mod Lines

@@ -12,25 +12,22 @@ use lib.Seq.{take-suc, take-all}
 use Rattle.definitions.specs.Basics.{each}
 use Rattle.definitions.specs.declared.Answer.{Answer}
 use Rattle.theory.specs.Basics.{pick-true, pick-false}
-use Rattle.report.specs.Appending.{Appended}
+use Rattle.buffer.specs.Appending.{Appended}
+use Rattle.buffer.specs.Appends.{append-none, append-both, append-long, append-inside}
+use Rattle.buffer.specs.Members.{append-next}
 use Rattle.report.specs.Text.{decimal, costWord, stepWord, settledWord, reachedWord, refusedWord, fileWord, placeWord, lineEnd}
 use Rattle.report.specs.Text.{item, lastItem, stepLines, planText, refusedText, report}
-use Rattle.report.proofs.Appends.{append-none, append-both, append-long, append-inside}
 
 module _ {out o o′ : List ℕ} {at r r′ : ℕ} (h : at ≤ length out) where
   pub item-written : (word : List ℕ) (n : ℕ) → Appended out at word o r → Appended o r (decimal n) o′ r′ → Appended out at (item word n) o′ r′
   unfolding item
-  item-written word n p q = append-both out at word (decimal n) o o′ r r′ h p q
+  item-written word n p q = append-both h p q
 
   pub last-item-written : (word : List ℕ) (n : ℕ) → Appended out at (item word n) o r → Appended o r lineEnd o′ r′ → Appended out at (lastItem word n) o′ r′
   unfolding lastItem
-  last-item-written word n p q = append-both out at (item word n) lineEnd o o′ r r′ h p q
+  last-item-written word n p q = append-both h p q
 
 -- ---- the lines of the steps
-
-each-snoc : (f : ℕ → List ℕ) (xs : List ℕ) (x : ℕ) → each f (xs ++ (x ∷ [])) ≡ each f xs ++ f x
-each-snoc f [] x = append-nil (f x)
-each-snoc f (y ∷ xs) x = ap (λ (z : List ℕ). f y ++ z) (each-snoc f xs x) ∙ sym (append-assoc (f y) (each f xs) (f x))
 
 -- the lines of the first i steps are written
 pub record Stepped (out : List ℕ) (at : ℕ) (plan now : List ℕ) (end i : ℕ) : Type 0 where
@@ -43,15 +40,11 @@ steps-none out at plan h = record { written = append-none out at; inside = h; lo
 
 module _ {out plan now : List ℕ} {at end i : ℕ} (h : at ≤ length out) (t : Stepped out at plan now end i) where
   pub steps-more : {o : List ℕ} {r : ℕ} → i < length plan → Appended now end (lastItem stepWord (getD plan i 0)) o r → Stepped out at plan o r (i + 1)
-  steps-more {o} {r} l p =
-      let line : List ℕ = lastItem stepWord (getD plan i 0) in
-      let e : stepLines (take i plan) ++ line ≡ stepLines (take (i + 1) plan) =
-      sym (each-snoc (lastItem stepWord) (take i plan) (getD plan i 0)) ∙ ap stepLines (sym (take-suc plan i 0 l) ∙ ap (λ (k : ℕ). take k plan) (sym (add-one i))) in
-      record {
-        written = subst (λ (z : List ℕ). Appended out at z o r) e (append-both out at (stepLines (take i plan)) line now o end r h (t .written) p);
-        inside = append-inside now end line o r (t .inside) p;
-        long = append-long now end line o r (t .inside) p ∙ t .long;
-      }
+  steps-more l p = record {
+    written = append-next (lastItem stepWord) plan i 0 h l (t .written) p;
+    inside = append-inside (t .inside) p;
+    long = append-long (t .inside) p ∙ t .long;
+  }
 
   pub steps-written : (count steps : ℕ) → steps ≡ min count (length plan) → i ≤ steps → steps ≤ i → Appended out at (stepLines (take count plan)) now end
   steps-written count steps e l g = subst (λ (z : List ℕ). Appended out at (stepLines z) now end) (go (decLt count (length plan))) (t .written)
@@ -69,8 +62,7 @@ module _ {out a b c : List ℕ} {r s t : ℕ} where
   unfolding refusedText
   refused-written number file place p q w =
       let h : 0 ≤ length out = omega arith in
-      append-both out 0 (item refusedWord number) (item fileWord file ++ lastItem placeWord place) a c r t h p
-      (append-both a r (item fileWord file) (lastItem placeWord place) b c s t (append-inside out 0 (item refusedWord number) a r h p) q w)
+      append-both h p (append-both (append-inside h p) q w)
 
   pub plan-written : {d : List ℕ} {u : ℕ} (cost settled reached : ℕ) (steps : List ℕ)
       → Appended out 0 (lastItem costWord cost) a r → Appended a r (stepLines steps) b s
@@ -79,11 +71,8 @@ module _ {out a b c : List ℕ} {r s t : ℕ} where
   unfolding planText
   plan-written {d} {u} cost settled reached steps p q w z =
       let h : 0 ≤ length out = omega arith in
-      let first = append-inside out 0 (lastItem costWord cost) a r h p in
-      let second = append-inside a r (stepLines steps) b s first q in
-      append-both out 0 (lastItem costWord cost) (stepLines steps ++ (item settledWord settled ++ lastItem reachedWord reached)) a d r u h p
-      (append-both a r (stepLines steps) (item settledWord settled ++ lastItem reachedWord reached) b d s u first q
-      (append-both b s (item settledWord settled) (lastItem reachedWord reached) c d t u second w z))
+      let first = append-inside h p in
+      append-both h p (append-both first q (append-both (append-inside first q) w z))
 
 module _ {out o : List ℕ} {r : ℕ} (guided : Answer) (plan : List ℕ) (sweep : Answer) where
   pub report-plan : guided .number ≡ 0 → Appended out 0 (planText (guided .cost) (take (guided .length) plan) (guided .count) (sweep .count)) o r

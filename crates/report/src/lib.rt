@@ -2,23 +2,10 @@
 ghost use Prim.Native.Nat.{_≤_};
 ghost use lib.ListN.{length, take};
 ghost use Rattle.report.specs.Text.{decimal, item, lastItem, stepWord, stepLines, planText, refusedText, report};
-ghost use Rattle.report.specs.Appending.{Appended};
+ghost use Rattle.buffer.specs.Appending.{Appended};
+use buffer::copy;
 use convert::lesser;
 use definitions::Answer;
-
-// Copies bytes into the buffer from the place `at` on, and returns the place behind them.
-pub fn copy(out: &mut [u8], at: usize, bytes: &[u8]) -> usize
-    requires { ⌜ at ≤ length (now out) ⌝ }
-    ensures { λ r. ⌜ Appended (now (out .entry)) at (now (bytes .entry)) (now (out .exit)) r ⌝ }
-{
-    let count = lesser(bytes.len(), out.len() - at);
-    let mut i: usize = 0;
-    while i < count {
-        out[at + i] = bytes[i];
-        i += 1;
-    }
-    at + count
-}
 
 // Writes a number's decimal digits.
 fn write_number(out: &mut [u8], at: usize, n: usize) -> usize

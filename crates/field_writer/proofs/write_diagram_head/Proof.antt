@@ -1,12 +1,12 @@
 -- `field_writer::write_diagram_head` meets its contract.
-use Rattle.field_writer.specs.Written.{written-both}
+use Rattle.buffer.specs.Appends.{append-both}
 use borrow.Author.Needs.{needs}
 use Rattle.field_writer.proofs.write_diagram_head.Statement.{statement}
 use Rattle.field_writer.proofs.write_diagram_head.Tie as tie
 use Rattle.field_writer.proofs.write_diagram_head.Reads as reads
 use Rattle.field_writer.proofs.write_diagram_head.Lts as lts
-use Rattle.field_writer.proofs.write_header.Reads as write-header-reads
-use Rattle.field_writer.proofs.write_u16.Reads as write-u16-reads
+use Rattle.field_bytes.proofs.write_header.Reads as write-header-reads
+use Rattle.field_bytes.proofs.write_u16.Reads as write-u16-reads
 
 write-header-requires : tie.Need-write-header-requires
 write-header-requires c κs = search needs
@@ -21,7 +21,7 @@ returns : tie.Need-returns
 returns c =
     let first : tie.After-write-header = search in
     let second : tie.After-write-u16 = search in
-    written-both (first .write-header .ensures) (second .write-u16 .ensures)
+    append-both (search needs) (first .write-header .ensures) (second .write-u16 .ensures)
 
 pub write-diagram-head-spec : {M : Type 1} → statement M
 write-diagram-head-spec =

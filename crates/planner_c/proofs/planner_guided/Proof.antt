@@ -1,6 +1,4 @@
 -- `planner_c::planner_guided` meets its contract.
-use mathlib.Core.Path.{refl}
-use borrow.Author.Needs.{needs}
 use Rattle.planner_c.proofs.planner_guided.Statement.{statement}
 use Rattle.planner_c.proofs.planner_guided.Tie as tie
 use Rattle.planner_c.proofs.planner_guided.Reads as reads
@@ -9,37 +7,38 @@ use Rattle.guided.proofs.guided.Reads as guided-reads
 use Rattle.answer_arrays.proofs.store.Reads as store-reads
 
 guided-requires : tie.Need-guided-requires
-guided-requires c κs = search needs
+guided-requires c κs = tt
 
 store-requires : tie.Need-store-requires
-store-requires c κs = search needs
+store-requires c κs = tt
+
+-- each slice comes back as long as it was lent
+abbrev found : tie.After-store → tie.After-guided
+found c = search
 
 same-length : tie.Need-same-length
-same-length c = search needs
+same-length c = found c .guided .kept .1 .1 .0
 
 same-length-2 : tie.Need-same-length-2
-same-length-2 c = search needs
+same-length-2 c = found c .guided .kept .1 .1 .1 .0
 
 same-length-3 : tie.Need-same-length-3
-same-length-3 c = search needs
+same-length-3 c = found c .guided .kept .1 .1 .1 .1 .0
 
 same-length-4 : tie.Need-same-length-4
-same-length-4 c = search needs
+same-length-4 c = found c .guided .kept .1 .1 .1 .1 .1 .0
 
 same-length-5 : tie.Need-same-length-5
-same-length-5 c = search needs
+same-length-5 c = found c .guided .kept .1 .1 .1 .1 .1 .1 .0
 
 same-length-6 : tie.Need-same-length-6
-same-length-6 c = search needs
+same-length-6 c = found c .guided .kept .1 .1 .1 .1 .1 .1 .1 .0
 
 same-length-7 : tie.Need-same-length-7
-same-length-7 c = search needs
+same-length-7 c = found c .guided .kept .1 .1 .1 .1 .1 .1 .1 .1 .0
 
 returns : tie.Need-returns
-returns c =
-    let stored : tie.After-store = search in
-    let found : tie.After-guided = search in
-    record { answer = found .guided .result; kept = found .guided .ensures; held = stored .store .ensures; returned = refl }
+returns c = record { answer = found c .guided .result; kept = found c .guided .ensures; held = c .store .ensures .1; returned = c .store .ensures .0 }
 
 pub planner-guided-spec : {M : Type 1} → statement M
 planner-guided-spec =

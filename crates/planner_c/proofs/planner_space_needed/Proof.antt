@@ -20,7 +20,7 @@ returns : tie.Need-returns
 returns c =
     let stored : tie.After-store-space = search in
     let got : tie.After-space-needed = search in
-    (ap (λ (s : Space). s .number) (got .space-needed .ensures), stored .store-space .ensures ∙ ap spaceNumbers (got .space-needed .ensures))
+    (stored .store-space .ensures .0 ∙ ap (λ (s : Space). s .number) (got .space-needed .ensures), stored .store-space .ensures .1 ∙ ap spaceNumbers (got .space-needed .ensures))
 
 pub planner-space-needed-spec : {M : Type 1} → statement M
 planner-space-needed-spec = tie.close (tie.spec space-needed-requires store-space-requires returns)

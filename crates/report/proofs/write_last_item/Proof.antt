@@ -5,7 +5,7 @@ use Rattle.report.proofs.write_last_item.Statement.{statement}
 use Rattle.report.proofs.write_last_item.Tie as tie
 use Rattle.report.proofs.write_last_item.Reads as reads
 use Rattle.report.proofs.write_last_item.Lts as lts
-use Rattle.report.proofs.copy.Reads as copy-reads
+use Rattle.buffer.proofs.copy.Reads as copy-reads
 use Rattle.report.proofs.write_item.Reads as write-item-reads
 
 write-item-requires : tie.Need-write-item-requires

@@ -5,7 +5,7 @@ use Rattle.report.proofs.write_number.Statement.{statement}
 use Rattle.report.proofs.write_number.Tie as tie
 use Rattle.report.proofs.write_number.Reads as reads
 use Rattle.report.proofs.write_number.Lts as lts
-use Rattle.report.proofs.copy.Reads as copy-reads
+use Rattle.buffer.proofs.copy.Reads as copy-reads
 
 abbrev Inv-loop : tie.InvT-loop
 Inv-loop out at n digits₀ first₀ left₀ digits first left = Spelled n digits first left
