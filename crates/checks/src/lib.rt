@@ -73,7 +73,7 @@ pub fn load(
     work: usize,
     plan: usize,
     steps: &mut [[u32; 1024]; 3],
-    inner: &mut [[u16; 512]; 3],
+    inner: &mut [u32; 512],
 ) -> Loaded
     requires { ⌜ Room (now steps) (now inner) ⌝ }
     ensures { λ r. ⌜

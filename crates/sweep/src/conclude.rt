@@ -11,7 +11,6 @@ use convert::wide;
 use definitions::Answer;
 use definitions::NONE;
 use definitions::Shape;
-use diagram::LO;
 use nodes::fill_finishing;
 use sweep_ends::cheapest_goal;
 use sweep_ends::total_count;
@@ -26,7 +25,7 @@ pub fn conclude<'a>(
     z: Shape,
     steps: &'a [[u32; 1024]; 3],
     row: &'a [u32; 256],
-    inner: &'a [[u16; 512]; 3],
+    inner: &'a [u32; 512],
     plan: &mut [u16],
 ) -> Answer
     requires { ⌜ Final z (read (now steps) (now inner)) (now row) (rows (now costs) (now via) (now nodes) (now counts)) ⌝ }
@@ -37,7 +36,7 @@ pub fn conclude<'a>(
 {
     let count = total_count(counts, z.stages as usize);
     let mut yes = [false; 512];
-    fill_finishing(&mut yes, &inner[LO], z.nodes);
+    fill_finishing(&mut yes, inner, z.nodes);
     let end = z.end.0 as usize;
     let base = wide(row[end]);
     let listed = wide(counts[end]);

@@ -31,7 +31,7 @@ fn least_costs<'a>(
     steps: &'a [[u32; 1024]; 3],
     first: &'a [u16; 257],
     row: &'a [u32; 256],
-    inner: &'a [[u16; 512]; 3],
+    inner: &'a [u32; 512],
 )
     requires { ⌜ Ready z (walk (read (now steps) (now inner)) (now first) (now row)) ⌝ }
     requires { ⌜ Blank z (rows (now costs) (now via) (now nodes) (now counts)) ⌝ }
@@ -57,7 +57,7 @@ fn run<'a>(
     plan: &mut [u16],
     z: Shape,
     steps: &'a [[u32; 1024]; 3],
-    inner: &'a [[u16; 512]; 3],
+    inner: &'a [u32; 512],
 ) -> Answer
     requires { ⌜ Tables z (read (now steps) (now inner)) ⌝ }
     requires { ⌜ Space z (sweepSlices (now costs) (now via) (now nodes) (now plan)) ⌝ }
@@ -104,7 +104,7 @@ pub fn sweep(
         ⌝ }
 {
     let mut steps = [[0u32; 1024]; 3];
-    let mut inner = [[0u16; 512]; 3];
+    let mut inner = [0u32; 512];
     let work = lesser(lesser(cost.len(), via.len()), nodes.len());
     let got = load(chart, rules, work, plan.len(), &mut steps, &mut inner);
     if got.number != 0 {

@@ -10,9 +10,6 @@ use definitions::Node;
 use definitions::Shape;
 use definitions::Stage;
 use definitions::Step;
-use diagram::HI;
-use diagram::LO;
-use diagram::STEP;
 use nodes::branch;
 use nodes::descend_to;
 use sweep_offers::relax_step;
@@ -31,7 +28,7 @@ fn relax_node<'a>(
     counts: &mut [u32; 256],
     steps: &'a [[u32; 1024]; 3],
     row: &'a [u32; 256],
-    inner: &'a [[u16; 512]; 3],
+    inner: &'a [u32; 512],
     n: Node,
     v: u32,
     leaving: Span,
@@ -53,11 +50,11 @@ fn relax_node<'a>(
     let end = leaving.until.0;
     while next < end {
         let e = Step(next);
-        m = descend_to(&inner[STEP], &inner[LO], e, m);
+        m = descend_to(inner, e, m);
         if m.0 == 0 {
             return;
         }
-        let t = branch(&inner[STEP], &inner[HI], e, m);
+        let t = branch(inner, e, m);
         relax_step(costs, via, nodes, counts, steps, row, e, n, v, t);
         next += 1;
     }
@@ -72,7 +69,7 @@ fn relax_row<'a>(
     steps: &'a [[u32; 1024]; 3],
     first: &'a [u16; 257],
     row: &'a [u32; 256],
-    inner: &'a [[u16; 512]; 3],
+    inner: &'a [u32; 512],
     s: Stage,
 )
     requires { ⌜
@@ -113,7 +110,7 @@ pub fn relax_rows<'a>(
     steps: &'a [[u32; 1024]; 3],
     first: &'a [u16; 257],
     row: &'a [u32; 256],
-    inner: &'a [[u16; 512]; 3],
+    inner: &'a [u32; 512],
 )
     requires { ⌜
         (let on = walk (read (now steps) (now inner)) (now first) (now row) in

@@ -45,7 +45,7 @@ pub fn show_chart(file: &[u8]) {
 
 // A diagram file over a chart of so many steps.
 pub fn show_diagram(file: &[u8], steps: usize) {
-    let mut table = [[0u16; 512]; 3];
+    let mut table = [0u32; 512];
     diagram_answer(diagram::read_diagram(file, steps, &mut table));
 }
 
