@@ -22,18 +22,17 @@ use Rattle.chart.specs.Tables.{Steps}
 use Rattle.checks.specs.Tables.{Tables}
 use Rattle.checks.specs.Ready.{Walk, walk, graphIn, automatonIn, count-is, width-is, few-stages, few-nodes, few-steps, to-at, cost-at}
 use Rattle.guided_model.specs.Bounds.{stage-is, estimate-none, estimate-some}
-use Rattle.guided_model.specs.Moves.{offerable, step-none, step-relaxed}
+use Rattle.guided_model.specs.Moves.{Offerable, offerable, step-none, step-relaxed}
 use Rattle.guided_model.specs.Settling.{Target, target}
 use Rattle.guided_expand.specs.Estimates.{Estimates, paired}
 use Rattle.guided_rows.specs.Fills.{RowOpened, opened-past}
 use Rattle.guided_rows.specs.Seen.{seen-row, offerable-seen, relaxed-seen, filled-keys, opened-seen}
-use Rattle.guided_expand.specs.Work.{Work, work, Progress, progress, queueOf, seenIn, kept-same, Offering, Relaxes}
-use Rattle.guided_expand.specs.Guides.{row-begins, row-ends}
+use Rattle.guided_expand.specs.Work.{Work, work, Progress, progress, queueOf, marksIn, seenIn, kept-same, Offering, Relaxes}
+use Rattle.guided_expand.specs.Guides.{pairsIn, row-begins, row-ends}
 use Rattle.guided_expand.specs.Opening.{sourceStage, sourceNode, Opened, opens-on, tablesOf, Leading}
 use Rattle.guided_expand.specs.declared.steps.Source.{Source}
-use Rattle.guided_expand.specs.declared.steps.Size.{Size}
 
-module _ {steps : Steps} {row : List ℕ} {t : Estimates} {from : Source} {size : Size} {e to : ℕ} {x : Progress} (l : Leading steps row t from size e to x) where
+module _ {steps : Steps} {row : List ℕ} {t : Estimates} {from : Source} {width e to : ℕ} {x : Progress} (l : Leading steps row t from width e to x) where
   abbrev s : ℕ
   s = sourceStage from
 
@@ -61,11 +60,11 @@ module _ {steps : Steps} {row : List ℕ} {t : Estimates} {from : Source} {size 
   abbrev tables : Tables z (on .read)
   tables = l .by .ready .tables
 
-  width : a .size ≡ z .nodes + 2
-  width = width-is z (on .read) tables
+  size-is : a .size ≡ z .nodes + 2
+  size-is = width-is z (on .read) tables
 
   narrow : a .size ≤ 512
-  narrow = omega (arith, width, few-nodes z (on .read) tables)
+  narrow = omega (arith, size-is, few-nodes z (on .read) tables)
 
   exists : e < g .count
   exists = omega (arith, l .exists, count-is z (on .read) tables)
@@ -94,8 +93,8 @@ module _ {steps : Steps} {row : List ℕ} {t : Estimates} {from : Source} {size 
   cost-is : getD (steps .cost) e 0 ≡ g .cost e
   cost-is = cost-at z (on .read) tables e (l .exists)
 
-  pairs-are : z .stages * a .size ≡ size .pairs
-  pairs-are = ap (λ (k : ℕ). z .stages * k) width ∙ sym (l .opens .sized .pairs)
+  pairs-are : z .stages * a .size ≡ pairsIn z
+  pairs-are = ap (λ (k : ℕ). z .stages * k) size-is
 
   -- the row of the stage that the step enters
   abbrev entered : ℕ
@@ -109,9 +108,9 @@ module _ {steps : Steps} {row : List ℕ} {t : Estimates} {from : Source} {size 
 
   module _ (rest : ℕ) (er : rest ≡ paired t (getD (steps .to) e 0) to) where
     shown-is : rest ≡ shown (h (g .to e) (a .next e n))
-    shown-is = er ∙ l .by .holds (getD (steps .to) e 0) to stage-late stage-small (omega (arith, l .enters, next-inside, width)) ∙ ap shown (ap₂ h to-stage (l .enters))
+    shown-is = er ∙ l .by .holds (getD (steps .to) e 0) to stage-late stage-small (omega (arith, l .enters, next-inside, size-is)) ∙ ap shown (ap₂ h to-stage (l .enters))
 
-    pub leads-none : rest ≡ NONE → Opened (l .by) from size e (e + 1) x x
+    pub leads-none : rest ≡ NONE → Opened (l .by) from e (e + 1) x x
     leads-none q = record {
       expanded = step-none g a h s n spent e (seenIn a x) (estimate-none (l .by .guide) (g .to e) (a .next e n) rest next-inside shown-is q);
       kept = kept-same (l .opens .queue);
@@ -140,27 +139,28 @@ module _ {steps : Steps} {row : List ℕ} {t : Estimates} {from : Source} {size 
         row-filled : getD (x .filled) (stageOf a y) false ≡ true
         row-filled = ap (λ (k : ℕ). getD (x .filled) k false) (stage-is a (g .to e) (a .next e n) y next-inside pair-is ∙ sym to-stage) ∙ filled
 
-        inside : y < size .pairs
+        pub inside : y < pairsIn z
         inside = omega (arith, pair-is, leads .pair-inside, pairs-are)
 
         has-key : y < length (x .slices .keys)
         has-key = omega (arith, inside, keys-fit (l .opens .queue))
 
-        pub leads-ask : Offering (size .pairs) (from .key) y v (x .slices) (x .counts)
-        leads-ask =
-            let above : from .key ≤ v = omega (arith, leads .above, key-is) in
-            record {
-              queue = l .opens .queue;
-              pair = inside;
-              fits = l .opens .fits;
-              above = above;
-              low = omega (arith, key-is, leads .low);
-              offerable = offerable-seen a (x .filled) (x .slices .keys) y has-key row-filled
-                  (offerable g a h (seenIn a x) (from .key) y v (l .opens .frontier) (rw pair-is (leads .may-open)) above);
-            }
+        pub above : from .key ≤ v
+        above = omega (arith, leads .above, key-is)
+
+        pub low : v < NONE
+        low = omega (arith, key-is, leads .low)
+
+        pub may-offer : Offerable (marksIn (x .slices) (x .counts)) y v
+        may-offer =
+            offerable-seen a (x .filled) (x .slices .keys) y has-key row-filled
+            (offerable g a h (seenIn a x) (from .key) y v (l .opens .frontier) (rw pair-is (leads .may-open)) above)
+
+        abbrev pub leads-ask : Offering (from .key) y v (x .slices) (x .counts)
+        leads-ask = record { p = pairsIn z; queue = l .opens .queue; pair = inside; fits = l .opens .fits; above = above; low = low; offerable = may-offer }
 
         pub leads-some : {mark : ℕ} {w : Work} {c : Counts} → mark ≡ packed e n → length (w .keys) ≡ length (x .slices .keys)
-            → Relaxes (size .pairs) (from .key) y v mark (x .slices) (x .counts) w c → Opened (l .by) from size e (e + 1) x (progress w (x .filled) c)
+            → Relaxes (pairsIn z) (from .key) y v mark (x .slices) (x .counts) w c → Opened (l .by) from e (e + 1) x (progress w (x .filled) c)
         leads-some {mark} {w} {c} em long r = record {
           expanded = step-relaxed g a h s n spent e rest y v mark (seenIn a x) (seenIn a (progress w (x .filled) c)) exists (l .leaves) has pair-is key-is em
               (relaxed-seen a (x .filled) (x .slices .keys) y has-key row-filled (w .keys) long (r .relaxed));
@@ -173,22 +173,22 @@ module _ {steps : Steps} {row : List ℕ} {t : Estimates} {from : Source} {size 
   abbrev begin : ℕ
   begin = getD row entered 0
 
-  row-end : begin + size .width ≤ size .pairs
-  row-end = omega (arith, row-ends (l .by .ready) entered entered-inside, l .opens .sized .width, l .opens .sized .pairs)
+  row-end : begin + width ≤ pairsIn z
+  row-end = omega (arith, row-ends (l .by .ready) entered entered-inside, l .opens .wide)
 
-  pub leads-row : (entered < 256) × (begin + size .width ≤ length (x .slices .keys)) × (length (x .filled) ≡ 256)
+  pub leads-row : (entered < 256) × (begin + width ≤ length (x .slices .keys)) × (length (x .filled) ≡ 256)
   leads-row = (stage-small, omega (arith, row-end, keys-fit (l .opens .queue)), l .opens .rows)
 
   module _ {keys′ : List ℕ} {filled′ : List Bool} (long : length keys′ ≡ length (x .slices .keys))
-      (o : RowOpened entered begin (begin + size .width) (x .slices .keys) (x .filled) keys′ filled′) where
+      (o : RowOpened entered begin (begin + width) (x .slices .keys) (x .filled) keys′ filled′) where
     abbrev x′ : Progress
     x′ = progress (work keys′ (x .slices .via) (x .slices .heap) (x .slices .pos) (x .slices .stack)) filled′ (x .counts)
 
     some-nodes : 0 < a .size
-    some-nodes = omega (arith, width)
+    some-nodes = omega (arith, size-is)
 
-    ends : begin + size .width ≡ begin + a .size
-    ends = omega (arith, l .opens .sized .width, width)
+    ends : begin + width ≡ begin + a .size
+    ends = omega (arith, l .opens .wide, size-is)
 
     open-same : (q : ℕ) → Contains (queueOf x) q → getD keys′ q 0 ≡ getD (x .slices .keys) q 0
     open-same q w =
@@ -196,7 +196,7 @@ module _ {steps : Steps} {row : List ℕ} {t : Estimates} {from : Source} {size 
         filled-keys a some-nodes row-is ends long o q (seen-row a (x .filled) (x .slices .keys) q i (l .opens .frontier .finite q w))
 
     -- it is filled, and nothing else has changed
-    pub row-opened : Opened (l .by) from size e e x x′
+    pub row-opened : Opened (l .by) from e e x x′
     row-opened = record {
       expanded = record {
         moved = λ k. inl (record {
@@ -214,13 +214,13 @@ module _ {steps : Steps} {row : List ℕ} {t : Estimates} {from : Source} {size 
       rows = o .long;
     }
 
-    abbrev pub row-leading : Leading steps row t from size e to x′
+    abbrev pub row-leading : Leading steps row t from width e to x′
     row-leading = record {
       inner = l .inner;
       first = l .first;
       z = l .z;
       by = l .by;
-      opens = opens-on (l .by) from size refl (l .opens) row-opened;
+      opens = opens-on (l .by) from refl (l .opens) row-opened;
       exists = l .exists;
       leaves = l .leaves;
       enters = l .enters;

@@ -140,9 +140,10 @@ returns-2 c =
     let row = ready .open-row in
     λ x.
     let l = row-leading x (row .kept .0) (row .ensures) in
-    opened-more (x .by) _ _ (row-opened x (row .kept .0) (row .ensures))
+    let asked = leads-ask l _ (rest .pair-estimate .ensures) (some .if1 .left) _ _ (target .pair-at .ensures) refl (row .ensures .marked) in
+    opened-more (x .by) _ (row-opened x (row .kept .0) (row .ensures))
     (leads-some l _ (rest .pair-estimate .ensures) (some .if1 .left) _ _ (target .pair-at .ensures) refl (row .ensures .marked)
-    (marked .packed .ensures) (relaxed .relax .kept .0) (relaxed .relax .ensures))
+    (marked .packed .ensures) (relaxed .relax .kept .0) (relaxed .relax .ensures asked))
 
 pub offer-spec : {M : Type 1} → statement M
 offer-spec =
