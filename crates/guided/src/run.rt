@@ -14,7 +14,6 @@ use convert::lesser;
 use definitions::Answer;
 use definitions::NONE;
 use definitions::Shape;
-use diagram::LO;
 use guided_expand::pair_estimate;
 use guided_loop::Ended;
 use guided_loop::search;
@@ -56,7 +55,7 @@ fn run<'a>(
     plan: &mut [u16],
     z: Shape,
     steps: &'a [[u32; 1024]; 3],
-    inner: &'a [[u16; 512]; 3],
+    inner: &'a [u32; 512],
 ) -> Answer
     requires { ⌜ Tables z (read (now steps) (now inner)) ⌝ }
     requires { ⌜
@@ -84,7 +83,7 @@ fn run<'a>(
     let mut row = [0u32; 256];
     fill_row_starts(&mut row, z.stages as usize, z.nodes + 2);
     let mut yes = [false; 512];
-    fill_finishing(&mut yes, &inner[LO], z.nodes);
+    fill_finishing(&mut yes, inner, z.nodes);
     let ended = search(
         keys,
         via,
@@ -129,7 +128,7 @@ pub fn guided(
         ⌝ }
 {
     let mut steps = [[0u32; 1024]; 3];
-    let mut inner = [[0u16; 512]; 3];
+    let mut inner = [0u32; 512];
     let shorter = lesser(lesser(lesser(keys.len(), via.len()), heap.len()), pos.len());
     let work = lesser(lesser(shorter, stack.len()), log.len());
     let got = load(chart, rules, work, plan.len(), &mut steps, &mut inner);
