@@ -114,7 +114,7 @@ impl Search<'_> {
     fn stage_of(&self, pair: usize) -> usize {
         match self.via[pair] {
             NO_VIA => self.tables.start,
-            via => usize::from(self.tables.to[via_step(via)]),
+            via => self.tables.to(via_step(via)),
         }
     }
 
@@ -136,7 +136,7 @@ impl Search<'_> {
             }
             let taken = usize::from(tables.step[at]) == step;
             let next = if taken { usize::from(tables.hi[at]) } else { at };
-            let to = usize::from(tables.to[step]);
+            let to = tables.to(step);
             let Some(rest) = self.estimates.of(to, next) else { continue };
             self.clear(to);
             let follower = tables.row(to) + next;

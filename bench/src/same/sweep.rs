@@ -79,7 +79,7 @@ impl Rows<'_> {
             if next == 0 {
                 continue;
             }
-            let to = usize::from(tables.to[step]);
+            let to = tables.to(step);
             let row = tables.row(to);
             let known = self.cost[row + next];
             let found = cost + tables.cost[step];

@@ -14,6 +14,9 @@ const STEP_FIELD: usize = 11;
 const RULES_HEAD: usize = 5;
 const NODE_FIELD: usize = 9;
 
+/// The stage that a step leads to takes sixteen bits; the one that it leaves stands above it.
+const STAGE_BITS: u32 = 16;
+
 /// The step of nodes 0 and 1: above every step, so that no walk goes past them.
 const NO_STEP: u16 = u16::MAX;
 
@@ -28,8 +31,8 @@ pub struct Tables {
     pub start: usize,
     pub end: usize,
     steps: usize,
-    from: [u16; STEPS],
-    pub to: [u16; STEPS],
+    /// By step: the stage that it leaves, and below it the one that it leads to.
+    ends: [u32; STEPS],
     pub cost: [u32; STEPS],
     /// By stage: its first leaving step; one entry more than there are stages.
     first: [u16; STAGES + 1],
@@ -48,8 +51,7 @@ impl Tables {
             start: 0,
             end: 0,
             steps: 0,
-            from: [0; STEPS],
-            to: [0; STEPS],
+            ends: [0; STEPS],
             cost: [0; STEPS],
             first: [0; STAGES + 1],
             references: 2,
@@ -93,8 +95,7 @@ impl Tables {
         if at >= STEPS || from >= to || usize::from(to) >= self.stages || cost > MAX_COST || falls {
             return Err(5);
         }
-        self.from[at] = from;
-        self.to[at] = to;
+        self.ends[at] = u32::from(from) << STAGE_BITS | u32::from(to);
         self.cost[at] = cost;
         Ok(from)
     }
@@ -102,8 +103,8 @@ impl Tables {
     /// First steps by stage, for the searches: steps stand in the order of their first stages.
     pub fn fill_first(&mut self) {
         let mut stage = 0;
-        for (at, from) in self.from[..self.steps].iter().enumerate() {
-            while stage <= usize::from(*from) {
+        for (at, ends) in self.ends[..self.steps].iter().enumerate() {
+            while stage <= from_of(*ends) {
                 self.first[stage] = at as u16;
                 stage += 1;
             }
@@ -160,9 +161,14 @@ impl Tables {
         usize::from(self.first[stage])..usize::from(self.first[stage + 1])
     }
 
+    /// The stage that a step leads to.
+    pub fn to(&self, step: usize) -> usize {
+        to_of(self.ends[step])
+    }
+
     /// The pair from which a via leads on.
     pub fn pair_before(&self, via: u32) -> usize {
-        self.row(usize::from(self.from[via_step(via)])) + via_node(via)
+        self.row(from_of(self.ends[via_step(via)])) + via_node(via)
     }
 
     /// Marks the nodes that finish at 1; handed in without marks. Children stand before their nodes.
@@ -178,8 +184,8 @@ impl Tables {
         estimates[self.end] = 0;
         for stage in (self.start..self.end).rev() {
             let leaving = self.leaving(stage);
-            let steps = self.to[leaving.clone()].iter().zip(&self.cost[leaving]);
-            let costs = steps.map(|(to, cost)| estimates[usize::from(*to)].saturating_add(*cost));
+            let steps = self.ends[leaving.clone()].iter().zip(&self.cost[leaving]);
+            let costs = steps.map(|(ends, cost)| estimates[to_of(*ends)].saturating_add(*cost));
             estimates[stage] = costs.min().unwrap_or(NONE);
         }
     }
@@ -193,6 +199,14 @@ impl Tables {
             estimates[node] = estimates[usize::from(self.lo[node])].min(taken);
         }
     }
+}
+
+fn from_of(ends: u32) -> usize {
+    (ends >> STAGE_BITS) as usize
+}
+
+fn to_of(ends: u32) -> usize {
+    (ends & ((1 << STAGE_BITS) - 1)) as usize
 }
 
 fn number(low: u8, high: u8) -> usize {

@@ -72,7 +72,7 @@ pub fn load(
     rules: &[u8],
     work: usize,
     plan: usize,
-    steps: &mut [[u32; 1024]; 3],
+    steps: &mut [[u32; 1024]; 2],
     inner: &mut [u32; 512],
 ) -> Loaded
     requires { ⌜ Room (now steps) (now inner) ⌝ }

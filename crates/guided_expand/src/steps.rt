@@ -10,7 +10,8 @@ ghost use Rattle.guided_expand.specs.Opening.{Opened, Opening, Leading};
 use crate::estimate::pair_estimate;
 use crate::relax::relax;
 use chart::COST;
-use chart::TO;
+use chart::ENDS;
+use chart::to_at;
 use definitions::NONE;
 use definitions::Node;
 use definitions::Stage;
@@ -45,7 +46,7 @@ fn offer<'a>(
     filled: &mut [bool; 256],
     width: usize,
     counts: Counts,
-    steps: &'a [[u32; 1024]; 3],
+    steps: &'a [[u32; 1024]; 2],
     row: &'a [u32; 256],
     by_stage: &'a [u32; 256],
     by_node: &'a [u32; 512],
@@ -70,8 +71,7 @@ fn offer<'a>(
         ⌝ }
 {
     let i = e.0 as usize;
-    let entered = steps[TO][i] as u16;
-    let stage = Stage(entered);
+    let stage = to_at(&steps[ENDS], i);
     let rest = pair_estimate(by_stage, by_node, stage, t);
     if rest == NONE {
         return counts;
@@ -104,7 +104,7 @@ pub fn settle<'a>(
     filled: &mut [bool; 256],
     width: usize,
     counts: Counts,
-    steps: &'a [[u32; 1024]; 3],
+    steps: &'a [[u32; 1024]; 2],
     first: &'a [u16; 257],
     row: &'a [u32; 256],
     inner: &'a [u32; 512],

@@ -6,7 +6,7 @@ ghost use Rattle.guided_expand.specs.Work.{work};
 ghost use Rattle.guided_loop.specs.Search.{Start, Searched};
 use crate::places::is_goal;
 use crate::places::pair_of;
-use chart::TO;
+use chart::ENDS;
 use definitions::Node;
 use definitions::Shape;
 use guided_expand::Source;
@@ -32,7 +32,7 @@ pub fn search<'a>(
     pos: &mut [u32],
     stack: &mut [u32],
     log: &mut [u32],
-    steps: &'a [[u32; 1024]; 3],
+    steps: &'a [[u32; 1024]; 2],
     first: &'a [u16; 257],
     row: &'a [u32; 256],
     inner: &'a [u32; 512],
@@ -73,7 +73,7 @@ pub fn search<'a>(
         floor = next.key;
         log[count] = x as u32;
         count += 1;
-        let at = pair_of(via, &steps[TO], row, begin, z.start, x);
+        let at = pair_of(via, &steps[ENDS], row, begin, z.start, x);
         let spent = floor - pair_estimate(by_stage, by_node, at.stage, at.node);
         if is_goal(yes, z.end, at) {
             found = true;

@@ -4,7 +4,7 @@ ghost use lib.ListN.{length};
 ghost use Rattle.sweep_model.specs.Model.{rows};
 ghost use Rattle.checks.specs.Tables.{read};
 ghost use Rattle.sweep.specs.Runs.{Final, Concludes};
-use chart::FROM;
+use chart::ENDS;
 use checks::accepted;
 use checks::refusal;
 use convert::wide;
@@ -23,7 +23,7 @@ pub fn conclude<'a>(
     nodes: &'a [u32],
     counts: &'a [u32; 256],
     z: Shape,
-    steps: &'a [[u32; 1024]; 3],
+    steps: &'a [[u32; 1024]; 2],
     row: &'a [u32; 256],
     inner: &'a [u32; 512],
     plan: &mut [u16],
@@ -44,6 +44,6 @@ pub fn conclude<'a>(
     if best.cost == NONE {
         return refusal(8, 0, 0, count);
     }
-    let length = write_plan(via, &steps[FROM], row, z.start, z.end, best.node, plan);
+    let length = write_plan(via, &steps[ENDS], row, z.start, z.end, best.node, plan);
     accepted(best.cost, length, count)
 }

@@ -39,7 +39,7 @@ fn diagram_answer(r: DiagramRead) {
 
 // A chart file.
 pub fn show_chart(file: &[u8]) {
-    let mut table = [[0u32; 1024]; 3];
+    let mut table = [[0u32; 1024]; 2];
     chart_answer(chart::read_chart(file, &mut table));
 }
 
