@@ -374,9 +374,16 @@ reads-meets : {M : Type 1} (𝓤 : URA M) (H : Heap 𝓤) (A : Atoms 𝓤) → G
     → Triple 𝓤 (𝓣 .C #fields·reader·next) (Next 𝓤 H A mem run) → Triple 𝓤 (𝓣 .C #fields·reader·moved) (Moved 𝓤 H A mem run) → Triple 𝓤 (𝓣 .C #diagram·reader·take-node) (Take 𝓤 H A mem run)
     → Meets 𝓤 H A reads.signature (WpFn 𝓤 H (𝓣 .C) (𝓣 .Λ) code.function) (reads.spec 𝓤 H A mem run)
 reads-meets 𝓤 H A W mem run 𝓣 known-new known-next known-moved known-take =
-    walk-meets 𝓤 H A reads.ended stayed W
-    (goes-none-slice 𝓤 H A W 3 (0 ∷ []) tt (plain (λ _. u8)) yes, (goes-none 𝓤 H A W 3 (λ _. usize) yes (λ κs x f. refl), (goes-none 𝓤 H A W 3 (λ _. usize) yes (λ κs x f. refl),
-    (goes-ref 𝓤 H A W 3 1 tt (plain (λ _. TS)), (goes-ref 𝓤 H A W 3 2 tt (plain (λ _. TN)), tt)))))
+    walk-meets 𝓤 H A reads.ended stayed W (
+      goes-none-slice 𝓤 H A W 3 (0 ∷ []) tt (plain (λ _. u8)) yes,
+      (
+        goes-none 𝓤 H A W 3 (λ _. usize) yes (λ κs x f. refl),
+        (
+          goes-none 𝓤 H A W 3 (λ _. usize) yes (λ κs x f. refl),
+          (goes-ref 𝓤 H A W 3 1 tt (plain (λ _. TS)), (goes-ref 𝓤 H A W 3 2 tt (plain (λ _. TN)), tt)),
+        ),
+      ),
+    )
     (reads.clauses 𝓤 H A mem run) (WpFn 𝓤 H (𝓣 .C) (𝓣 .Λ) code.function) (WpFn-mono 𝓤 H (W .laws) 𝓣 code.function) (reads-walks 𝓤 H A W mem run 𝓣 known-new known-next known-moved known-take)
 
 pub read-nodes-spec : {M : Type 1} → stated.statement M
