@@ -1,6 +1,6 @@
 //! Both files decoded once into arrays.
 
-use super::{via_node, via_step, NONE};
+use super::{via_node, via_step, NODE_BITS, NONE};
 use crate::planner::Answer;
 
 const STEPS: usize = 1_024;
@@ -18,12 +18,34 @@ const NODE_FIELD: usize = 9;
 const STAGE_BITS: u32 = 16;
 
 /// The step of nodes 0 and 1: above every step, so that no walk goes past them.
-const NO_STEP: u16 = u16::MAX;
+const NO_STEP: u16 = (1 << 14) - 1;
 
 /// One entry for each stage.
 pub const BY_STAGE: usize = STAGES;
 /// One entry for each node reference.
 pub const BY_NODE: usize = NODES;
+
+/// An inner node in one number: nine bits for each child, the step above them.
+#[derive(Clone, Copy, Default)]
+pub struct Inner(u32);
+
+impl Inner {
+    fn new(step: u16, lo: u16, hi: u16) -> Inner {
+        Inner((u32::from(step) << NODE_BITS | u32::from(lo)) << NODE_BITS | u32::from(hi))
+    }
+
+    pub fn step(self) -> usize {
+        (self.0 >> (2 * NODE_BITS)) as usize
+    }
+
+    pub fn lo(self) -> usize {
+        via_node(self.0 >> NODE_BITS)
+    }
+
+    pub fn hi(self) -> usize {
+        via_node(self.0)
+    }
+}
 
 /// Chart and diagram as tables.
 pub struct Tables {
@@ -39,9 +61,7 @@ pub struct Tables {
     /// N.
     pub references: usize,
     pub root: usize,
-    pub step: [u16; NODES],
-    pub lo: [u16; NODES],
-    pub hi: [u16; NODES],
+    pub nodes: [Inner; NODES],
 }
 
 impl Tables {
@@ -56,9 +76,7 @@ impl Tables {
             first: [0; STAGES + 1],
             references: 2,
             root: 0,
-            step: [NO_STEP; NODES],
-            lo: [0; NODES],
-            hi: [0; NODES],
+            nodes: [Inner::default(); NODES],
         }
     }
 
@@ -116,6 +134,7 @@ impl Tables {
     pub fn read_rules(&mut self, file: &[u8]) -> Result<(), Answer> {
         let head: &[u8; 2] = first_body(file, 0x11).map_err(|n| Answer::refused(n, 2, 0))?;
         self.root = number(head[0], head[1]);
+        self.nodes[..2].fill(Inner::new(NO_STEP, 0, 0));
         let refused = |number, at| Answer::refused(number, 2, RULES_HEAD + NODE_FIELD * at);
         let fields = file[RULES_HEAD..].chunks_exact(NODE_FIELD);
         let (whole, cut) = (fields.len(), fields.remainder());
@@ -141,13 +160,12 @@ impl Tables {
             return Err(6);
         }
         // 0 and 1 have NO_STEP, so one comparison serves them and the inner nodes.
-        let fits = |child: u16| usize::from(child) < own && self.step[usize::from(child)] > step;
+        let tests_later = |child: usize| self.nodes[child].step() > usize::from(step);
+        let fits = |child: u16| usize::from(child) < own && tests_later(usize::from(child));
         if !fits(lo) || !fits(hi) {
             return Err(6);
         }
-        self.step[own] = step;
-        self.lo[own] = lo;
-        self.hi[own] = hi;
+        self.nodes[own] = Inner::new(step, lo, hi);
         Ok(())
     }
 
@@ -175,7 +193,7 @@ impl Tables {
     pub fn mark_finishing(&self, finishes: &mut [bool; BY_NODE]) {
         finishes[1] = true;
         for node in 2..self.references {
-            finishes[node] = finishes[usize::from(self.lo[node])];
+            finishes[node] = finishes[self.nodes[node].lo()];
         }
     }
 
@@ -194,9 +212,9 @@ impl Tables {
     pub fn estimate_nodes(&self, estimates: &mut [u32; BY_NODE]) {
         estimates[1] = 0;
         for node in 2..self.references {
-            let cost = self.cost[usize::from(self.step[node])];
-            let taken = estimates[usize::from(self.hi[node])].saturating_add(cost);
-            estimates[node] = estimates[usize::from(self.lo[node])].min(taken);
+            let inner = self.nodes[node];
+            let taken = estimates[inner.hi()].saturating_add(self.cost[inner.step()]);
+            estimates[node] = estimates[inner.lo()].min(taken);
         }
     }
 }

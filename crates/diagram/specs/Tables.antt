@@ -1,4 +1,4 @@
--- A diagram's inner nodes in three tables, each indexed by the node's number. Entries 0 and 1 are no inner node's.
+-- A diagram's inner nodes in three lists, of steps, los and his, each indexed by the node's number. Entries 0 and 1 are no inner node's.
 -- Assumes nothing.
 use Prim.Native.Nat.{ℕ, _+_, _≤_}
 use mathlib.Core.Path.{_≡_}
@@ -23,7 +23,7 @@ heldDiagram root count step lo hi = record { root = root; nodes = heldNodes coun
 abbrev pub MARK : ℕ
 MARK = 16383
 
--- the step table's entries 0 and 1 are no step's number, so that a walk that stops where the step is not below a given one stops at 0 and at 1
+-- entries 0 and 1 of the steps are no step's number, so that a walk that stops where the step is not below a given one stops at 0 and at 1
 pub record Marked (step : List ℕ) : Type 0 where
   pub at-no : getD step 0 0 ≡ MARK
   pub at-yes : getD step 1 0 ≡ MARK
