@@ -114,7 +114,7 @@ impl Search<'_> {
     fn stage_of(&self, pair: usize) -> usize {
         match self.via[pair] {
             NO_VIA => self.tables.start,
-            via => usize::from(self.tables.to[via_step(via)]),
+            via => self.tables.to(via_step(via)),
         }
     }
 
@@ -128,15 +128,15 @@ impl Search<'_> {
         let cost = floor - estimate;
         let mut at = node;
         for step in tables.leaving(stage) {
-            while usize::from(tables.step[at]) < step {
-                at = usize::from(tables.lo[at]);
+            while tables.nodes[at].step() < step {
+                at = tables.nodes[at].lo();
             }
             if at == 0 {
                 break;
             }
-            let taken = usize::from(tables.step[at]) == step;
-            let next = if taken { usize::from(tables.hi[at]) } else { at };
-            let to = usize::from(tables.to[step]);
+            let inner = tables.nodes[at];
+            let next = if inner.step() == step { inner.hi() } else { at };
+            let to = tables.to(step);
             let Some(rest) = self.estimates.of(to, next) else { continue };
             self.clear(to);
             let follower = tables.row(to) + next;

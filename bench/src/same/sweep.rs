@@ -68,18 +68,18 @@ impl Rows<'_> {
     fn relax(&mut self, tables: &Tables, stage: usize, node: usize, cost: u32) {
         let mut at = node;
         for step in tables.leaving(stage) {
-            while usize::from(tables.step[at]) < step {
-                at = usize::from(tables.lo[at]);
+            while tables.nodes[at].step() < step {
+                at = tables.nodes[at].lo();
             }
             if at == 0 {
                 break;
             }
-            let taken = usize::from(tables.step[at]) == step;
-            let next = if taken { usize::from(tables.hi[at]) } else { at };
+            let inner = tables.nodes[at];
+            let next = if inner.step() == step { inner.hi() } else { at };
             if next == 0 {
                 continue;
             }
-            let to = usize::from(tables.to[step]);
+            let to = tables.to(step);
             let row = tables.row(to);
             let known = self.cost[row + next];
             let found = cost + tables.cost[step];

@@ -1,6 +1,6 @@
 //! Both files decoded once into arrays.
 
-use super::{via_node, via_step, NONE};
+use super::{via_node, via_step, NODE_BITS, NONE};
 use crate::planner::Answer;
 
 const STEPS: usize = 1_024;
@@ -14,13 +14,38 @@ const STEP_FIELD: usize = 11;
 const RULES_HEAD: usize = 5;
 const NODE_FIELD: usize = 9;
 
+/// The stage that a step leads to takes sixteen bits; the one that it leaves stands above it.
+const STAGE_BITS: u32 = 16;
+
 /// The step of nodes 0 and 1: above every step, so that no walk goes past them.
-const NO_STEP: u16 = u16::MAX;
+const NO_STEP: u16 = (1 << 14) - 1;
 
 /// One entry for each stage.
 pub const BY_STAGE: usize = STAGES;
 /// One entry for each node reference.
 pub const BY_NODE: usize = NODES;
+
+/// An inner node in one number: nine bits for each child, the step above them.
+#[derive(Clone, Copy, Default)]
+pub struct Inner(u32);
+
+impl Inner {
+    fn new(step: u16, lo: u16, hi: u16) -> Inner {
+        Inner((u32::from(step) << NODE_BITS | u32::from(lo)) << NODE_BITS | u32::from(hi))
+    }
+
+    pub fn step(self) -> usize {
+        (self.0 >> (2 * NODE_BITS)) as usize
+    }
+
+    pub fn lo(self) -> usize {
+        via_node(self.0 >> NODE_BITS)
+    }
+
+    pub fn hi(self) -> usize {
+        via_node(self.0)
+    }
+}
 
 /// Chart and diagram as tables.
 pub struct Tables {
@@ -28,17 +53,15 @@ pub struct Tables {
     pub start: usize,
     pub end: usize,
     steps: usize,
-    from: [u16; STEPS],
-    pub to: [u16; STEPS],
+    /// By step: the stage that it leaves, and below it the one that it leads to.
+    ends: [u32; STEPS],
     pub cost: [u32; STEPS],
     /// By stage: its first leaving step; one entry more than there are stages.
     first: [u16; STAGES + 1],
     /// N.
     pub references: usize,
     pub root: usize,
-    pub step: [u16; NODES],
-    pub lo: [u16; NODES],
-    pub hi: [u16; NODES],
+    pub nodes: [Inner; NODES],
 }
 
 impl Tables {
@@ -48,15 +71,12 @@ impl Tables {
             start: 0,
             end: 0,
             steps: 0,
-            from: [0; STEPS],
-            to: [0; STEPS],
+            ends: [0; STEPS],
             cost: [0; STEPS],
             first: [0; STAGES + 1],
             references: 2,
             root: 0,
-            step: [NO_STEP; NODES],
-            lo: [0; NODES],
-            hi: [0; NODES],
+            nodes: [Inner::default(); NODES],
         }
     }
 
@@ -93,8 +113,7 @@ impl Tables {
         if at >= STEPS || from >= to || usize::from(to) >= self.stages || cost > MAX_COST || falls {
             return Err(5);
         }
-        self.from[at] = from;
-        self.to[at] = to;
+        self.ends[at] = u32::from(from) << STAGE_BITS | u32::from(to);
         self.cost[at] = cost;
         Ok(from)
     }
@@ -102,8 +121,8 @@ impl Tables {
     /// First steps by stage, for the searches: steps stand in the order of their first stages.
     pub fn fill_first(&mut self) {
         let mut stage = 0;
-        for (at, from) in self.from[..self.steps].iter().enumerate() {
-            while stage <= usize::from(*from) {
+        for (at, ends) in self.ends[..self.steps].iter().enumerate() {
+            while stage <= from_of(*ends) {
                 self.first[stage] = at as u16;
                 stage += 1;
             }
@@ -115,6 +134,7 @@ impl Tables {
     pub fn read_rules(&mut self, file: &[u8]) -> Result<(), Answer> {
         let head: &[u8; 2] = first_body(file, 0x11).map_err(|n| Answer::refused(n, 2, 0))?;
         self.root = number(head[0], head[1]);
+        self.nodes[..2].fill(Inner::new(NO_STEP, 0, 0));
         let refused = |number, at| Answer::refused(number, 2, RULES_HEAD + NODE_FIELD * at);
         let fields = file[RULES_HEAD..].chunks_exact(NODE_FIELD);
         let (whole, cut) = (fields.len(), fields.remainder());
@@ -140,13 +160,12 @@ impl Tables {
             return Err(6);
         }
         // 0 and 1 have NO_STEP, so one comparison serves them and the inner nodes.
-        let fits = |child: u16| usize::from(child) < own && self.step[usize::from(child)] > step;
+        let tests_later = |child: usize| self.nodes[child].step() > usize::from(step);
+        let fits = |child: u16| usize::from(child) < own && tests_later(usize::from(child));
         if !fits(lo) || !fits(hi) {
             return Err(6);
         }
-        self.step[own] = step;
-        self.lo[own] = lo;
-        self.hi[own] = hi;
+        self.nodes[own] = Inner::new(step, lo, hi);
         Ok(())
     }
 
@@ -160,16 +179,21 @@ impl Tables {
         usize::from(self.first[stage])..usize::from(self.first[stage + 1])
     }
 
+    /// The stage that a step leads to.
+    pub fn to(&self, step: usize) -> usize {
+        to_of(self.ends[step])
+    }
+
     /// The pair from which a via leads on.
     pub fn pair_before(&self, via: u32) -> usize {
-        self.row(usize::from(self.from[via_step(via)])) + via_node(via)
+        self.row(from_of(self.ends[via_step(via)])) + via_node(via)
     }
 
     /// Marks the nodes that finish at 1; handed in without marks. Children stand before their nodes.
     pub fn mark_finishing(&self, finishes: &mut [bool; BY_NODE]) {
         finishes[1] = true;
         for node in 2..self.references {
-            finishes[node] = finishes[usize::from(self.lo[node])];
+            finishes[node] = finishes[self.nodes[node].lo()];
         }
     }
 
@@ -178,8 +202,8 @@ impl Tables {
         estimates[self.end] = 0;
         for stage in (self.start..self.end).rev() {
             let leaving = self.leaving(stage);
-            let steps = self.to[leaving.clone()].iter().zip(&self.cost[leaving]);
-            let costs = steps.map(|(to, cost)| estimates[usize::from(*to)].saturating_add(*cost));
+            let steps = self.ends[leaving.clone()].iter().zip(&self.cost[leaving]);
+            let costs = steps.map(|(ends, cost)| estimates[to_of(*ends)].saturating_add(*cost));
             estimates[stage] = costs.min().unwrap_or(NONE);
         }
     }
@@ -188,11 +212,19 @@ impl Tables {
     pub fn estimate_nodes(&self, estimates: &mut [u32; BY_NODE]) {
         estimates[1] = 0;
         for node in 2..self.references {
-            let cost = self.cost[usize::from(self.step[node])];
-            let taken = estimates[usize::from(self.hi[node])].saturating_add(cost);
-            estimates[node] = estimates[usize::from(self.lo[node])].min(taken);
+            let inner = self.nodes[node];
+            let taken = estimates[inner.hi()].saturating_add(self.cost[inner.step()]);
+            estimates[node] = estimates[inner.lo()].min(taken);
         }
     }
+}
+
+fn from_of(ends: u32) -> usize {
+    (ends >> STAGE_BITS) as usize
+}
+
+fn to_of(ends: u32) -> usize {
+    (ends & ((1 << STAGE_BITS) - 1)) as usize
 }
 
 fn number(low: u8, high: u8) -> usize {

@@ -1,7 +1,7 @@
 -- The walk over the steps: one law for each way out of a turn, and what the turns come to.
 -- Assumes nothing.
 use Prim.Native.Nat.{ℕ, _+_, _-_, _*_, _<_}
-use mathlib.Core.Path.{_≡_, refl, sym, _∙_, ap}
+use mathlib.Core.Path.{_≡_, refl, sym, _∙_, ap, subst}
 use mathlib.Core.Bool.{true, false}
 use mathlib.Core.List.{List, [], _∷_, _++_}
 use lib.ListN.{length, getD, length-append}
@@ -15,8 +15,9 @@ use Rattle.definitions.specs.declared.Field.{Field}
 use Rattle.definitions.specs.declared.Field.the-variants.{Absent, Faulty, Whole}
 use Rattle.fields.specs.Positions.{only-gives, body-less}
 use Rattle.fields.specs.Scans.{leftOf, left-less, reading-start, reading-done, reading-faulty, reading-bad, reading-step}
+use Rattle.chart.specs.Ends.{endsOf}
 use Rattle.chart.specs.Tables.{stepsIn, heldSteps, Filled, stepBody}
-use Rattle.chart.specs.Held.{stored, stored-room, held-grown, from-kept, to-kept, cost-kept, nothing-filled}
+use Rattle.chart.specs.Held.{stored, stored-room, held-grown, ends-kept, costs-kept, nothing-filled}
 use Rattle.chart.specs.Limits.{step-fits}
 use Rattle.chart.specs.declared.reader.StepBody.{StepBody}
 use Rattle.chart.specs.Turns.{SoFar, Stands, Takes}
@@ -39,17 +40,16 @@ last-grown before x =
     let e : length (before ++ x ∷ []) - 1 ≡ length before = omega (arith, length-append before (x ∷ [])) in
     rw (lastFrom, e) (ap (λ (y : ChartStep). y .from) (getD-append-seam before x [] noStep))
 
-filled-grown : (before : List ChartStep) (x : ChartStep) (count : ℕ) (packed₀ packed : List (List ℕ)) → length before ≡ count → count < 1024
-    → Filled before packed₀ packed → Filled (before ++ x ∷ []) packed₀ (stored packed count x)
-filled-grown before x count packed₀ packed counted below sofar =
+filled-grown : (before : List ChartStep) (x : ChartStep) (ends count : ℕ) (packed₀ packed : List (List ℕ)) → ends ≡ endsOf (x .from) (x .to) → x .to < 65536
+    → length before ≡ count → count < 1024 → Filled before packed₀ packed → Filled (before ++ x ∷ []) packed₀ (stored packed count ends (x .cost))
+filled-grown before x ends count packed₀ packed packs small counted below sofar =
     let long : length (before ++ x ∷ []) ≡ count + 1 = omega (arith, length-append before (x ∷ [])) in
     let held : heldSteps count (stepsIn packed) ≡ before = rw (← counted) (sofar .held) in
     record {
-      held = rw (long, held-grown count packed x (sofar .room) below, held);
-      from-rest = rw long (from-kept count packed x (sofar .room) below packed₀ (rw (← counted) (sofar .from-rest)));
-      to-rest = rw long (to-kept count packed x (sofar .room) below packed₀ (rw (← counted) (sofar .to-rest)));
-      cost-rest = rw long (cost-kept count packed x (sofar .room) below packed₀ (rw (← counted) (sofar .cost-rest)));
-      room = stored-room count packed x (sofar .room) below;
+      held = rw (long, held-grown count packed x ends packs small (sofar .room) below, held);
+      ends-rest = rw long (ends-kept count packed x ends packs small (sofar .room) below packed₀ (rw (← counted) (sofar .ends-rest)));
+      costs-rest = rw long (costs-kept count packed x ends packs small (sofar .room) below packed₀ (rw (← counted) (sofar .costs-rest)));
+      room = stored-room count packed x ends packs small (sofar .room) below;
     }
 
 true-false : true ≡ false → ⊥
@@ -100,9 +100,9 @@ module _ (s : List ℕ) (stages : ℕ) (t : StepsRead) (packed : List (List ℕ)
         stops v (t .place) x q (λ first packed₀ sofar.
         reading-bad s (stepGrammar stages) first (t .place) (sofar .before) (sofar .reading) f given a e found (only-gives 2 8 (getD s (t .place) 0)) v (same-fault first packed₀ sofar) fails)
 
-    pub take-step : v ≡ 0 → (x : StepBody) → x ≡ stepBody (part s a e)
-        → Takes s stages t packed (stored packed (t .steps) (record { from = x .from; to = x .to; cost = x .cost })) (record { number = 0; place = e; steps = t .steps + 1; last = x .from; going = true })
-    take-step passes x read = rw read (record {
+    pub take-step : v ≡ 0 → (x : StepBody) → x ≡ stepBody (part s a e) → (ends : ℕ) → ends ≡ endsOf (x .from) (x .to) → x .to < 65536
+        → Takes s stages t packed (stored packed (t .steps) ends (x .cost)) (record { number = 0; place = e; steps = t .steps + 1; last = x .from; going = true })
+    take-step passes x read ends packs small = rw read (record {
       nearer = λ g. body-less s (t .place) 2 8 a e f given found;
       stands = λ first packed₀ sofar. record {
         goes = λ g. record {
@@ -112,7 +112,8 @@ module _ (s : List ℕ) (stages : ℕ) (t : StepsRead) (packed : List (List ℕ)
           latest = last-grown (sofar .before) (stepOf (part s a e));
           filled =
               λ room.
-              filled-grown (sofar .before) (stepOf (part s a e)) (t .steps) packed₀ packed (sofar .counted) (step-below v stages (t .last) (t .steps) (part s a e) judged passes) (sofar .filled room);
+              filled-grown (sofar .before) (stepOf (part s a e)) ends (t .steps) packed₀ packed (packs ∙ ap (λ (y : StepBody). endsOf (y .from) (y .to)) read)
+              (subst (λ (y : StepBody). y .to < 65536) read small) (sofar .counted) (step-below v stages (t .last) (t .steps) (part s a e) judged passes) (sofar .filled room);
         };
         over = λ g. absurd (true-false g);
       };

@@ -7,8 +7,10 @@ use lib.ListN.{length, getD, set, drop, length-set}
 use lib.Seq.{getD-set-same, getD-set-other}
 use native.Mathlib.Omega.{arith}
 use Rattle.definitions.specs.Charts.{ChartStep, noStep}
+use Rattle.theory.specs.Packing.{first-packed, second-packed}
 use Rattle.theory.specs.Basics.{length-map-run, getD-map-upto, upto-grown, rest-kept}
-use Rattle.chart.specs.Tables.{Steps, stepsIn, heldStep, heldSteps, Room, Filled}
+use Rattle.chart.specs.Ends.{endsOf, fromOf, toOf, froms, tos, froms-at, tos-at}
+use Rattle.chart.specs.Tables.{endsIn, costsIn, Steps, stepsIn, heldStep, heldSteps, Room, Filled}
 
 module _ (count : ℕ) (t : Steps) where
   pub held-count : length (heldSteps count t) ≡ count
@@ -28,68 +30,89 @@ module _ (count : ℕ) (t : Steps) where
   pub held-cost : (e : ℕ) → e < count → getD (heldSteps count t) e noStep .cost ≡ getD (t .cost) e 0
   held-cost e h = ap (λ (x : ChartStep). x .cost) (held-step e h)
 
--- the table with one more step
-abbrev pub stored : List (List ℕ) → ℕ → ChartStep → List (List ℕ)
-stored packed e x =
-    let froms = set packed 0 (set (getD packed 0 []) e (x .from)) in
-    let tos = set froms 1 (set (getD froms 1 []) e (x .to)) in
-    set tos 2 (set (getD tos 2 []) e (x .cost))
+-- the table with one more entry in each column
+abbrev pub stored : List (List ℕ) → ℕ → ℕ → ℕ → List (List ℕ)
+stored packed e ends cost =
+    let first = set packed 0 (set (endsIn packed) e ends) in
+    set first 1 (set (costsIn first) e cost)
 
 -- its columns
-abbrev storedSteps : Steps → ℕ → ChartStep → Steps
-storedSteps t e x = record { from = set (t .from) e (x .from); to = set (t .to) e (x .to); cost = set (t .cost) e (x .cost) }
+stored-ends : (packed : List (List ℕ)) (e ends cost : ℕ) → length packed ≡ 2 → endsIn (stored packed e ends cost) ≡ set (endsIn packed) e ends
+stored-ends [] e ends cost h = absurd (omega arith)
+stored-ends (a ∷ []) e ends cost h = absurd (omega arith)
+stored-ends (a ∷ b ∷ r) e ends cost h = refl
 
-stored-steps : (packed : List (List ℕ)) (e : ℕ) (x : ChartStep) → length packed ≡ 3 → stepsIn (stored packed e x) ≡ storedSteps (stepsIn packed) e x
-stored-steps [] e x h = absurd (omega arith)
-stored-steps (a ∷ []) e x h = absurd (omega arith)
-stored-steps (a ∷ b ∷ []) e x h = absurd (omega arith)
-stored-steps (a ∷ b ∷ c ∷ r) e x h = refl
+stored-costs : (packed : List (List ℕ)) (e ends cost : ℕ) → length packed ≡ 2 → costsIn (stored packed e ends cost) ≡ set (costsIn packed) e cost
+stored-costs [] e ends cost h = absurd (omega arith)
+stored-costs (a ∷ []) e ends cost h = absurd (omega arith)
+stored-costs (a ∷ b ∷ r) e ends cost h = refl
 
-stored-columns : (packed : List (List ℕ)) (e : ℕ) (x : ChartStep) → length (stored packed e x) ≡ length packed
-stored-columns packed e x = simp length-set
+stored-columns : (packed : List (List ℕ)) (e ends cost : ℕ) → length (stored packed e ends cost) ≡ length packed
+stored-columns packed e ends cost = simp length-set
 
-module _ (count : ℕ) (packed : List (List ℕ)) (x : ChartStep) (room : Room packed) (below : count < 1024) where
+-- step x stored: its stages in one number, and its cost
+module _ (count : ℕ) (packed : List (List ℕ)) (x : ChartStep) (ends : ℕ) (packs : ends ≡ endsOf (x .from) (x .to)) (small : x .to < 65536) (room : Room packed)
+    (below : count < 1024) where
+  abbrev after : List (List ℕ)
+  after = stored packed count ends (x .cost)
+
   abbrev t : Steps
   t = stepsIn packed
 
   abbrev t′ : Steps
-  t′ = storedSteps t count x
+  t′ = stepsIn after
 
-  same : stepsIn (stored packed count x) ≡ t′
-  same = stored-steps packed count x (room .columns)
+  new-ends : endsIn after ≡ set (endsIn packed) count ends
+  new-ends = stored-ends packed count ends (x .cost) (room .columns)
 
-  pub stored-room : Room (stored packed count x)
+  new-costs : costsIn after ≡ set (costsIn packed) count (x .cost)
+  new-costs = stored-costs packed count ends (x .cost) (room .columns)
+
+  pub stored-room : Room after
   stored-room = record {
-    columns = stored-columns packed count x ∙ room .columns;
-    froms = ap (λ (y : Steps). length (y .from)) same ∙ length-set (t .from) count (x .from) ∙ room .froms;
-    tos = ap (λ (y : Steps). length (y .to)) same ∙ length-set (t .to) count (x .to) ∙ room .tos;
-    costs = ap (λ (y : Steps). length (y .cost)) same ∙ length-set (t .cost) count (x .cost) ∙ room .costs;
+    columns = stored-columns packed count ends (x .cost) ∙ room .columns;
+    ends = ap length new-ends ∙ length-set (endsIn packed) count ends ∙ room .ends;
+    costs = ap length new-costs ∙ length-set (costsIn packed) count (x .cost) ∙ room .costs;
   }
 
+  ends-before : (e : ℕ) → e < count → getD (endsIn after) e 0 ≡ getD (endsIn packed) e 0
+  ends-before e h = ap (λ (l : List ℕ). getD l e 0) new-ends ∙ getD-set-other (endsIn packed) count e ends 0 (omega arith)
+
+  costs-before : (e : ℕ) → e < count → getD (costsIn after) e 0 ≡ getD (costsIn packed) e 0
+  costs-before e h = ap (λ (l : List ℕ). getD l e 0) new-costs ∙ getD-set-other (costsIn packed) count e (x .cost) 0 (omega arith)
+
   stored-before : (e : ℕ) → e < count → heldStep t′ e ≡ heldStep t e
-  stored-before e h =
-      rw (getD-set-other (t .from) count e (x .from) 0 (omega arith), getD-set-other (t .to) count e (x .to) 0 (omega arith), getD-set-other (t .cost) count e (x .cost) 0 (omega arith))
+  stored-before e h = rw (froms-at (endsIn after) e, tos-at (endsIn after) e, ends-before e h, ← (froms-at (endsIn packed) e), ← (tos-at (endsIn packed) e), costs-before e h)
+
+  ends-here : getD (endsIn after) count 0 ≡ ends
+  ends-here = ap (λ (l : List ℕ). getD l count 0) new-ends ∙ getD-set-same (endsIn packed) count ends 0 (omega (arith, room))
+
+  costs-here : getD (costsIn after) count 0 ≡ x .cost
+  costs-here = ap (λ (l : List ℕ). getD l count 0) new-costs ∙ getD-set-same (costsIn packed) count (x .cost) 0 (omega (arith, room))
+
+  from-here : getD (froms (endsIn after)) count 0 ≡ x .from
+  from-here = froms-at (endsIn after) count ∙ ap fromOf ends-here ∙ first-packed 65536 (x .from) (x .to) ends packs small
+
+  to-here : getD (tos (endsIn after)) count 0 ≡ x .to
+  to-here = tos-at (endsIn after) count ∙ ap toOf ends-here ∙ second-packed 65536 (x .from) (x .to) ends packs small
 
   stored-here : heldStep t′ count ≡ x
-  stored-here =
-      rw (getD-set-same (t .from) count (x .from) 0 (omega (arith, room)), getD-set-same (t .to) count (x .to) 0 (omega (arith, room)), getD-set-same (t .cost) count (x .cost) 0 (omega (arith, room)))
+  stored-here = rw (from-here, to-here, costs-here)
 
-  pub held-grown : heldSteps (count + 1) (stepsIn (stored packed count x)) ≡ heldSteps count t ++ x ∷ []
+  pub held-grown : heldSteps (count + 1) t′ ≡ heldSteps count t ++ x ∷ []
   unfolding heldSteps
-  held-grown = ap (heldSteps (count + 1)) same ∙ upto-grown (heldStep t) (heldStep t′) count x stored-before stored-here
+  held-grown = upto-grown (heldStep t) (heldStep t′) count x stored-before stored-here
 
   -- past the new step the columns stay
   module _ (start : List (List ℕ)) where
-    pub from-kept : drop count (t .from) ≡ drop count (stepsIn start .from) → drop (count + 1) (stepsIn (stored packed count x) .from) ≡ drop (count + 1) (stepsIn start .from)
-    from-kept q = ap (λ (y : Steps). drop (count + 1) (y .from)) same ∙ rest-kept count (count + 1) count (x .from) (t .from) (stepsIn start .from) (omega arith) (omega arith) q
+    pub ends-kept : drop count (endsIn packed) ≡ drop count (endsIn start) → drop (count + 1) (endsIn after) ≡ drop (count + 1) (endsIn start)
+    ends-kept q = ap (drop (count + 1)) new-ends ∙ rest-kept count (count + 1) count ends (endsIn packed) (endsIn start) (omega arith) (omega arith) q
 
-    pub to-kept : drop count (t .to) ≡ drop count (stepsIn start .to) → drop (count + 1) (stepsIn (stored packed count x) .to) ≡ drop (count + 1) (stepsIn start .to)
-    to-kept q = ap (λ (y : Steps). drop (count + 1) (y .to)) same ∙ rest-kept count (count + 1) count (x .to) (t .to) (stepsIn start .to) (omega arith) (omega arith) q
-
-    pub cost-kept : drop count (t .cost) ≡ drop count (stepsIn start .cost) → drop (count + 1) (stepsIn (stored packed count x) .cost) ≡ drop (count + 1) (stepsIn start .cost)
-    cost-kept q = ap (λ (y : Steps). drop (count + 1) (y .cost)) same ∙ rest-kept count (count + 1) count (x .cost) (t .cost) (stepsIn start .cost) (omega arith) (omega arith) q
+    pub costs-kept : drop count (costsIn packed) ≡ drop count (costsIn start) → drop (count + 1) (costsIn after) ≡ drop (count + 1) (costsIn start)
+    costs-kept q =
+        ap (drop (count + 1)) new-costs ∙ rest-kept count (count + 1) count (x .cost) (costsIn packed) (costsIn start) (omega arith) (omega arith) q
 
 -- no step stored
 pub nothing-filled : (packed : List (List ℕ)) → Room packed → Filled [] packed packed
 unfolding heldSteps
-nothing-filled packed room = record { held = refl; from-rest = refl; to-rest = refl; cost-rest = refl; room = room }
+nothing-filled packed room = record { held = refl; ends-rest = refl; costs-rest = refl; room = room }

@@ -1,3 +1,4 @@
+pub mod Ends
 pub mod Tables
 pub mod Held
 pub mod Limits

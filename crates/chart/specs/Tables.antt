@@ -1,4 +1,4 @@
--- The chart that stands in a table: from, to and cost by step, a column for each.
+-- The chart that stands in a table: by step the two stages in one number, and the cost, a column for each.
 -- Assumes nothing.
 use Prim.Native.Nat.{ℕ}
 use mathlib.Core.Path.{_≡_}
@@ -10,19 +10,27 @@ use Rattle.definitions.specs.Fields.{two, four, Scan}
 use Rattle.definitions.specs.Charts.{ChartStep, Chart}
 use Rattle.definitions.specs.Charts as charts
 use Rattle.definitions.specs.declared.Shape.{Shape}
+use Rattle.chart.specs.Ends.{froms, tos}
 use Rattle.chart.specs.declared.reader.HeadBody.{HeadBody}
 use Rattle.chart.specs.declared.reader.StepBody.{StepBody}
 use Rattle.chart.specs.declared.reader.StepsRead.{StepsRead}
 use Rattle.chart.specs.declared.reader.ChartRead.{ChartRead}
 
--- the table of steps, by its columns
+-- the columns of the table
+abbrev pub endsIn : List (List ℕ) → List ℕ
+endsIn packed = getD packed 0 []
+
+abbrev pub costsIn : List (List ℕ) → List ℕ
+costsIn packed = getD packed 1 []
+
+-- the steps in it: where each leaves and leads to, and its cost
 pub record Steps : Type 0 where
   pub from : List ℕ
   pub to : List ℕ
   pub cost : List ℕ
 
 abbrev pub stepsIn : List (List ℕ) → Steps
-stepsIn packed = record { from = getD packed 0 []; to = getD packed 1 []; cost = getD packed 2 [] }
+stepsIn packed = record { from = froms (endsIn packed); to = tos (endsIn packed); cost = costsIn packed }
 
 -- the step of a number
 abbrev pub heldStep : Steps → ℕ → ChartStep
@@ -36,19 +44,17 @@ heldSteps count t = map (heldStep t) (upto count)
 abbrev pub chartIn : Shape → Steps → Chart
 chartIn z t = record { stages = z .stages; start = z .start .0; end = z .end .0; steps = heldSteps (z .steps) t }
 
--- the table has three columns of 1,024 entries, as its type says. (Behind a reference to an array a proof does not know the length.)
+-- the table has two columns of 1,024 entries, as its type says. (Behind a reference to an array a proof does not know the length.)
 pub record Room (packed : List (List ℕ)) : Type 0 where
-  pub columns : length packed ≡ 3
-  pub froms : length (stepsIn packed .from) ≡ 1024
-  pub tos : length (stepsIn packed .to) ≡ 1024
-  pub costs : length (stepsIn packed .cost) ≡ 1024
+  pub columns : length packed ≡ 2
+  pub ends : length (endsIn packed) ≡ 1024
+  pub costs : length (costsIn packed) ≡ 1024
 
 -- the table before and after reading (packed′): it begins with the steps that passed, its further entries stay
 pub record Filled (passed : List ChartStep) (packed packed′ : List (List ℕ)) : Type 0 where
   pub held : heldSteps (length passed) (stepsIn packed′) ≡ passed
-  pub from-rest : drop (length passed) (stepsIn packed′ .from) ≡ drop (length passed) (stepsIn packed .from)
-  pub to-rest : drop (length passed) (stepsIn packed′ .to) ≡ drop (length passed) (stepsIn packed .to)
-  pub cost-rest : drop (length passed) (stepsIn packed′ .cost) ≡ drop (length passed) (stepsIn packed .cost)
+  pub ends-rest : drop (length passed) (endsIn packed′) ≡ drop (length passed) (endsIn packed)
+  pub costs-rest : drop (length passed) (costsIn packed′) ≡ drop (length passed) (costsIn packed)
   pub room : Room packed′
 
 -- ---- the readers' answers, from what the definitions give

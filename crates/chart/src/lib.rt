@@ -1,8 +1,10 @@
 // The chart file read into tables.
+mod ends;
 mod reader;
 
+pub use ends::from_at;
+pub use ends::to_at;
 pub use reader::COST;
 pub use reader::ChartRead;
-pub use reader::FROM;
-pub use reader::TO;
+pub use reader::ENDS;
 pub use reader::read_chart;

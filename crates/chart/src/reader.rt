@@ -1,4 +1,4 @@
-// The reader of the chart file: its steps go into a table with three columns.
+// The reader of the chart file: its steps go into a table with two columns.
 ghost use mathlib.Core.Path.{_≡_};
 ghost use lib.ListN.{length};
 ghost use mathlib.Core.Bool.{true, false};
@@ -6,7 +6,9 @@ ghost use Rattle.definitions.specs.Fields.{only, fieldAt};
 ghost use Rattle.definitions.specs.Charts.{headFault, stepFault, badHead, readChart};
 ghost use Rattle.chart.specs.Tables.{Room, Filled, headBody, stepBody, chartAnswer};
 ghost use Rattle.chart.specs.Turns.{Over, Takes};
+use crate::ends::ends_of;
 use definitions::Field;
+use definitions::Stage;
 use fields::field_at;
 use fields::read_u16;
 use fields::read_u32;
@@ -14,12 +16,10 @@ use fields::reader::moved;
 use fields::reader::new;
 use fields::reader::next;
 
-// The columns of the table of steps.
-pub const FROM: usize = 0;
+// The columns of the table of steps: both stages of each in one number, and its cost.
+pub const ENDS: usize = 0;
 
-pub const TO: usize = 1;
-
-pub const COST: usize = 2;
+pub const COST: usize = 1;
 
 // What is wrong with a head's body, 0: nothing.
 fn head_fault(b: &[u8]) -> u8
@@ -138,7 +138,7 @@ fn take_step(
     found: Field,
     read: StepsRead,
     stages: u16,
-    steps: &mut [[u32; 1024]; 3],
+    steps: &mut [[u32; 1024]; 2],
 ) -> StepsRead
     requires { ⌜ found ≡ fieldAt (now file) (read .place) (only 2 8) ⌝ }
     ensures { λ r. ⌜ Takes (now (file .entry)) stages read (now (steps .entry)) (now (steps .exit)) r ⌝ }
@@ -155,8 +155,8 @@ fn take_step(
                 return stopped(count, fault, at);
             }
             let step = step_of(body);
-            steps[FROM][count] = step.from as u32;
-            steps[TO][count] = step.to as u32;
+            let ends = ends_of(Stage(step.from), Stage(step.to));
+            steps[ENDS][count] = ends;
             steps[COST][count] = step.cost;
             StepsRead {
                 number: 0,
@@ -171,7 +171,7 @@ fn take_step(
 
 // The steps from a place on, into the table: a reader walks over them. It is kept in a local, so this thin loop is
 // proved by hand.
-fn read_steps(file: &[u8], first: usize, stages: u16, steps: &mut [[u32; 1024]; 3]) -> StepsRead
+fn read_steps(file: &[u8], first: usize, stages: u16, steps: &mut [[u32; 1024]; 2]) -> StepsRead
     ensures { λ r. ⌜ Over (now (file .entry)) first stages (now (steps .entry)) (now (steps .exit)) r ⌝ }
 {
     let mut reader = moved(new(file), first);
@@ -202,7 +202,7 @@ pub struct ChartRead {
 }
 
 // The chart of a file; its steps go into the table.
-pub fn read_chart(file: &[u8], steps: &mut [[u32; 1024]; 3]) -> ChartRead
+pub fn read_chart(file: &[u8], steps: &mut [[u32; 1024]; 2]) -> ChartRead
     ensures { λ r. ⌜ r ≡ chartAnswer (readChart (now (file .entry))) ⌝ }
     ensures { λ r. ⌜
         (let read = readChart (now (file .entry)) in

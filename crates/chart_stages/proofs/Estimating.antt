@@ -1,7 +1,7 @@
 -- The loops over the steps that leave a stage and over the stages, in terms of the tables: one law for each way on.
 -- Assumes nothing.
 use Prim.Native.Nat.{ℕ, _+_, _-_, _*_, _≤_, _<_}
-use mathlib.Core.Path.{_≡_, _∙_}
+use mathlib.Core.Path.{_≡_, sym, _∙_}
 use mathlib.Core.List.{List}
 use mathlib.Core.Logic.{inl, inr}
 use lib.ListN.{length, getD, set, replicate}
@@ -39,27 +39,28 @@ module _ {t : Steps} {start until : ℕ} {estimates : List ℕ} (x : Leaving t s
   pub none-yet : Shows (WayBy g start (x .s)) NONE
   none-yet = rw (x .begins) (by-none g (x .valid) (x .s))
 
-  module _ {e : ℕ} (from-start : start ≤ e) (turns : e < until) where
+  -- step e, which leads to stage s
+  module _ {e s : ℕ} (from-start : start ≤ e) (turns : e < until) (leads : s ≡ getD (t .to) e 0) where
     leaves : (e < g .count) × (g .from e ≡ x .s)
     leaves = first-leaves g (x .valid) (x .s) e (omega (arith, x .begins)) (omega (arith, x .ends))
 
     held : e < x .z .steps
     held = omega (arith, leaves .0, held-count (x .z .steps) t)
 
-    to-is : g .to e ≡ getD (t .to) e 0
-    to-is = held-to (x .z .steps) t e held
+    to-is : g .to e ≡ s
+    to-is = held-to (x .z .steps) t e held ∙ sym leads
 
     cost-is : g .cost e ≡ getD (t .cost) e 0
     cost-is = held-cost (x .z .steps) t e held
 
-    pub to-below : getD (t .to) e 0 < 256
+    pub to-below : s < 256
     to-below = omega (arith, to-is, x .valid .inside e (leaves .0), x .valid .few-stages)
 
-    pub step-adds : Adds (getD (t .cost) e 0) (getD estimates (getD (t .to) e 0) 0)
+    pub step-adds : Adds (getD (t .cost) e 0) (getD estimates s 0)
     step-adds = rw (← to-is, ← cost-is) (by-adds g (x .valid) (x .s) e (leaves .0) (leaves .1) estimates (x .told))
 
     pub step-turn : {known r : ℕ} → Shows (WayBy g e (x .s)) known
-        → Lowered known (getD (t .cost) e 0) (getD estimates (getD (t .to) e 0) 0) r → Shows (WayBy g (e + 1) (x .s)) r
+        → Lowered known (getD (t .cost) e 0) (getD estimates s 0) r → Shows (WayBy g (e + 1) (x .s)) r
     step-turn {known} {r} k l = by-turn g (x .valid) (x .s) e (leaves .0) (leaves .1) estimates (x .told) known r k (rw (to-is, cost-is) l)
 
   pub steps-done : {e r : ℕ} → e ≡ until → Shows (WayBy g e (x .s)) r → Shows (WayFrom g (x .s)) r

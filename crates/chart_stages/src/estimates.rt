@@ -6,7 +6,8 @@ ghost use Rattle.chart.specs.Tables.{stepsIn, chartIn};
 ghost use Rattle.chart_stages.specs.Estimates.{Adds, Lowered, WayFrom, Shows, EstimateTable};
 ghost use Rattle.chart_stages.specs.Leaving.{Staged, Leaving};
 use chart::COST;
-use chart::TO;
+use chart::ENDS;
+use chart::to_at;
 use definitions::NONE;
 use definitions::Shape;
 use definitions::Stage;
@@ -30,7 +31,7 @@ fn through(known: u32, estimates: &[u32; 256], t: Stage, cost: u32) -> u32
 // The estimate of the stage that the steps from `start` to before `until` leave, by those of the stages after it.
 fn least_through<'a>(
     estimates: &'a [u32; 256],
-    steps: &'a [[u32; 1024]; 3],
+    steps: &'a [[u32; 1024]; 2],
     start: usize,
     until: usize,
 ) -> u32
@@ -42,8 +43,8 @@ fn least_through<'a>(
 {
     let mut best = NONE;
     for e in start..until {
-        let t = steps[TO][e] as u16;
-        best = through(best, estimates, Stage(t), steps[COST][e]);
+        let t = to_at(&steps[ENDS], e);
+        best = through(best, estimates, t, steps[COST][e]);
     }
     best
 }
@@ -52,7 +53,7 @@ fn least_through<'a>(
 // start is ever asked for.
 pub fn chart_estimates<'a>(
     z: Shape,
-    steps: &'a [[u32; 1024]; 3],
+    steps: &'a [[u32; 1024]; 2],
     first: &'a [u16; 257],
 ) -> [u32; 256]
     requires { ⌜ Staged z (stepsIn (now steps)) (now first) ⌝ }

@@ -2,18 +2,20 @@
 ghost use mathlib.Core.Path.{_≡_};
 ghost use Prim.Native.Nat.{_≤_, _<_};
 ghost use lib.ListN.{length};
+ghost use Rattle.chart.specs.Ends.{froms};
 ghost use Rattle.chart_stages.specs.FirstSteps.{SortedTable, FirstTable, Walked};
+use chart::from_at;
 use definitions::Stage;
 
 // The first step from `start` on that leaves stage `s` or a later one; `count` where there is none.
-fn first_from(from: &[u32; 1024], count: usize, start: usize, s: Stage) -> usize
+fn first_from(ends: &[u32; 1024], count: usize, start: usize, s: Stage) -> usize
     requires { ⌜ (start ≤ count) × (count ≤ 1024) ⌝ }
-    ensures { λ r. ⌜ Walked count (now (from .entry)) start (s .0) r ⌝ }
+    ensures { λ r. ⌜ Walked count (froms (now (ends .entry))) start (s .0) r ⌝ }
 {
-    let stage = s.0 as u32;
     let mut e = start;
     while e < count {
-        if stage <= from[e] {
+        let left = from_at(ends, e);
+        if s.0 <= left.0 {
             return e;
         }
         e += 1;
@@ -23,14 +25,14 @@ fn first_from(from: &[u32; 1024], count: usize, start: usize, s: Stage) -> usize
 
 // Fills the table: for each stage, and for the stage count, how many steps leave stages below it, which is the number of
 // its first step.
-pub fn fill_first_steps(first: &mut [u16; 257], from: &[u32; 1024], count: usize, stages: u16)
-    requires { ⌜ SortedTable count (now from) × (stages ≤ 256) × (length (now first) ≡ 257) ⌝ }
-    ensures { λ _. ⌜ FirstTable count stages (now (from .entry)) (now (first .exit)) ⌝ }
+pub fn fill_first_steps(first: &mut [u16; 257], ends: &[u32; 1024], count: usize, stages: u16)
+    requires { ⌜ SortedTable count (froms (now ends)) × (stages ≤ 256) × (length (now first) ≡ 257) ⌝ }
+    ensures { λ _. ⌜ FirstTable count stages (froms (now (ends .entry))) (now (first .exit)) ⌝ }
 {
     let mut e: usize = 0;
     let mut s: u16 = 0;
     while s <= stages {
-        e = first_from(from, count, e, Stage(s));
+        e = first_from(ends, count, e, Stage(s));
         first[s as usize] = e as u16;
         s += 1;
     }

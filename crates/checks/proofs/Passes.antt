@@ -51,6 +51,9 @@ module _ (s t : List ℕ) (work plan : ℕ) (x : ChartRead) (ex : x ≡ chart.ch
     steps-is : x .steps ≡ length (readChart s .chart .steps)
     steps-is = ap (λ (y : ChartRead). y .steps) ex
 
+    pub few-steps : x .steps ≤ 1024
+    few-steps = omega (arith, steps-is, accepted .0 .few)
+
     pub some-stages : 1 ≤ x .stages
     some-stages = omega (arith, stages-is, accepted .0 .some-stages)
 
@@ -106,7 +109,7 @@ module _ (s t : List ℕ) (work plan : ℕ) (x : ChartRead) (ex : x ≡ chart.ch
             (simp (le-leb (workNeed (readChart s .chart) (d .diagram)) work (omega (arith, need-is)), lt-leb (readChart s .chart .stages - 1) plan (omega (arith, stages-is)))))
             (e, λ q. omega arith)
 
-        module _ (steps inner steps₀ inner₀ : List (List ℕ)) (fc : chart.Filled (readChart s .chart .steps) steps₀ steps)
+        module _ (steps steps₀ : List (List ℕ)) (inner inner₀ : List ℕ) (fc : chart.Filled (readChart s .chart .steps) steps₀ steps)
             (fd : files.Filled (readDiagram t (x .steps) .diagram .nodes) inner₀ inner) (z : Shape)
             (zs : z .stages ≡ x .stages) (zb : z .start .0 ≡ x .start) (ze : z .end .0 ≡ x .end) (zc : z .steps ≡ x .steps) (zr : z .root .0 ≡ y .root) (zn : z .nodes ≡ y .nodes) where
           abbrev w : Read

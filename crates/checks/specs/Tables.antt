@@ -19,7 +19,7 @@ pub record Read : Type 0 where
   pub steps : chart.Steps
   pub inner : files.Nodes
 
-abbrev pub read : List (List ℕ) → List (List ℕ) → Read
+abbrev pub read : List (List ℕ) → List ℕ → Read
 read steps inner = record { steps = chart.stepsIn steps; inner = files.nodesIn inner }
 
 -- the chart and the diagram of some sizes that stand in tables
@@ -30,7 +30,7 @@ abbrev pub diagramIn : Shape → Read → Diagram
 diagramIn z t = diagram.heldDiagram (z .root .0) (z .nodes) (t .inner .step) (t .inner .lo) (t .inner .hi)
 
 -- each table has as many entries as its type says. (Behind a reference to an array a proof does not know the length.)
-pub record Room (steps inner : List (List ℕ)) : Type 0 where
+pub record Room (steps : List (List ℕ)) (inner : List ℕ) : Type 0 where
   pub of-steps : chart.Room steps
   pub of-nodes : files.Room inner
 

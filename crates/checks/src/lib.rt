@@ -72,8 +72,8 @@ pub fn load(
     rules: &[u8],
     work: usize,
     plan: usize,
-    steps: &mut [[u32; 1024]; 3],
-    inner: &mut [[u16; 512]; 3],
+    steps: &mut [[u32; 1024]; 2],
+    inner: &mut [u32; 512],
 ) -> Loaded
     requires { ⌜ Room (now steps) (now inner) ⌝ }
     ensures { λ r. ⌜

@@ -1,89 +1,75 @@
 -- The walk over the nodes: one law for each way out of a turn, and what the turns come to.
-use Prim.Native.Nat.{ℕ, _+_, _-_, _<_}
+use Prim.Native.Nat.{ℕ, _+_, _-_, _≤_, _<_}
 use mathlib.Core.Path.{_≡_, refl, sym, _∙_, ap}
 use mathlib.Core.Bool.{true, false}
 use mathlib.Core.List.{List, [], _∷_, _++_}
-use lib.ListN.{length, getD, set, take, drop, length-append, length-set}
-use lib.Seq.{getD-set-other, take-set-le}
+use lib.ListN.{length, getD, set, length-append, length-set, List·getD-append}
+use lib.Seq.{getD-set-same, getD-set-other, getD-append-seam}
 use native.Mathlib.Omega.{arith}
 use mir.Val.{Fits}
 use mir.Syntax.{w64}
-use Rattle.definitions.specs.Fields.{part, only, fieldAt, stopped}
+use Rattle.definitions.specs.Fields.{two, part, only, fieldAt, stopped}
 use Rattle.definitions.specs.Diagrams.{InnerNode, noNode, nodeFault, innerNodeOf, nodeFaultAfter, nodeGrammar, scanNodes}
 use Rattle.definitions.specs.declared.Field.{Field}
 use Rattle.definitions.specs.declared.Field.the-variants.{Absent, Faulty, Whole}
-use Rattle.theory.specs.Basics.{rest-kept}
+use Rattle.theory.specs.Basics.{either, lt-or-le, rest-kept}
 use Rattle.fields.specs.Positions.{only-gives, body-less}
 use Rattle.fields.specs.Scans.{leftOf, left-less, reading-start, reading-done, reading-faulty, reading-bad, reading-step}
 use Rattle.diagram.specs.Tables.{heldNodes}
-use Rattle.diagram.specs.Held.{getD-held, held-grown}
-use Rattle.diagram.specs.Files.{Nodes, nodesIn, nodesHeld, stored, Filled}
+use Rattle.diagram.specs.Words.{wordOf, stepOf, nodeOf, node-word}
+use Rattle.diagram.specs.Held.{step-at, held-grown}
+use Rattle.diagram.specs.Files.{nodesIn, nodesHeld, Filled}
 use Rattle.diagram.specs.Turns.{Halfway, SoFar, Stands, Takes}
 use Rattle.diagram.specs.declared.reader.NodesRead.{NodesRead}
 use Rattle.diagram.specs.Limits.{NodeFits, node-fits, nodeFault-same}
 
--- one more node stored: the columns
-abbrev storedNodes : Nodes → ℕ → InnerNode → Nodes
-storedNodes t n x = record { step = set (t .step) n (x .step); lo = set (t .lo) n (x .lo); hi = set (t .hi) n (x .hi) }
+-- one more node: the table of steps knows it
+known-grown : (before : List InnerNode) (x : InnerNode) (count : ℕ) (step : List ℕ) → length before ≡ count → count < 510 → length step ≡ 512
+    → ((k : ℕ) → 2 ≤ k → k < count + 2 → getD step k 0 ≡ getD before (k - 2) noNode .step)
+    → (k : ℕ) → 2 ≤ k → k < count + 1 + 2 → getD (set step (count + 2) (x .step)) k 0 ≡ getD (before ++ x ∷ []) (k - 2) noNode .step
+known-grown before x count step counted below long known k i l =
+    either (lt-or-le k (count + 2))
+    (λ j. getD-set-other step (count + 2) k (x .step) 0 (λ q. omega arith) ∙ known k i j
+    ∙ ap (λ (y : InnerNode). y .step) (sym (List·getD-append before (x ∷ []) noNode (k - 2) (omega arith))))
+    (λ j. let q : k ≡ count + 2 = omega arith in
+    let r : k - 2 ≡ length before = omega arith in
+    ap (λ (n : ℕ). getD (set step (count + 2) (x .step)) n 0) q ∙ getD-set-same step (count + 2) (x .step) 0 (omega arith)
+    ∙ ap (λ (y : InnerNode). y .step) (sym (getD-append-seam before x [] noNode)) ∙ ap (λ (n : ℕ). getD (before ++ x ∷ []) n noNode .step) (sym r))
 
-stored-nodes : (packed : List (List ℕ)) (n : ℕ) (x : InnerNode) → length packed ≡ 3 → nodesIn (stored packed n x) ≡ storedNodes (nodesIn packed) n x
-stored-nodes [] n x h = absurd (omega arith)
-stored-nodes (a ∷ []) n x h = absurd (omega arith)
-stored-nodes (a ∷ b ∷ []) n x h = absurd (omega arith)
-stored-nodes (a ∷ b ∷ c ∷ r) n x h = refl
+-- a store elsewhere leaves a node's step
+step-kept : (words : List ℕ) (n w i : ℕ) → (i ≡ n → ⊥) → getD (nodesIn (set words n w) .step) i 0 ≡ getD (nodesIn words .step) i 0
+step-kept words n w i other = step-at (set words n w) i ∙ ap stepOf (getD-set-other words n i w 0 other) ∙ sym (step-at words i)
 
-filled-grown : (before : List InnerNode) (x : InnerNode) (count : ℕ) (packed₀ packed : List (List ℕ)) → length before ≡ count → count < 510
-    → Filled before packed₀ packed → Filled (before ++ x ∷ []) packed₀ (stored packed (count + 2) x)
-filled-grown before x count packed₀ packed counted below sofar =
+-- the table of nodes holds it
+filled-grown : (before : List InnerNode) (x : InnerNode) (w count : ℕ) (words₀ words : List ℕ) → nodeOf w ≡ x → length before ≡ count → count < 510
+    → Filled before words₀ words → Filled (before ++ x ∷ []) words₀ (set words (count + 2) w)
+filled-grown before x w count words₀ words is counted below sofar =
     let long : length (before ++ x ∷ []) ≡ count + 1 = omega (arith, length-append before (x ∷ [])) in
-    let held : nodesHeld count packed ≡ before = rw (← counted) (sofar .held) in
-    let same = stored-nodes packed (count + 2) x (sofar .room .columns) in
-    let t = nodesIn packed in
-    let t₀ = nodesIn packed₀ in
+    let held : nodesHeld count words ≡ before = rw (← counted) (sofar .held) in
     record {
       marked = record {
-        at-no = ap (λ (y : Nodes). getD (y .step) 0 0) same ∙ getD-set-other (t .step) (count + 2) 0 (x .step) 0 (λ q. omega arith) ∙ sofar .marked .at-no;
-        at-yes = ap (λ (y : Nodes). getD (y .step) 1 0) same ∙ getD-set-other (t .step) (count + 2) 1 (x .step) 0 (λ q. omega arith) ∙ sofar .marked .at-yes;
+        at-no = step-kept words (count + 2) w 0 (λ q. omega arith) ∙ sofar .marked .at-no;
+        at-yes = step-kept words (count + 2) w 1 (λ q. omega arith) ∙ sofar .marked .at-yes;
       };
-      held = rw long (ap (λ (y : Nodes). heldNodes (count + 1) (y .step) (y .lo) (y .hi)) same
-          ∙ held-grown count (t .step) (t .lo) (t .hi) x (sofar .room .steps) (sofar .room .los) (sofar .room .his) below ∙ ap (λ (l : List InnerNode). l ++ x ∷ []) held);
-      lo-first = ap (λ (y : Nodes). take 2 (y .lo)) same ∙ take-set-le 2 (t .lo) (count + 2) (x .lo) (omega arith) ∙ sofar .lo-first;
-      hi-first = ap (λ (y : Nodes). take 2 (y .hi)) same ∙ take-set-le 2 (t .hi) (count + 2) (x .hi) (omega arith) ∙ sofar .hi-first;
-      step-rest = rw long (ap (λ (y : Nodes). drop (count + 1 + 2) (y .step)) same
-          ∙ rest-kept (count + 2) (count + 1 + 2) (count + 2) (x .step) (t .step) (t₀ .step) (omega arith) (omega arith) (rw (← counted) (sofar .step-rest)));
-      lo-rest = rw long (ap (λ (y : Nodes). drop (count + 1 + 2) (y .lo)) same
-          ∙ rest-kept (count + 2) (count + 1 + 2) (count + 2) (x .lo) (t .lo) (t₀ .lo) (omega arith) (omega arith) (rw (← counted) (sofar .lo-rest)));
-      hi-rest = rw long (ap (λ (y : Nodes). drop (count + 1 + 2) (y .hi)) same
-          ∙ rest-kept (count + 2) (count + 1 + 2) (count + 2) (x .hi) (t .hi) (t₀ .hi) (omega arith) (omega arith) (rw (← counted) (sofar .hi-rest)));
-      room = record {
-        columns = simp length-set (sofar .room .columns);
-        steps = ap (λ (y : Nodes). length (y .step)) same ∙ length-set (t .step) (count + 2) (x .step) ∙ sofar .room .steps;
-        los = ap (λ (y : Nodes). length (y .lo)) same ∙ length-set (t .lo) (count + 2) (x .lo) ∙ sofar .room .los;
-        his = ap (λ (y : Nodes). length (y .hi)) same ∙ length-set (t .hi) (count + 2) (x .hi) ∙ sofar .room .his;
-      };
+      held = rw long (held-grown count words x w is (sofar .room .long) below ∙ ap (λ (l : List InnerNode). l ++ x ∷ []) held);
+      rest = rw long (rest-kept (count + 2) (count + 1 + 2) (count + 2) w words words₀ (omega arith) (omega arith) (rw (← counted) (sofar .rest)));
+      room = record { long = length-set words (count + 2) w ∙ sofar .room .long };
     }
 
 true-false : true ≡ false → ⊥
 true-false e = let z : _≡_ {A = ℕ} 0 1 = cc in omega arith
 
-nodes-start : (s : List ℕ) (first steps : ℕ) (packed : List (List ℕ)) → SoFar s first steps packed packed first 0
+nodes-start : (s : List ℕ) (first steps : ℕ) (step words : List ℕ) → SoFar s first steps step words step words first 0
 unfolding heldNodes
-nodes-start s first steps packed = record {
+nodes-start s first steps step words = record {
   few = omega arith;
-  halfway = λ room marked. record {
+  halfway = λ long. record {
     before = [];
     reading = reading-start s (nodeGrammar steps) first;
     counted = refl;
-    filled = record {
-      marked = marked;
-      held = refl;
-      lo-first = refl;
-      hi-first = refl;
-      step-rest = refl;
-      lo-rest = refl;
-      hi-rest = refl;
-      room = room;
-    };
+    long = long;
+    known = λ k i l. absurd (omega arith);
+    filled = λ room marked few. record { marked = marked; held = refl; rest = refl; room = room };
   };
 }
 
@@ -101,76 +87,93 @@ module _ (v steps count : ℕ) (stepAt : ℕ → ℕ) (b : List ℕ) (judged : v
   pub node-below : count + 2 < 512
   node-below = omega (arith, node-room .few)
 
+  pub node-lo-below : two b 2 < 512
+  node-lo-below = omega (arith, node-room .few, node-room .lo .below)
+
+  pub node-hi-below : two b 4 < 512
+  node-hi-below = omega (arith, node-room .few, node-room .hi .below)
+
+  node-is : steps ≤ 1024 → nodeOf (wordOf (innerNodeOf b)) ≡ innerNodeOf b
+  node-is few = node-word (innerNodeOf b) (omega (arith, node-room .exists)) node-lo-below node-hi-below
+
 -- the ways out of a turn from t
-module _ (s : List ℕ) (steps : ℕ) (t : NodesRead) (packed : List (List ℕ)) (f : Field) (given : f ≡ fieldAt s (t .place) (only 18 6)) where
+module _ (s : List ℕ) (steps : ℕ) (t : NodesRead) (step words : List ℕ) (f : Field) (given : f ≡ fieldAt s (t .place) (only 18 6)) where
   -- the walk stops
   stops : (number place : ℕ) (x : NodesRead) → x ≡ record { number = number; place = place; nodes = t .nodes; going = false }
-      → ((first : ℕ) (packed₀ : List (List ℕ)) (h : Halfway s first steps packed₀ packed (t .place) (t .nodes)) → scanNodes s steps first ≡ stopped (h .before) number place)
-      → Takes s steps t packed packed x
+      → ((first : ℕ) (words₀ : List ℕ) (h : Halfway s first steps words₀ step words (t .place) (t .nodes)) → scanNodes s steps first ≡ stopped (h .before) number place)
+      → Takes s steps t step words step words x
   stops number place x e is = rw e (record {
     nearer = λ g. absurd (true-false (sym g));
-    stands = λ first packed₀ sofar. record {
+    stands = λ first step₀ words₀ sofar. record {
       goes = λ g. absurd (true-false (sym g));
       over = λ g. record {
         few = sofar .few;
-        answer = λ room marked. let h = sofar .halfway room marked in rw (is first packed₀ h, h .counted);
-        filled = λ room marked. let h = sofar .halfway room marked in rw (is first packed₀ h) (h .filled);
+        answer = λ long. let h = sofar .halfway long in rw (is first words₀ h, h .counted);
+        filled = λ long room marked few. let h = sofar .halfway long in rw (is first words₀ h) (h .filled room marked few);
       };
     };
   })
 
-  pub take-done : f ≡ Absent → (x : NodesRead) → x ≡ record { number = 0; place = 0; nodes = t .nodes; going = false } → Takes s steps t packed packed x
-  take-done found x e = stops 0 0 x e (λ first packed₀ h. reading-done s (nodeGrammar steps) first (t .place) (h .before) (h .reading) f given found)
+  pub take-done : f ≡ Absent → (x : NodesRead) → x ≡ record { number = 0; place = 0; nodes = t .nodes; going = false } → Takes s steps t step words step words x
+  take-done found x e = stops 0 0 x e (λ first words₀ h. reading-done s (nodeGrammar steps) first (t .place) (h .before) (h .reading) f given found)
 
-  pub take-faulty : (k : ℕ) → f ≡ Faulty k → (x : NodesRead) → x ≡ record { number = k; place = t .place; nodes = t .nodes; going = false } → Takes s steps t packed packed x
+  pub take-faulty : (k : ℕ) → f ≡ Faulty k → (x : NodesRead) → x ≡ record { number = k; place = t .place; nodes = t .nodes; going = false } → Takes s steps t step words step words x
   take-faulty k found x e =
-      stops k (t .place) x e (λ first packed₀ h. reading-faulty s (nodeGrammar steps) first (t .place) (h .before) (h .reading) f given k found)
+      stops k (t .place) x e (λ first words₀ h. reading-faulty s (nodeGrammar steps) first (t .place) (h .before) (h .reading) f given k found)
 
-  module _ (a e : ℕ) (found : f ≡ Whole a e) (v : ℕ) (judged : v ≡ nodeFault steps (λ k. getD (nodesIn packed .step) k 0) (t .nodes) (part s a e)) where
-    -- the step table holds the steps of the nodes before
-    same-fault : (first : ℕ) (packed₀ : List (List ℕ)) (h : Halfway s first steps packed₀ packed (t .place) (t .nodes)) → v ≡ nodeFaultAfter steps (h .before) (part s a e)
-    same-fault first packed₀ h =
-        let held : nodesHeld (t .nodes) packed ≡ h .before = rw (← h .counted) (h .filled .held) in
+  module _ (a e : ℕ) (found : f ≡ Whole a e) (v : ℕ) (judged : v ≡ nodeFault steps (λ k. getD step k 0) (t .nodes) (part s a e)) where
+    -- the table of steps has those of the nodes before
+    same-fault : (first : ℕ) (words₀ : List ℕ) (h : Halfway s first steps words₀ step words (t .place) (t .nodes)) → v ≡ nodeFaultAfter steps (h .before) (part s a e)
+    same-fault first words₀ h =
         rw (h .counted)
-        (judged ∙ nodeFault-same steps (λ k. getD (nodesIn packed .step) k 0) (λ k. getD (h .before) (k - 2) noNode .step) (t .nodes) (part s a e)
-        (λ k i l. ap (λ (x : InnerNode). x .step) (sym (getD-held (t .nodes) (nodesIn packed .step) (nodesIn packed .lo) (nodesIn packed .hi) k i l)) ∙ ap (λ (x : List InnerNode). getD x (k - 2) noNode .step) held))
+        (judged ∙ nodeFault-same steps (λ k. getD step k 0) (λ k. getD (h .before) (k - 2) noNode .step) (t .nodes) (part s a e) (h .known))
 
-    pub take-bad : (v ≡ 0 → ⊥) → (x : NodesRead) → x ≡ record { number = v; place = t .place; nodes = t .nodes; going = false } → Takes s steps t packed packed x
+    pub take-bad : (v ≡ 0 → ⊥) → (x : NodesRead) → x ≡ record { number = v; place = t .place; nodes = t .nodes; going = false } → Takes s steps t step words step words x
     take-bad fails x q =
-        stops v (t .place) x q (λ first packed₀ h.
-        reading-bad s (nodeGrammar steps) first (t .place) (h .before) (h .reading) f given a e found (only-gives 18 6 (getD s (t .place) 0)) v (same-fault first packed₀ h) fails)
+        stops v (t .place) x q (λ first words₀ h.
+        reading-bad s (nodeGrammar steps) first (t .place) (h .before) (h .reading) f given a e found (only-gives 18 6 (getD s (t .place) 0)) v (same-fault first words₀ h) fails)
 
-    pub take-node : v ≡ 0 → (packed′ : List (List ℕ)) → packed′ ≡ stored packed (t .nodes + 2) (innerNodeOf (part s a e))
-        → Takes s steps t packed packed′ (record { number = 0; place = e; nodes = t .nodes + 1; going = true })
-    take-node passes packed′ is = rw is (record {
-      nearer = λ g. body-less s (t .place) 18 6 a e f given found;
-      stands = λ first packed₀ sofar. record {
-        goes = λ g. record {
-          few = omega (arith, node-room v steps (t .nodes) _ (part s a e) judged passes .few);
-          halfway = λ room marked.
-              let h = sofar .halfway room marked in
-              record {
-                before = h .before ++ innerNodeOf (part s a e) ∷ [];
-                reading = reading-step s (nodeGrammar steps) first (t .place) (h .before) (h .reading) f given a e found (only-gives 18 6 (getD s (t .place) 0)) v (same-fault first packed₀ h) passes;
-                counted = omega (arith, length-append (h .before) (innerNodeOf (part s a e) ∷ []), h .counted);
-                filled = filled-grown (h .before) (innerNodeOf (part s a e)) (t .nodes) packed₀ packed (h .counted) (node-room v steps (t .nodes) _ (part s a e) judged passes .few) (h .filled);
-              };
+    module _ (passes : v ≡ 0) where
+      abbrev x : InnerNode
+      x = innerNodeOf (part s a e)
+
+      fits : NodeFits steps (λ k. getD step k 0) (t .nodes) (part s a e)
+      fits = node-room v steps (t .nodes) _ (part s a e) judged passes
+
+      pub take-node : (step′ words′ : List ℕ) → step′ ≡ set step (t .nodes + 2) (x .step) → words′ ≡ set words (t .nodes + 2) (wordOf x)
+          → Takes s steps t step words step′ words′ (record { number = 0; place = e; nodes = t .nodes + 1; going = true })
+      take-node step′ words′ es ew = rw (es, ew) (record {
+        nearer = λ g. body-less s (t .place) 18 6 a e f given found;
+        stands = λ first step₀ words₀ sofar. record {
+          goes = λ g. record {
+            few = omega (arith, fits .few);
+            halfway = λ long.
+                let h = sofar .halfway long in
+                record {
+                  before = h .before ++ x ∷ [];
+                  reading = reading-step s (nodeGrammar steps) first (t .place) (h .before) (h .reading) f given a e found (only-gives 18 6 (getD s (t .place) 0)) v (same-fault first words₀ h) passes;
+                  counted = omega (arith, length-append (h .before) (x ∷ []), h .counted);
+                  long = length-set step (t .nodes + 2) (x .step) ∙ h .long;
+                  known = known-grown (h .before) x (t .nodes) step (h .counted) (fits .few) (h .long) (h .known);
+                  filled = λ room marked few.
+                      filled-grown (h .before) x (wordOf x) (t .nodes) words₀ words (node-is v steps (t .nodes) _ (part s a e) judged passes few) (h .counted) (fits .few) (h .filled room marked few);
+                };
+          };
+          over = λ g. absurd (true-false g);
         };
-        over = λ g. absurd (true-false g);
-      };
-    })
+      })
 
 -- ---- the whole walk
 
-pub stands-begin : (s : List ℕ) (first steps : ℕ) (packed : List (List ℕ)) → Stands s first steps packed packed (record { number = 0; place = first; nodes = 0; going = true })
-stands-begin s first steps packed = record { goes = λ g. nodes-start s first steps packed; over = λ g. absurd (true-false g) }
+pub stands-begin : (s : List ℕ) (first steps : ℕ) (step words : List ℕ) → Stands s first steps step words step words (record { number = 0; place = first; nodes = 0; going = true })
+stands-begin s first steps step words = record { goes = λ g. nodes-start s first steps step words; over = λ g. absurd (true-false g) }
 
-pub take-turn : (s : List ℕ) (first steps : ℕ) (packed₀ packed packed′ : List (List ℕ)) (t r : NodesRead) → Stands s first steps packed₀ packed t → t .going ≡ true
-    → Takes s steps t packed packed′ r → Stands s first steps packed₀ packed′ r
-take-turn s first steps packed₀ packed packed′ t r g going e = e .stands first packed₀ (g .goes going)
+pub take-turn : (s : List ℕ) (first steps : ℕ) (step₀ words₀ step words step′ words′ : List ℕ) (t r : NodesRead) → Stands s first steps step₀ words₀ step words t → t .going ≡ true
+    → Takes s steps t step words step′ words′ r → Stands s first steps step₀ words₀ step′ words′ r
+take-turn s first steps step₀ words₀ step words step′ words′ t r g going e = e .stands first step₀ words₀ (g .goes going)
 
-pub take-nearer : (s : List ℕ) (steps : ℕ) (packed packed′ : List (List ℕ)) (t r : NodesRead) → t .going ≡ true → Takes s steps t packed packed′ r
+pub take-nearer : (s : List ℕ) (steps : ℕ) (step words step′ words′ : List ℕ) (t r : NodesRead) → t .going ≡ true → Takes s steps t step words step′ words′ r
     → leftOf (r .going) (length s - r .place) < leftOf (t .going) (length s - t .place)
-take-nearer s steps packed packed′ t r going e = rw going (left-less (r .going) (length s - r .place) (length s - t .place) (e .nearer))
+take-nearer s steps step words step′ words′ t r going e = rw going (left-less (r .going) (length s - r .place) (length s - t .place) (e .nearer))
 
 pub ruleset take-laws = (take-done, take-faulty, take-bad, node-own, node-below, node-more, take-node)

@@ -1,15 +1,15 @@
 -- One law for each way out of `child_fits`, of `node_fault` and of `store_node`, with the tests of the code as premises.
 use Prim.Native.Nat.{ℕ, _+_, _≤_, _<_}
-use mathlib.Core.Path.{_≡_}
+use mathlib.Core.Path.{_≡_, ap}
 use mathlib.Core.Bool.{Bool, true, false, not}
 use mathlib.Core.List.{List}
 use lib.Dec.{ltb}
-use lib.ListN.{getD}
+use lib.ListN.{getD, set}
 use Rattle.definitions.specs.Basics.{pick}
 use Rattle.definitions.specs.Fields.{two}
 use Rattle.definitions.specs.Diagrams.{childFits, nodeFault, innerNodeOf}
 use Rattle.fields.specs.Choices.{tests}
-use Rattle.diagram.specs.Files.{stored}
+use Rattle.diagram.specs.Words.{wordOf}
 
 module _ (stepAt : ℕ → ℕ) (own key child : ℕ) where
   pub child-past : own ≤ child → false ≡ childFits stepAt own key child
@@ -50,6 +50,12 @@ module _ (b : List ℕ) (steps : ℕ) (stepAt : ℕ → ℕ) (count : ℕ) where
 
 pub ruleset node-value-laws = (node-full, node-step, node-lo, node-hi, node-good)
 
-pub storing : (b : List ℕ) (own key low high : ℕ) (packed : List (List ℕ)) → key ≡ two b 0 → low ≡ two b 2 → high ≡ two b 4
-    → stored packed own (record { step = key; lo = low; hi = high }) ≡ stored packed own (innerNodeOf b)
-storing b own key low high packed ek el eh = rw (ek, el, eh)
+module _ (b : List ℕ) (own key low high : ℕ) (ek : key ≡ two b 0) where
+  pub storing-step : (step : List ℕ) → set step own key ≡ set step own (two b 0)
+  storing-step step = ap (set step own) ek
+
+  pub storing-word : (words : List ℕ) (w : ℕ) → w ≡ wordOf (record { step = key; lo = low; hi = high }) → low ≡ two b 2 → high ≡ two b 4
+      → set words own w ≡ set words own (wordOf (innerNodeOf b))
+  storing-word words w ew el eh = ap (set words own) (rw (← ek, ← el, ← eh) ew)
+
+pub ruleset storing = (storing-step, storing-word)

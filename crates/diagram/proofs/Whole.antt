@@ -1,8 +1,8 @@
 -- One law for each way out of `read_diagram`, and what it asks of the head's body.
 use Prim.Native.Nat.{ℕ, _+_, _≤_, _<_}
 use mathlib.Core.Path.{_≡_, refl, sym, _∙_, ap}
-use mathlib.Core.List.{List, [], _∷_}
-use lib.ListN.{length, getD, set, take, drop, length-set}
+use mathlib.Core.List.{List, []}
+use lib.ListN.{length, set, length-set}
 use lib.Seq.{getD-set-same, getD-set-other, drop-set-lt}
 use native.Mathlib.Omega.{arith}
 use borrow.Author.Tests.{eq-eqb, ne-eqb, le-leb, lt-leb}
@@ -12,75 +12,46 @@ use Rattle.definitions.specs.Diagrams.{InnerNode, diagramRead, withNodes, scanN
 use Rattle.definitions.specs.declared.Field.{Field}
 use Rattle.definitions.specs.declared.Field.the-variants.{Absent, Faulty, Whole}
 use Rattle.fields.specs.Positions.{body-length}
-use Rattle.diagram.specs.Tables.{heldNodes, Marked}
-use Rattle.diagram.specs.Files.{Nodes, nodesIn, Room, Filled, nodesAnswer, diagramAnswer, Reads}
+use Rattle.diagram.specs.Tables.{heldNodes, MARK, Marked}
+use Rattle.diagram.specs.Words.{wordOf, stepOf, node-word}
+use Rattle.diagram.specs.Files.{nodesIn, Room, Filled, nodesAnswer, diagramAnswer, Reads}
+use Rattle.diagram.specs.Held.{step-at}
 use Rattle.diagram.specs.Turns.{Over}
 use Rattle.diagram.specs.declared.reader.NodesRead.{NodesRead}
 use Rattle.diagram.specs.declared.reader.DiagramRead.{DiagramRead}
 
--- the table with the marks of its step column
-abbrev marks : List (List ℕ) → List (List ℕ)
-marks packed =
-    let one = set packed 0 (set (getD packed 0 []) 0 65535) in
-    set one 0 (set (getD one 0 []) 1 65535)
+-- the table with its entries 0 and 1 marked
+abbrev marks : List ℕ → ℕ → List ℕ
+marks words w = set (set words 0 w) 1 w
 
--- its columns
-abbrev marksNodes : Nodes → Nodes
-marksNodes t = record { step = set (set (t .step) 0 65535) 1 65535; lo = t .lo; hi = t .hi }
+abbrev leaf : InnerNode
+leaf = record { step = MARK; lo = 0; hi = 0 }
 
-marks-nodes : (packed : List (List ℕ)) → length packed ≡ 3 → nodesIn (marks packed) ≡ marksNodes (nodesIn packed)
-marks-nodes [] h = absurd (omega arith)
-marks-nodes (a ∷ []) h = absurd (omega arith)
-marks-nodes (a ∷ b ∷ []) h = absurd (omega arith)
-marks-nodes (a ∷ b ∷ c ∷ r) h = refl
+module _ (words : List ℕ) (w : ℕ) (is : w ≡ wordOf leaf) (room : Room words) where
+  marks-room : Room (marks words w)
+  marks-room = record { long = length-set (set words 0 w) 1 w ∙ length-set words 0 w ∙ room .long }
 
-module _ (packed : List (List ℕ)) (room : Room packed) where
-  abbrev t : Nodes
-  t = nodesIn packed
+  mark-is : stepOf w ≡ MARK
+  mark-is = ap stepOf is ∙ ap (λ (x : InnerNode). x .step) (node-word leaf (omega arith) (omega arith) (omega arith))
 
-  same : nodesIn (marks packed) ≡ marksNodes t
-  same = marks-nodes packed (room .columns)
-
-  marks-room : Room (marks packed)
-  marks-room = record {
-    columns = simp length-set (room .columns);
-    steps = ap (λ (y : Nodes). length (y .step)) same ∙ length-set (set (t .step) 0 65535) 1 65535 ∙ length-set (t .step) 0 65535 ∙ room .steps;
-    los = ap (λ (y : Nodes). length (y .lo)) same ∙ room .los;
-    his = ap (λ (y : Nodes). length (y .hi)) same ∙ room .his;
-  }
-
-  marks-marked : Marked (nodesIn (marks packed) .step)
+  marks-marked : Marked (nodesIn (marks words w) .step)
   marks-marked = record {
-    at-no = ap (λ (y : Nodes). getD (y .step) 0 0) same ∙ getD-set-other (set (t .step) 0 65535) 1 0 65535 0 (λ q. omega arith) ∙ getD-set-same (t .step) 0 65535 0 (omega (arith, room .steps));
-    at-yes = ap (λ (y : Nodes). getD (y .step) 1 0) same ∙ getD-set-same (set (t .step) 0 65535) 1 65535 0 (omega (arith, room .steps, length-set (t .step) 0 65535));
+    at-no = step-at (marks words w) 0
+        ∙ ap stepOf (getD-set-other (set words 0 w) 1 0 w 0 (λ q. omega arith) ∙ getD-set-same words 0 w 0 (omega (arith, room .long))) ∙ mark-is;
+    at-yes = step-at (marks words w) 1 ∙ ap stepOf (getD-set-same (set words 0 w) 1 w 0 (omega (arith, room .long, length-set words 0 w))) ∙ mark-is;
   }
 
-  marks-filled : (passed : List InnerNode) (packed′ : List (List ℕ)) → Filled passed (marks packed) packed′ → Filled passed packed packed′
-  marks-filled passed packed′ f = record {
+  marks-filled : (passed : List InnerNode) (words′ : List ℕ) → Filled passed (marks words w) words′ → Filled passed words words′
+  marks-filled passed words′ f = record {
     marked = f .marked;
     held = f .held;
-    lo-first = f .lo-first ∙ ap (λ (y : Nodes). take 2 (y .lo)) same;
-    hi-first = f .hi-first ∙ ap (λ (y : Nodes). take 2 (y .hi)) same;
-    step-rest =
-        f .step-rest ∙ ap (λ (y : Nodes). drop (length passed + 2) (y .step)) same
-        ∙ drop-set-lt (length passed + 2) (set (t .step) 0 65535) 1 65535 (omega arith) ∙ drop-set-lt (length passed + 2) (t .step) 0 65535 (omega arith);
-    lo-rest = f .lo-rest ∙ ap (λ (y : Nodes). drop (length passed + 2) (y .lo)) same;
-    hi-rest = f .hi-rest ∙ ap (λ (y : Nodes). drop (length passed + 2) (y .hi)) same;
+    rest = f .rest ∙ drop-set-lt (length passed + 2) (set words 0 w) 1 w (omega arith) ∙ drop-set-lt (length passed + 2) words 0 w (omega arith);
     room = f .room;
   }
 
-  none-filled : Filled [] packed (marks packed)
+  none-filled : Filled [] words (marks words w)
   unfolding heldNodes
-  none-filled = marks-filled [] (marks packed) (record {
-    marked = marks-marked;
-    held = refl;
-    lo-first = refl;
-    hi-first = refl;
-    step-rest = refl;
-    lo-rest = refl;
-    hi-rest = refl;
-    room = marks-room;
-  })
+  none-filled = marks-filled [] (marks words w) (record { marked = marks-marked; held = refl; rest = refl; room = marks-room })
 
 -- what `withNodes` chooses
 module _ (root : ℕ) (x : Scan InnerNode) where
@@ -96,26 +67,23 @@ module _ (root : ℕ) (x : Scan InnerNode) where
   unfolding pick
   with-good z l = simp (eq-eqb (x .number) 0 z, lt-leb (length (x .passed) + 2) root l)
 
-module _ (s : List ℕ) (steps : ℕ) (packed : List (List ℕ)) (r : Field) (given : r ≡ fieldAt s 0 (only 17 2)) where
+module _ (s : List ℕ) (steps : ℕ) (words : List ℕ) (w : ℕ) (is : w ≡ wordOf leaf) (r : Field) (given : r ≡ fieldAt s 0 (only 17 2)) where
   -- a head that is not whole
   no-head : (number : ℕ) (v : DiagramRead) → v ≡ diagramAnswer (diagramRead number 0 0 []) → readDiagram s steps ≡ diagramRead number 0 0 []
-      → Reads s steps packed (marks packed) v
-  no-head number v e q = record { answer = λ room. rw q e; filled = λ room. rw q (none-filled packed room) }
+      → Reads s steps words (marks words w) v
+  no-head number v e q = record { answer = rw q e; filled = λ room few. rw q (none-filled words w is room) }
 
-  pub whole-absent : r ≡ Absent → (v : DiagramRead) → v ≡ diagramAnswer (diagramRead 2 0 0 []) → Reads s steps packed (marks packed) v
+  pub whole-absent : r ≡ Absent → (v : DiagramRead) → v ≡ diagramAnswer (diagramRead 2 0 0 []) → Reads s steps words (marks words w) v
   unfolding readDiagram onField
   whole-absent found v e = no-head 2 v e (rw (← given, found))
 
-  pub whole-faulty : (k : ℕ) → r ≡ Faulty k → (v : DiagramRead) → v ≡ diagramAnswer (diagramRead k 0 0 []) → Reads s steps packed (marks packed) v
+  pub whole-faulty : (k : ℕ) → r ≡ Faulty k → (v : DiagramRead) → v ≡ diagramAnswer (diagramRead k 0 0 []) → Reads s steps words (marks words w) v
   unfolding readDiagram onField
   whole-faulty k found v e = no-head k v e (rw (← given, found))
 
   module _ (a e : ℕ) (found : r ≡ Whole a e) where
-    pub whole-word : 0 + 1 < length (part s a e)
-    whole-word = omega (arith, body-length s 0 17 2 a e r given found)
-
-    module _ (root : ℕ) (ro : root ≡ two (part s a e) 0) (packed′ : List (List ℕ)) (x : NodesRead)
-        (reads : Over s e steps (marks packed) packed′ x) where
+    module _ (root : ℕ) (ro : root ≡ two (part s a e) 0) (step words′ : List ℕ) (long : length step ≡ 512) (x : NodesRead)
+        (reads : Over s e steps step (marks words w) words′ x) where
       read-is : readDiagram s steps ≡ withNodes root (scanNodes s steps e)
       unfolding readDiagram onField
       read-is = rw (← given, found, ro)
@@ -123,26 +91,29 @@ module _ (s : List ℕ) (steps : ℕ) (packed : List (List ℕ)) (r : Field) (gi
       -- the answer, where the definition's choice is known
       chosen : (number place : ℕ)
           → (x ≡ nodesAnswer (scanNodes s steps e) → withNodes root (scanNodes s steps e) ≡ diagramRead number place root (scanNodes s steps e .passed))
-          → Reads s steps packed packed′ (record { number = number; place = place; root = root; nodes = x .nodes })
-      chosen number place choice = record {
-        answer = λ room.
-            let y = reads .answer (marks-room packed room) (marks-marked packed room) in
-            rw (read-is, choice y, y);
-        filled = λ room.
-            let y = reads .answer (marks-room packed room) (marks-marked packed room) in
-            rw (read-is, choice y)
-            (marks-filled packed room (scanNodes s steps e .passed) packed′ (reads .filled (marks-room packed room) (marks-marked packed room)));
-      }
+          → Reads s steps words words′ (record { number = number; place = place; root = root; nodes = x .nodes })
+      chosen number place choice =
+          let y = reads .answer long in
+          record {
+            answer = rw (read-is, choice y, y);
+            filled = λ room few.
+                rw (read-is, choice y)
+                (marks-filled words w is room (scanNodes s steps e .passed) words′ (reads .filled long (marks-room words w is room) (marks-marked words w is room) few));
+          }
 
-      pub whole-bad : (x .number ≡ 0 → ⊥) → Reads s steps packed packed′ (record { number = x .number; place = x .place; root = root; nodes = x .nodes })
+      pub whole-bad : (x .number ≡ 0 → ⊥) → Reads s steps words words′ (record { number = x .number; place = x .place; root = root; nodes = x .nodes })
       whole-bad n = chosen (x .number) (x .place) (λ y. rw y (with-bad root (scanNodes s steps e) (λ z. n (ap (λ (v : NodesRead). v .number) y ∙ z))))
 
-      pub whole-root : x .number ≡ 0 → x .nodes + 2 ≤ root → Reads s steps packed packed′ (record { number = 6; place = 0; root = root; nodes = x .nodes })
+      pub whole-root : x .number ≡ 0 → x .nodes + 2 ≤ root → Reads s steps words words′ (record { number = 6; place = 0; root = root; nodes = x .nodes })
       whole-root z l =
           chosen 6 0 (λ y. with-root root (scanNodes s steps e) (sym (ap (λ (v : NodesRead). v .number) y) ∙ z) (omega (arith, ap (λ (v : NodesRead). v .nodes) y)))
 
-      pub whole-good : x .number ≡ 0 → root < x .nodes + 2 → Reads s steps packed packed′ (record { number = 0; place = 0; root = root; nodes = x .nodes })
+      pub whole-good : x .number ≡ 0 → root < x .nodes + 2 → Reads s steps words words′ (record { number = 0; place = 0; root = root; nodes = x .nodes })
       whole-good z l =
           chosen 0 0 (λ y. with-good root (scanNodes s steps e) (sym (ap (λ (v : NodesRead). v .number) y) ∙ z) (omega (arith, ap (λ (v : NodesRead). v .nodes) y)))
+
+-- the head's body holds its number
+pub whole-word : (s : List ℕ) (r : Field) → r ≡ fieldAt s 0 (only 17 2) → (a e : ℕ) → r ≡ Whole a e → 0 + 1 < length (part s a e)
+whole-word s r given a e found = omega (arith, body-length s 0 17 2 a e r given found)
 
 pub ruleset whole-laws = (whole-absent, whole-faulty, whole-word, whole-bad, whole-root, whole-good)

@@ -3,13 +3,15 @@
 use Prim.Native.Nat.{ℕ, _+_, _-_, _≤_, _<_}
 use mathlib.Core.Path.{_≡_, sym, _∙_, ap}
 use mathlib.Core.List.{List, [], _∷_, _++_}
-use lib.ListN.{length, getD, set}
+use lib.ListN.{length, getD, set, List·getD-map}
 use lib.Seq.{getD-set-same, getD-set-other}
 use native.Mathlib.Omega.{arith}
 use Rattle.definitions.specs.Diagrams.{Diagram, InnerNode, noNode, size, inner}
 use Rattle.theory.specs.Limits.{Ordered}
 use Rattle.theory.specs.Basics.{length-map-run, getD-map-upto, upto-grown}
 use Rattle.diagram.specs.Tables.{heldNode, heldNodes, heldDiagram, Marked, Held}
+use Rattle.diagram.specs.Words.{stepOf, loOf, hiOf, nodeOf}
+use Rattle.diagram.specs.Files.{nodesIn, nodesHeld}
 
 module _ (count : ℕ) (step lo hi : List ℕ) where
   pub length-held : length (heldNodes count step lo hi) ≡ count
@@ -30,30 +32,38 @@ module _ (count : ℕ) (step lo hi : List ℕ) where
     marked = m;
   }
 
+-- what stands at a number, out of the entry there
+module _ (words : List ℕ) (n : ℕ) where
+  pub step-at : getD (nodesIn words .step) n 0 ≡ stepOf (getD words n 0)
+  step-at = List·getD-map stepOf words n 0
+
+  pub lo-at : getD (nodesIn words .lo) n 0 ≡ loOf (getD words n 0)
+  lo-at = List·getD-map loOf words n 0
+
+  pub hi-at : getD (nodesIn words .hi) n 0 ≡ hiOf (getD words n 0)
+  hi-at = List·getD-map hiOf words n 0
+
+  node-at : heldNode (nodesIn words .step) (nodesIn words .lo) (nodesIn words .hi) n ≡ nodeOf (getD words n 0)
+  node-at = rw (step-at, lo-at, hi-at)
+
 -- one more node stored
-module _ (count : ℕ) (step lo hi : List ℕ) (x : InnerNode) (ls : length step ≡ 512) (ll : length lo ≡ 512) (lh : length hi ≡ 512) (below : count < 510) where
-  abbrev stored : (ℕ → InnerNode)
-  stored n = heldNode (set step (count + 2) (x .step)) (set lo (count + 2) (x .lo)) (set hi (count + 2) (x .hi)) n
+module _ (count : ℕ) (words : List ℕ) (x : InnerNode) (w : ℕ) (is : nodeOf w ≡ x) (long : length words ≡ 512) (below : count < 510) where
+  abbrev nodeIn : List ℕ → ℕ → InnerNode
+  nodeIn l n = heldNode (nodesIn l .step) (nodesIn l .lo) (nodesIn l .hi) n
 
-  stored-before : (i : ℕ) → i < count → stored (i + 2) ≡ heldNode step lo hi (i + 2)
+  abbrev stored : List ℕ
+  stored = set words (count + 2) w
+
+  stored-before : (i : ℕ) → i < count → nodeIn stored (i + 2) ≡ nodeIn words (i + 2)
   stored-before i l =
-      rw (
-        getD-set-other step (count + 2) (i + 2) (x .step) 0 (λ q. omega arith),
-        getD-set-other lo (count + 2) (i + 2) (x .lo) 0 (λ q. omega arith),
-        getD-set-other hi (count + 2) (i + 2) (x .hi) 0 (λ q. omega arith),
-      )
+      node-at stored (i + 2) ∙ ap nodeOf (getD-set-other words (count + 2) (i + 2) w 0 (λ q. omega arith)) ∙ sym (node-at words (i + 2))
 
-  stored-here : stored (count + 2) ≡ x
-  stored-here =
-      rw (
-        getD-set-same step (count + 2) (x .step) 0 (omega arith),
-        getD-set-same lo (count + 2) (x .lo) 0 (omega arith),
-        getD-set-same hi (count + 2) (x .hi) 0 (omega arith),
-      )
+  stored-here : nodeIn stored (count + 2) ≡ x
+  stored-here = node-at stored (count + 2) ∙ ap nodeOf (getD-set-same words (count + 2) w 0 (omega arith)) ∙ is
 
-  pub held-grown : heldNodes (count + 1) (set step (count + 2) (x .step)) (set lo (count + 2) (x .lo)) (set hi (count + 2) (x .hi)) ≡ heldNodes count step lo hi ++ x ∷ []
+  pub held-grown : nodesHeld (count + 1) stored ≡ nodesHeld count words ++ x ∷ []
   unfolding heldNodes
-  held-grown = upto-grown (λ (i : ℕ). heldNode step lo hi (i + 2)) (λ (i : ℕ). stored (i + 2)) count x stored-before stored-here
+  held-grown = upto-grown (λ (i : ℕ). nodeIn words (i + 2)) (λ (i : ℕ). nodeIn stored (i + 2)) count x stored-before stored-here
 
 module _ (d : Diagram) (step lo hi : List ℕ) (held : Held d step lo hi) where
   module _ (n : ℕ) (h : 2 ≤ n) (l : n < size d) where

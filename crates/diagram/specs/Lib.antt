@@ -1,6 +1,7 @@
 pub mod Tables
-pub mod Held
+pub mod Words
 pub mod Files
+pub mod Held
 pub mod Turns
 pub mod Limits
 pub mod Accepted

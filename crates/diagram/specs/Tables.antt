@@ -1,4 +1,4 @@
--- A diagram's inner nodes in three tables, each indexed by the node's number. Entries 0 and 1 are no inner node's.
+-- A diagram's inner nodes in three lists, of steps, los and his, each indexed by the node's number. Entries 0 and 1 are no inner node's.
 -- Assumes nothing.
 use Prim.Native.Nat.{ℕ, _+_, _≤_}
 use mathlib.Core.Path.{_≡_}
@@ -19,10 +19,14 @@ heldNodes count step lo hi = map (λ i. heldNode step lo hi (i + 2)) (upto count
 abbrev pub heldDiagram : ℕ → ℕ → List ℕ → List ℕ → List ℕ → Diagram
 heldDiagram root count step lo hi = record { root = root; nodes = heldNodes count step lo hi }
 
--- the step table's entries 0 and 1 are no step's number, so that a walk that stops where the step is not below a given one stops at 0 and at 1
+-- the largest number that a step's part can hold; no step has it
+abbrev pub MARK : ℕ
+MARK = 16383
+
+-- entries 0 and 1 of the steps are no step's number, so that a walk that stops where the step is not below a given one stops at 0 and at 1
 pub record Marked (step : List ℕ) : Type 0 where
-  pub at-no : getD step 0 0 ≡ 65535
-  pub at-yes : getD step 1 0 ≡ 65535
+  pub at-no : getD step 0 0 ≡ MARK
+  pub at-yes : getD step 1 0 ≡ MARK
 
 -- an ordered diagram stands in the tables
 pub record Held (d : Diagram) (step lo hi : List ℕ) : Type 0 where

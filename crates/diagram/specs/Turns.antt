@@ -1,40 +1,44 @@
 -- The walk over the nodes of a diagram file, turn by turn.
 -- Assumes nothing.
-use Prim.Native.Nat.{ℕ, _-_, _≤_, _<_}
+use Prim.Native.Nat.{ℕ, _+_, _-_, _≤_, _<_}
 use mathlib.Core.Path.{_≡_}
 use mathlib.Core.Bool.{true, false}
 use mathlib.Core.List.{List}
-use lib.ListN.{length}
-use Rattle.definitions.specs.Diagrams.{InnerNode, nodeGrammar, scanNodes}
+use lib.ListN.{length, getD}
+use Rattle.definitions.specs.Diagrams.{InnerNode, noNode, nodeGrammar, scanNodes}
 use Rattle.fields.specs.Scans.{Reading}
 use Rattle.diagram.specs.Tables.{Marked}
 use Rattle.diagram.specs.Files.{nodesIn, Room, Filled, nodesAnswer}
 use Rattle.diagram.specs.declared.reader.NodesRead.{NodesRead}
 
--- what is read so far, and that the rest of the walk is still to come
-pub record Halfway (s : List ℕ) (first steps : ℕ) (packed₀ packed : List (List ℕ)) (at count : ℕ) : Type 0 where
+-- What is read so far, and that the rest of the walk is still to come. Two tables are filled: `step` has the step of each node before, for the checks
+-- of those to come, and `words` the nodes. (What `words` holds is said of a table with room, as its type says, whose entries 0 and 1 are marked)
+pub record Halfway (s : List ℕ) (first steps : ℕ) (words₀ step words : List ℕ) (at count : ℕ) : Type 0 where
   pub before : List InnerNode
   pub reading : Reading s (nodeGrammar steps) first at before
   pub counted : length before ≡ count
-  pub filled : Filled before packed₀ packed
+  pub long : length step ≡ 512
+  pub known : (k : ℕ) → 2 ≤ k → k < count + 2 → getD step k 0 ≡ getD before (k - 2) noNode .step
+  pub filled : Room words₀ → Marked (nodesIn words₀ .step) → steps ≤ 1024 → Filled before words₀ words
 
--- the same of a table with room, as its type says, whose step column is marked
-pub record SoFar (s : List ℕ) (first steps : ℕ) (packed₀ packed : List (List ℕ)) (at count : ℕ) : Type 0 where
+-- the same of a table of steps with room, as its type says
+pub record SoFar (s : List ℕ) (first steps : ℕ) (step₀ words₀ step words : List ℕ) (at count : ℕ) : Type 0 where
   pub few : count ≤ 510
-  pub halfway : Room packed₀ → Marked (nodesIn packed₀ .step) → Halfway s first steps packed₀ packed at count
+  pub halfway : length step₀ ≡ 512 → Halfway s first steps words₀ step words at count
 
 -- the walk is over: the answer, and what the table holds
-pub record Over (s : List ℕ) (first steps : ℕ) (packed₀ packed : List (List ℕ)) (r : NodesRead) : Type 0 where
+pub record Over (s : List ℕ) (first steps : ℕ) (step₀ words₀ words : List ℕ) (r : NodesRead) : Type 0 where
   pub few : r .nodes ≤ 510
-  pub answer : Room packed₀ → Marked (nodesIn packed₀ .step) → r ≡ nodesAnswer (scanNodes s steps first)
-  pub filled : Room packed₀ → Marked (nodesIn packed₀ .step) → Filled (scanNodes s steps first .passed) packed₀ packed
+  pub answer : length step₀ ≡ 512 → r ≡ nodesAnswer (scanNodes s steps first)
+  pub filled : length step₀ ≡ 512 → Room words₀ → Marked (nodesIn words₀ .step) → steps ≤ 1024 → Filled (scanNodes s steps first .passed) words₀ words
 
 -- where the walk stands: it goes on, or it is over
-pub record Stands (s : List ℕ) (first steps : ℕ) (packed₀ packed : List (List ℕ)) (r : NodesRead) : Type 0 where
-  pub goes : r .going ≡ true → SoFar s first steps packed₀ packed (r .place) (r .nodes)
-  pub over : r .going ≡ false → Over s first steps packed₀ packed r
+pub record Stands (s : List ℕ) (first steps : ℕ) (step₀ words₀ step words : List ℕ) (r : NodesRead) : Type 0 where
+  pub goes : r .going ≡ true → SoFar s first steps step₀ words₀ step words (r .place) (r .nodes)
+  pub over : r .going ≡ false → Over s first steps step₀ words₀ words r
 
 -- one turn, from t to r
-pub record Takes (s : List ℕ) (steps : ℕ) (t : NodesRead) (packed packed′ : List (List ℕ)) (r : NodesRead) : Type 0 where
+pub record Takes (s : List ℕ) (steps : ℕ) (t : NodesRead) (step words step′ words′ : List ℕ) (r : NodesRead) : Type 0 where
   pub nearer : r .going ≡ true → length s - r .place < length s - t .place
-  pub stands : (first : ℕ) (packed₀ : List (List ℕ)) → SoFar s first steps packed₀ packed (t .place) (t .nodes) → Stands s first steps packed₀ packed′ r
+  pub stands : (first : ℕ) (step₀ words₀ : List ℕ) → SoFar s first steps step₀ words₀ step words (t .place) (t .nodes)
+      → Stands s first steps step₀ words₀ step′ words′ r

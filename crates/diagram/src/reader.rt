@@ -1,26 +1,23 @@
-// The reader of the diagram file: its inner nodes go into a table with three columns, each at its number.
+// The reader of the diagram file: its inner nodes go into a table, each at its number. Their steps are kept in a second table
+// as well, for the checks of later nodes, so that a caller that only wants the answer pays for no more than that one.
 ghost use mathlib.Core.Path.{_≡_};
 ghost use mathlib.Core.Bool.{true, false};
 ghost use Prim.Native.Nat.{_≤_, _<_};
-ghost use lib.ListN.{length, getD};
+ghost use lib.ListN.{length, getD, set};
 ghost use mathlib.Core.List.{[]};
-ghost use Rattle.definitions.specs.Fields.{only, fieldAt};
+ghost use Rattle.definitions.specs.Fields.{two, only, fieldAt};
 ghost use Rattle.definitions.specs.Diagrams.{childFits, nodeFault, innerNodeOf, diagramRead};
-ghost use Rattle.diagram.specs.Files.{stored, Reads, diagramAnswer};
+ghost use Rattle.diagram.specs.Files.{Reads, diagramAnswer};
+ghost use Rattle.diagram.specs.Words.{wordOf};
 ghost use Rattle.diagram.specs.Turns.{Over, Takes};
+use crate::words::MARK;
+use crate::words::word;
 use definitions::Field;
 use fields::field_at;
 use fields::read_u16;
 use fields::reader::moved;
 use fields::reader::new;
 use fields::reader::next;
-
-// The columns of the table of inner nodes.
-pub const STEP: usize = 0;
-
-pub const LO: usize = 1;
-
-pub const HI: usize = 2;
 
 // A node may be a child of the node numbered `own` with this step: it is below `own` and, if inner, has a larger step.
 fn child_fits(step: &[u16; 512], own: usize, key: u16, child: u16) -> bool
@@ -60,14 +57,17 @@ fn node_fault(b: &[u8], steps: usize, step: &[u16; 512], count: usize) -> u8
     0
 }
 
-// A node's body goes into the table at its number.
-fn store_node(b: &[u8], own: usize, inner: &mut [[u16; 512]; 3])
-    requires { ⌜ (length (now b) ≡ 6) × (own < 512) ⌝ }
-    ensures { λ _. ⌜ now (inner .exit) ≡ stored (now (inner .entry)) own (innerNodeOf (now (b .entry))) ⌝ }
+// A node's body goes into the table at its number, its step into the table of steps.
+fn store_node(b: &[u8], own: usize, step: &mut [u16; 512], inner: &mut [u32; 512])
+    requires { ⌜ (length (now b) ≡ 6) × (own < 512) × (two (now b) 2 < 512) × (two (now b) 4 < 512) ⌝ }
+    ensures { λ _. ⌜ now (step .exit) ≡ set (now (step .entry)) own (two (now (b .entry)) 0) ⌝ }
+    ensures { λ _. ⌜ now (inner .exit) ≡ set (now (inner .entry)) own (wordOf (innerNodeOf (now (b .entry)))) ⌝ }
 {
-    inner[STEP][own] = read_u16(b, 0);
-    inner[LO][own] = read_u16(b, 2);
-    inner[HI][own] = read_u16(b, 4);
+    let key = read_u16(b, 0);
+    let low = read_u16(b, 2);
+    let high = read_u16(b, 4);
+    step[own] = key;
+    inner[own] = word(key, low, high);
 }
 
 // The nodes read so far.
@@ -93,16 +93,19 @@ fn stopped(nodes: usize, number: u8, place: usize) -> NodesRead
     }
 }
 
-// One turn of the walk: what was found at its place is taken, a node into the table.
+// One turn of the walk: what was found at its place is taken, a node into the tables.
 fn take_node(
     file: &[u8],
     found: Field,
     read: NodesRead,
     steps: usize,
-    inner: &mut [[u16; 512]; 3],
+    step: &mut [u16; 512],
+    inner: &mut [u32; 512],
 ) -> NodesRead
     requires { ⌜ found ≡ fieldAt (now file) (read .place) (only 18 6) ⌝ }
-    ensures { λ r. ⌜ Takes (now (file .entry)) steps read (now (inner .entry)) (now (inner .exit)) r ⌝ }
+    ensures { λ r. ⌜
+        Takes (now (file .entry)) steps read (now (step .entry)) (now (inner .entry)) (now (step .exit)) (now (inner .exit)) r
+        ⌝ }
 {
     let count = read.nodes;
     let at = read.place;
@@ -111,12 +114,12 @@ fn take_node(
         Field::Faulty(number) => stopped(count, number, at),
         Field::Whole { start, end } => {
             let body = &file[start..end];
-            let fault = node_fault(body, steps, &inner[STEP], count);
+            let fault = node_fault(body, steps, step, count);
             if fault != 0 {
                 return stopped(count, fault, at);
             }
             // The first node is 2.
-            store_node(body, count + 2, inner);
+            store_node(body, count + 2, step, inner);
             NodesRead {
                 number: 0,
                 place: end,
@@ -127,10 +130,16 @@ fn take_node(
     }
 }
 
-// The nodes from a place on, into the table: a reader walks over them. It is kept in a local, so this thin loop is
+// The nodes from a place on, into the tables: a reader walks over them. It is kept in a local, so this thin loop is
 // proved by hand.
-fn read_nodes(file: &[u8], first: usize, steps: usize, inner: &mut [[u16; 512]; 3]) -> NodesRead
-    ensures { λ r. ⌜ Over (now (file .entry)) first steps (now (inner .entry)) (now (inner .exit)) r ⌝ }
+fn read_nodes(
+    file: &[u8],
+    first: usize,
+    steps: usize,
+    step: &mut [u16; 512],
+    inner: &mut [u32; 512],
+) -> NodesRead
+    ensures { λ r. ⌜ Over (now (file .entry)) first steps (now (step .entry)) (now (inner .entry)) (now (inner .exit)) r ⌝ }
 {
     let mut reader = moved(new(file), first);
     let mut read = NodesRead {
@@ -141,7 +150,7 @@ fn read_nodes(file: &[u8], first: usize, steps: usize, inner: &mut [[u16; 512]; 
     };
     while read.going {
         let found = next(reader, 18, 6);
-        read = take_node(file, found, read, steps, inner);
+        read = take_node(file, found, read, steps, step, inner);
         reader = moved(reader, read.place);
     }
     read
@@ -168,18 +177,20 @@ fn bad_head(number: u8) -> DiagramRead
     }
 }
 
-// The diagram of a file over a chart of so many steps; its inner nodes go into the table, and its step column is marked.
-pub fn read_diagram(file: &[u8], steps: usize, inner: &mut [[u16; 512]; 3]) -> DiagramRead
+// The diagram of a file over a chart of so many steps; its inner nodes go into the table, and 0 and 1 are marked.
+pub fn read_diagram(file: &[u8], steps: usize, inner: &mut [u32; 512]) -> DiagramRead
     ensures { λ r. ⌜ Reads (now (file .entry)) steps (now (inner .entry)) (now (inner .exit)) r ⌝ }
 {
-    inner[STEP][0] = 65535;
-    inner[STEP][1] = 65535;
+    let leaf = word(MARK, 0, 0);
+    inner[0] = leaf;
+    inner[1] = leaf;
     match field_at(file, 0, 17, 2) {
         Field::Absent => bad_head(2),
         Field::Faulty(number) => bad_head(number),
         Field::Whole { start, end } => {
             let root = read_u16(&file[start..end], 0);
-            let read = read_nodes(file, end, steps, inner);
+            let mut step = [0u16; 512];
+            let read = read_nodes(file, end, steps, &mut step, inner);
             if read.number != 0 {
                 return DiagramRead {
                     number: read.number,

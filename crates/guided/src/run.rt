@@ -4,7 +4,7 @@ ghost use Rattle.chart.specs.Tables.{stepsIn};
 ghost use Rattle.checks.specs.Tables.{read, Tables};
 ghost use Rattle.guided.specs.Runs.{Room, Runs, Ending, Concludes};
 use chart::COST;
-use chart::FROM;
+use chart::ENDS;
 use chart_stages::chart_estimates;
 use chart_stages::fill_first_steps;
 use checks::accepted;
@@ -14,7 +14,6 @@ use convert::lesser;
 use definitions::Answer;
 use definitions::NONE;
 use definitions::Shape;
-use diagram::LO;
 use guided_expand::pair_estimate;
 use guided_loop::Ended;
 use guided_loop::search;
@@ -26,7 +25,7 @@ use trace::write_plan;
 // The answer by how the search ended; where a goal pair was settled, the trail from the start to it is written as the plan.
 fn conclude<'a>(
     via: &'a [u32],
-    steps: &'a [[u32; 1024]; 3],
+    steps: &'a [[u32; 1024]; 2],
     row: &'a [u32; 256],
     z: Shape,
     ended: Ended,
@@ -39,7 +38,7 @@ fn conclude<'a>(
         ⌝ }
 {
     if ended.found {
-        let length = write_plan(via, &steps[FROM], row, z.start, z.end, ended.node, plan);
+        let length = write_plan(via, &steps[ENDS], row, z.start, z.end, ended.node, plan);
         return accepted(ended.cost, length, ended.count);
     }
     refusal(8, 0, 0, ended.count)
@@ -55,8 +54,8 @@ fn run<'a>(
     log: &mut [u32],
     plan: &mut [u16],
     z: Shape,
-    steps: &'a [[u32; 1024]; 3],
-    inner: &'a [[u16; 512]; 3],
+    steps: &'a [[u32; 1024]; 2],
+    inner: &'a [u32; 512],
 ) -> Answer
     requires { ⌜ Tables z (read (now steps) (now inner)) ⌝ }
     requires { ⌜
@@ -73,7 +72,7 @@ fn run<'a>(
         ⌝ }
 {
     let mut first = [0u16; 257];
-    fill_first_steps(&mut first, &steps[FROM], z.steps, z.stages);
+    fill_first_steps(&mut first, &steps[ENDS], z.steps, z.stages);
     let by_stage = chart_estimates(z, steps, &first);
     let mut by_node = [0u32; 512];
     fill_diagram_estimates(&mut by_node, z, inner, &steps[COST]);
@@ -84,7 +83,7 @@ fn run<'a>(
     let mut row = [0u32; 256];
     fill_row_starts(&mut row, z.stages as usize, z.nodes + 2);
     let mut yes = [false; 512];
-    fill_finishing(&mut yes, &inner[LO], z.nodes);
+    fill_finishing(&mut yes, inner, z.nodes);
     let ended = search(
         keys,
         via,
@@ -128,8 +127,8 @@ pub fn guided(
         GuidedCall (now (chart .entry)) (now (rules .entry)) before after r)
         ⌝ }
 {
-    let mut steps = [[0u32; 1024]; 3];
-    let mut inner = [[0u16; 512]; 3];
+    let mut steps = [[0u32; 1024]; 2];
+    let mut inner = [0u32; 512];
     let shorter = lesser(lesser(lesser(keys.len(), via.len()), heap.len()), pos.len());
     let work = lesser(lesser(shorter, stack.len()), log.len());
     let got = load(chart, rules, work, plan.len(), &mut steps, &mut inner);

@@ -8,12 +8,15 @@ use lib.ListN.{length, getD, set, drop}
 use lib.Seq.{drop-set-lt}
 use Rattle.definitions.specs.Basics.{NONE}
 use Rattle.queue.specs.declared.Counts.{Counts}
-use Rattle.queue.specs.Queue.{state, Contains, Inserted, Decreasing, Decreased}
+use Rattle.queue.specs.Queue.{state, Contains, Inserting, Inserted, Decreasing, Decreased}
 use Rattle.queue.proofs.Facts.{keys-fit}
 use Rattle.guided_model.specs.Moves.{relaxed-none, relaxed-falls}
 use Rattle.guided_expand.specs.Work.{Work, work, queueIn, marksIn, kept-same, Offering, Relaxes}
 
-module _ {p floor y v : ℕ} {x : Work} {c : Counts} (o : Offering p floor y v x c) where
+module _ {floor y v : ℕ} {x : Work} {c : Counts} (o : Offering floor y v x c) where
+  abbrev p : ℕ
+  p = o .p
+
   -- y has no higher key
   pub relax-none : {mark : ℕ} → getD (x .keys) y 0 ≤ v → Relaxes p floor y v mark x c x c
   relax-none {mark} h = record { relaxed = relaxed-none y v mark (marksIn x c) h; kept = kept-same (o .queue) }
@@ -58,6 +61,10 @@ module _ {p floor y v : ℕ} {x : Work} {c : Counts} (o : Offering p floor y v x
       };
     }
 
+  -- y is not open where it has no key
+  abbrev pub relax-opens : getD (x .keys) y 0 ≡ NONE → Inserting floor y v (queueIn x c)
+  relax-opens n = record { p = p; queue = o .queue; pair = o .pair; at-least = o .above; outside = o .offerable .outside n }
+
   -- y is open where it has a key
-  abbrev pub relax-lowers : v < getD (x .keys) y 0 → getD (x .keys) y 0 ≤ NONE → (getD (x .keys) y 0 ≡ NONE → ⊥) → Decreasing p y v (queueIn x c)
-  relax-lowers less b n = record { floor = floor; queue = o .queue; here = o .offerable .inside less (omega arith); above = o .above; lower = less }
+  abbrev pub relax-lowers : v < getD (x .keys) y 0 → getD (x .keys) y 0 ≤ NONE → (getD (x .keys) y 0 ≡ NONE → ⊥) → Decreasing y v (queueIn x c)
+  relax-lowers less b n = record { p = p; floor = floor; queue = o .queue; here = o .offerable .inside less (omega arith); above = o .above; lower = less }

@@ -9,7 +9,7 @@ use Rattle.definitions.specs.Pairs.{Automaton}
 use Rattle.definitions.specs.declared.Shape.{Shape}
 use Rattle.theory.specs.Variables.{next-is}
 use Rattle.diagram.specs.Files.{Nodes}
-use Rattle.diagram.specs.Tables.{Marked}
+use Rattle.diagram.specs.Tables.{MARK, Marked}
 use Rattle.nodes.specs.Walks.{Falls, Lowers, BranchesTo}
 use Rattle.nodes.specs.Falling.{lo-falls}
 use Rattle.nodes.specs.Advancing.{lowers-zero, lowers-on, advancing-dead}
@@ -22,39 +22,38 @@ use Rattle.guided_expand.specs.Work.{Progress, seenIn, kept-same}
 use Rattle.guided_expand.specs.Guides.{Guides}
 use Rattle.guided_expand.specs.Opening.{sourceStage, sourceNode, Opens, Opened, opens-on, opened-more, Opening, Leading}
 use Rattle.guided_expand.specs.declared.steps.Source.{Source}
-use Rattle.guided_expand.specs.declared.steps.Size.{Size}
 
 -- the steps of stage s, by the table of first steps
 abbrev pub firstOf : Walk → ℕ → ℕ
 firstOf on s = getD (on .first) s 0
 
-module _ {on : Walk} {t : Estimates} {from : Source} {size : Size} {x : Progress} (o : Opening on t from size x) where
+module _ {on : Walk} {t : Estimates} {from : Source} {width : ℕ} {x : Progress} (o : Opening on t from width x) where
   pub settles-stage : sourceStage from < 256
   settles-stage = omega (arith, o .opens .settling .stage, few-stages (o .z) (on .read) (o .by .ready .tables))
 
   pub settles-order : firstOf on (sourceStage from) ≤ firstOf on (sourceStage from + 1)
   settles-order = first-order (o .z) on (o .by .ready) (sourceStage from) (o .opens .settling .stage) .0
 
-pub record Walking {z : Shape} {on : Walk} {t : Estimates} (by : Guides z on t) (from : Source) (size : Size) (x₀ x : Progress) (m e : ℕ) : Type 0 where
+pub record Walking {z : Shape} {on : Walk} {t : Estimates} (by : Guides z on t) (from : Source) (width : ℕ) (x₀ x : Progress) (m e : ℕ) : Type 0 where
   pub for-step : ℕ
   pub not-later : for-step ≤ e
   pub lowers : Lowers (on .read .inner .step) (on .read .inner .lo) for-step (sourceNode from) m
   pub begun : firstOf on (sourceStage from) ≤ e
-  pub opens : Opens by from size x
-  pub opened : Opened by from size (firstOf on (sourceStage from)) e x₀ x
+  pub opens : Opens by from width x
+  pub opened : Opened by from (firstOf on (sourceStage from)) e x₀ x
 
 -- no step is offered
-opened-none : {z : Shape} {on : Walk} {t : Estimates} {by : Guides z on t} {from : Source} {size : Size} {x : Progress} → Opens by from size x → (first until : ℕ)
-    → ((e : ℕ) → first ≤ e → e < until → automatonIn z (on .read) .next e (sourceNode from) ≡ 0) → Opened by from size first until x x
-opened-none {z} {on} {t} {by} {from} {size} {x} o first until q = record {
+opened-none : {z : Shape} {on : Walk} {t : Estimates} {by : Guides z on t} {from : Source} {width : ℕ} {x : Progress} → Opens by from width x → (first until : ℕ)
+    → ((e : ℕ) → first ≤ e → e < until → automatonIn z (on .read) .next e (sourceNode from) ≡ 0) → Opened by from first until x x
+opened-none {z} {on} {t} {by} {from} {width} {x} o first until q = record {
   expanded = expanded-none (graphIn z (on .read)) (automatonIn z (on .read)) (by .h) (sourceStage from) (sourceNode from) (from .cost) first until (seenIn (automatonIn z (on .read)) x)
       (dead-steps (by .guide) (sourceNode from) first until q);
   kept = kept-same (o .queue);
   rows = refl;
 }
 
-pub walk-start : {on : Walk} {t : Estimates} {from : Source} {size : Size} {x : Progress} (o : Opening on t from size x)
-    → Walking (o .by) from size x x (sourceNode from) (firstOf on (sourceStage from))
+pub walk-start : {on : Walk} {t : Estimates} {from : Source} {width : ℕ} {x : Progress} (o : Opening on t from width x)
+    → Walking (o .by) from width x x (sourceNode from) (firstOf on (sourceStage from))
 walk-start {on} {t} {from} o = record {
   for-step = 0;
   not-later = omega arith;
@@ -64,8 +63,8 @@ walk-start {on} {t} {from} o = record {
   opened = opened-none (o .opens) (firstOf on (sourceStage from)) (firstOf on (sourceStage from)) (λ e i j. absurd (omega arith));
 }
 
-module _ {z : Shape} {on : Walk} {t : Estimates} {by : Guides z on t} {from : Source} {size : Size} {x₀ x : Progress} {m e : ℕ}
-    (w : Walking by from size x₀ x m e) where
+module _ {z : Shape} {on : Walk} {t : Estimates} {by : Guides z on t} {from : Source} {width : ℕ} {x₀ x : Progress} {m e : ℕ}
+    (w : Walking by from width x₀ x m e) where
   abbrev s : ℕ
   s = sourceStage from
 
@@ -84,12 +83,6 @@ module _ {z : Shape} {on : Walk} {t : Estimates} {by : Guides z on t} {from : So
   abbrev inner : Nodes
   inner = on .read .inner
 
-  pub walk-falls : Marked (inner .step) × Falls (inner .lo) m
-  walk-falls = (
-    tables .held .marked,
-    lo-falls (diagramIn z (on .read)) (inner .step) (inner .lo) (inner .hi) (tables .held) m (omega (arith, w .lowers .below, w .opens .settling .node)),
-  )
-
   module _ (more : e < firstOf on (s + 1)) where
     pub leaving : (e < z .steps) × (g .from e ≡ s)
     leaving = first-leave z on (by .ready) s e (w .opens .settling .stage) (w .begun) more
@@ -97,11 +90,18 @@ module _ {z : Shape} {on : Walk} {t : Estimates} {by : Guides z on t} {from : So
     pub walk-step : e < 1024
     walk-step = omega (arith, leaving .0, few-steps z (on .read) tables)
 
+    pub walk-falls : Marked (inner .step) × Falls (inner .lo) m × (e ≤ MARK)
+    walk-falls = (
+      tables .held .marked,
+      lo-falls (diagramIn z (on .read)) (inner .step) (inner .lo) (inner .hi) (tables .held) m (omega (arith, w .lowers .below, w .opens .settling .node)),
+      omega (arith, walk-step),
+    )
+
     module _ {r : ℕ} (low : Lowers (inner .step) (inner .lo) e m r) where
       pub lowered : Lowers (inner .step) (inner .lo) e n r
       lowered = lowers-on (inner .step) (inner .lo) (w .for-step) e n m r (w .not-later) (w .lowers) low
 
-      pub walk-branches : Marked (inner .step) × (r < 512) × (e < 65535)
+      pub walk-branches : Marked (inner .step) × (r < 512) × (e < MARK)
       walk-branches = (
         tables .held .marked,
         omega (arith, lowered .below, w .opens .settling .node, width-is z (on .read) tables, few-nodes z (on .read) tables),
@@ -109,9 +109,9 @@ module _ {z : Shape} {on : Walk} {t : Estimates} {by : Guides z on t} {from : So
       )
 
       -- node 0: no further step leads to a pair
-      pub walk-dead : r ≡ 0 → Opened by from size (firstOf on s) (firstOf on (s + 1)) x₀ x
+      pub walk-dead : r ≡ 0 → Opened by from (firstOf on s) (firstOf on (s + 1)) x₀ x
       walk-dead q =
-          opened-more by from size (w .opened)
+          opened-more by from (w .opened)
           (opened-none (w .opens) e (firstOf on (s + 1))
           (λ f i j. next-is (chartIn z (on .read)) (diagramIn z (on .read)) f n
           ∙ sym (advancing-dead (inner .step) (inner .lo) (inner .hi) e f n i (subst (Lowers (inner .step) (inner .lo) e n) q lowered) .is
@@ -119,7 +119,7 @@ module _ {z : Shape} {on : Walk} {t : Estimates} {by : Guides z on t} {from : So
 
       -- the step leads to node `to`
       module _ {to : ℕ} (b : BranchesTo (inner .step) (inner .hi) e r to) where
-        abbrev pub walk-leading : Leading (on .read .steps) (on .row) t from size e to x
+        abbrev pub walk-leading : Leading (on .read .steps) (on .row) t from width e to x
         walk-leading = record {
           inner = on .read .inner;
           first = on .first;
@@ -134,15 +134,15 @@ module _ {z : Shape} {on : Walk} {t : Estimates} {by : Guides z on t} {from : So
         }
 
         -- and is offered
-        pub walk-more : {x′ : Progress} → length (x′ .slices .via) ≡ length (x .slices .via) → Opened by from size e (e + 1) x x′ → Walking by from size x₀ x′ r (e + 1)
+        pub walk-more : {x′ : Progress} → length (x′ .slices .via) ≡ length (x .slices .via) → Opened by from e (e + 1) x x′ → Walking by from width x₀ x′ r (e + 1)
         walk-more q o = record {
           for-step = e;
           not-later = omega arith;
           lowers = lowered;
           begun = omega (arith, w .begun);
-          opens = opens-on by from size q (w .opens) o;
-          opened = opened-more by from size (w .opened) o;
+          opens = opens-on by from q (w .opens) o;
+          opened = opened-more by from (w .opened) o;
         }
 
-  pub walk-done : e ≡ firstOf on (s + 1) → Opened by from size (firstOf on s) (firstOf on (s + 1)) x₀ x
-  walk-done q = subst (λ (k : ℕ). Opened by from size (firstOf on s) k x₀ x) q (w .opened)
+  pub walk-done : e ≡ firstOf on (s + 1) → Opened by from (firstOf on s) (firstOf on (s + 1)) x₀ x
+  walk-done q = subst (λ (k : ℕ). Opened by from (firstOf on s) k x₀ x) q (w .opened)

@@ -10,16 +10,10 @@ use Rattle.definitions.specs.declared.Shape.{Shape}
 use Rattle.checks.specs.Ready.{Walk, Ready, graphIn, automatonIn, width-is, row-start}
 use Rattle.guided_model.specs.State.{Guide}
 use Rattle.guided_expand.specs.Estimates.{Estimates, Holds}
-use Rattle.guided_expand.specs.declared.steps.Size.{Size}
 
 -- how many pairs there are
 abbrev pub pairsIn : Shape → ℕ
 pairsIn z = z .stages * (z .nodes + 2)
-
--- the code goes by these numbers
-pub record Sized (z : Shape) (size : Size) : Type 0 where
-  pub pairs : size .pairs ≡ pairsIn z
-  pub width : size .width ≡ z .nodes + 2
 
 pub record Guides (z : Shape) (on : Walk) (t : Estimates) : Type 0 where
   pub ready : Ready z on

@@ -1,6 +1,6 @@
 -- What opening the pairs that follow from a settled pair rests on, and what it leaves.
 -- Assumes nothing.
-use Prim.Native.Nat.{ℕ, _≤_, _<_}
+use Prim.Native.Nat.{ℕ, _+_, _≤_, _<_}
 use mathlib.Core.Path.{_≡_, _∙_}
 use mathlib.Core.List.{List}
 use native.Mathlib.Omega.{arith}
@@ -17,9 +17,8 @@ use Rattle.guided_model.specs.Moves.{Frontier, frontier-moved, Expanded, expand
 use Rattle.guided_model.specs.Settling.{Settling}
 use Rattle.guided_expand.specs.Estimates.{Estimates}
 use Rattle.guided_expand.specs.Work.{Progress, queueOf, seenIn, Kept, kept-more}
-use Rattle.guided_expand.specs.Guides.{Guides, Sized}
+use Rattle.guided_expand.specs.Guides.{pairsIn, Guides}
 use Rattle.guided_expand.specs.declared.steps.Source.{Source}
-use Rattle.guided_expand.specs.declared.steps.Size.{Size}
 
 -- the stage and the node of the settled pair
 abbrev pub sourceStage : Source → ℕ
@@ -28,31 +27,32 @@ sourceStage from = from .pair .stage .0
 abbrev pub sourceNode : Source → ℕ
 sourceNode from = from .pair .node .0
 
-module _ {z : Shape} {on : Walk} {t : Estimates} (by : Guides z on t) (from : Source) (size : Size) where
+module _ {z : Shape} {on : Walk} {t : Estimates} (by : Guides z on t) (from : Source) where
   abbrev g : Graph
   g = graphIn z (on .read)
 
   abbrev a : Automaton
   a = automatonIn z (on .read)
 
-  pub record Opens (x : Progress) : Type 0 where
-    pub sized : Sized z size
-    pub fits : size .pairs ≤ length (x .slices .via)
+  -- the steps from the pair can be offered; `width` is the number of nodes in a row, by which the code goes
+  pub record Opens (width : ℕ) (x : Progress) : Type 0 where
+    pub wide : width ≡ z .nodes + 2
+    pub fits : pairsIn z ≤ length (x .slices .via)
     pub rows : length (x .filled) ≡ 256
-    pub queue : Queue (size .pairs) (from .key) (queueOf x)
+    pub queue : Queue (pairsIn z) (from .key) (queueOf x)
     pub frontier : Frontier g a (by .h) (seenIn a x) (from .key)
     pub settling : Settling g a (by .h) (sourceStage from) (sourceNode from) (from .cost) (from .key)
 
-  -- by the steps from `first` to before `until`
+  -- those from `first` to before `until` were
   pub record Opened (first until : ℕ) (x x′ : Progress) : Type 0 where
     pub expanded : Expanded g a (by .h) (sourceStage from) (sourceNode from) (from .cost) first until (seenIn a x) (seenIn a x′)
-    pub kept : Kept (size .pairs) (from .key) (x .slices) (x′ .slices) (x′ .counts)
+    pub kept : Kept (pairsIn z) (from .key) (x .slices) (x′ .slices) (x′ .counts)
     pub rows : length (x′ .filled) ≡ length (x .filled)
 
   -- it may go on
-  pub opens-on : {first until : ℕ} {x x′ : Progress} → length (x′ .slices .via) ≡ length (x .slices .via) → Opens x → Opened first until x x′ → Opens x′
-  opens-on {first} {until} {x} {x′} l o m = record {
-    sized = o .sized;
+  pub opens-on : {width first until : ℕ} {x x′ : Progress} → length (x′ .slices .via) ≡ length (x .slices .via) → Opens width x → Opened first until x x′ → Opens width x′
+  opens-on {width} {first} {until} {x} {x′} l o m = record {
+    wide = o .wide;
     fits = omega (arith, o .fits);
     rows = m .rows ∙ o .rows;
     queue = m .kept .queue;
@@ -69,22 +69,22 @@ module _ {z : Shape} {on : Walk} {t : Estimates} (by : Guides z on t) (from : So
   }
 
 -- the steps from a settled pair can be offered, in the tables of some chart and diagram by some guide
-pub record Opening (on : Walk) (t : Estimates) (from : Source) (size : Size) (x : Progress) : Type 0 where
+pub record Opening (on : Walk) (t : Estimates) (from : Source) (width : ℕ) (x : Progress) : Type 0 where
   pub z : Shape
   pub by : Guides z on t
-  pub opens : Opens by from size x
+  pub opens : Opens by from width x
 
 -- both tables as one
 abbrev pub tablesOf : Steps → Nodes → Read
 tablesOf steps inner = record { steps = steps; inner = inner }
 
 -- step e leads from a settled pair to node `to`, and can be offered, in the tables of some chart and diagram by some guide
-pub record Leading (steps : Steps) (row : List ℕ) (t : Estimates) (from : Source) (size : Size) (e to : ℕ) (x : Progress) : Type 0 where
+pub record Leading (steps : Steps) (row : List ℕ) (t : Estimates) (from : Source) (width e to : ℕ) (x : Progress) : Type 0 where
   pub inner : Nodes
   pub first : List ℕ
   pub z : Shape
   pub by : Guides z (walk (tablesOf steps inner) first row) t
-  pub opens : Opens by from size x
+  pub opens : Opens by from width x
   pub exists : e < z .steps
   pub leaves : graphIn z (tablesOf steps inner) .from e ≡ sourceStage from
   pub enters : to ≡ automatonIn z (tablesOf steps inner) .next e (sourceNode from)

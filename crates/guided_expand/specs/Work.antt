@@ -78,8 +78,9 @@ kept-same q = record { queue = q; past = past-same }
 pub kept-more : {p floor : ℕ} {x x′ : Work} {c′ : Counts} {x″ : Work} {c″ : Counts} → Kept p floor x x′ c′ → Kept p floor x′ x″ c″ → Kept p floor x x″ c″
 kept-more m n = record { queue = n .queue; past = past-more (m .past) (n .past) }
 
--- pair y can be offered the key v
-pub record Offering (p floor y v : ℕ) (x : Work) (c : Counts) : Type 0 where
+-- pair y can be offered the key v, among some number p of pairs
+pub record Offering (floor y v : ℕ) (x : Work) (c : Counts) : Type 0 where
+  pub p : ℕ
   pub queue : Queue p floor (queueIn x c)
   pub pair : y < p
   pub fits : p ≤ length (x .via)

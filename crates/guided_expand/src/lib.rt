@@ -5,6 +5,5 @@ mod steps;
 
 pub use estimate::pair_estimate;
 pub use steps::Pair;
-pub use steps::Size;
 pub use steps::Source;
 pub use steps::settle;

@@ -11,18 +11,17 @@ pub fn relax(
     heap: &mut [u32],
     pos: &mut [u32],
     stack: &mut [u32],
-    p: usize,
     counts: Counts,
     floor: u32,
     y: usize,
     v: u32,
     mark: u32,
 ) -> Counts
-    requires { ⌜ Offering p floor y v (work (now keys) (now via) (now heap) (now pos) (now stack)) counts ⌝ }
+    requires { ⌜ Offering floor y v (work (now keys) (now via) (now heap) (now pos) (now stack)) counts ⌝ }
     ensures { λ r. ⌜
         (let before = work (now (keys .entry)) (now (via .entry)) (now (heap .entry)) (now (pos .entry)) (now (stack .entry)) in
         let after = work (now (keys .exit)) (now (via .exit)) (now (heap .exit)) (now (pos .exit)) (now (stack .exit)) in
-        Relaxes p floor y v mark before counts after r)
+        (x : Offering floor y v before counts) → Relaxes (x .p) floor y v mark before counts after r)
         ⌝ }
 {
     let old = keys[y];
@@ -31,8 +30,8 @@ pub fn relax(
     }
     via[y] = mark;
     if old == NONE {
-        return queue::insert(keys, heap, pos, stack, p, counts, floor, y, v);
+        return queue::insert(keys, heap, pos, stack, counts, floor, y, v);
     }
-    queue::decrease(keys, heap, pos, stack, p, counts, y, v);
+    queue::decrease(keys, heap, pos, y, v);
     counts
 }

@@ -10,14 +10,12 @@ ghost use Rattle.guided_expand.specs.Opening.{Opened, Opening, Leading};
 use crate::estimate::pair_estimate;
 use crate::relax::relax;
 use chart::COST;
-use chart::TO;
+use chart::ENDS;
+use chart::to_at;
 use definitions::NONE;
 use definitions::Node;
 use definitions::Stage;
 use definitions::Step;
-use diagram::HI;
-use diagram::LO;
-use diagram::STEP;
 use guided_rows::open_row;
 use nodes::branch;
 use nodes::descend_to;
@@ -38,13 +36,7 @@ pub struct Source {
     pub key: u32,
 }
 
-// How many pairs there are, and how many of them are in a row.
-pub struct Size {
-    pub pairs: usize,
-    pub width: usize,
-}
-
-// Offers step e, which leaves the settled pair `source` and leads to node t.
+// Offers step e, which leaves the settled pair `source` and leads to node t. `width` is the number of pairs in a row.
 fn offer<'a>(
     keys: &mut [u32],
     via: &mut [u32],
@@ -52,9 +44,9 @@ fn offer<'a>(
     pos: &mut [u32],
     stack: &mut [u32],
     filled: &mut [bool; 256],
-    size: Size,
+    width: usize,
     counts: Counts,
-    steps: &'a [[u32; 1024]; 3],
+    steps: &'a [[u32; 1024]; 2],
     row: &'a [u32; 256],
     by_stage: &'a [u32; 256],
     by_node: &'a [u32; 512],
@@ -66,7 +58,7 @@ fn offer<'a>(
         (let slices = work (now keys) (now via) (now heap) (now pos) (now stack) in
         let before = progress slices (now filled) counts in
         let estimated = estimates (now «by_stage») (now «by_node») in
-        Leading (stepsIn (now steps)) (now row) estimated source size (e .0) (t .0) before)
+        Leading (stepsIn (now steps)) (now row) estimated source width (e .0) (t .0) before)
         ⌝ }
     ensures { λ r. ⌜
         (let slices = work (now (keys .entry)) (now (via .entry)) (now (heap .entry)) (now (pos .entry)) (now (stack .entry)) in
@@ -74,18 +66,17 @@ fn offer<'a>(
         let before = progress slices (now (filled .entry)) counts in
         let after = progress slices′ (now (filled .exit)) r in
         let estimated = estimates (now («by_stage» .entry)) (now («by_node» .entry)) in
-        (x : Leading (stepsIn (now (steps .entry))) (now (row .entry)) estimated source size (e .0) (t .0) before)
-        → Opened (x .by) source size (e .0) (e .0 + 1) before after)
+        (x : Leading (stepsIn (now (steps .entry))) (now (row .entry)) estimated source width (e .0) (t .0) before)
+        → Opened (x .by) source (e .0) (e .0 + 1) before after)
         ⌝ }
 {
     let i = e.0 as usize;
-    let entered = steps[TO][i] as u16;
-    let stage = Stage(entered);
+    let stage = to_at(&steps[ENDS], i);
     let rest = pair_estimate(by_stage, by_node, stage, t);
     if rest == NONE {
         return counts;
     }
-    open_row(keys, filled, row, stage, size.width);
+    open_row(keys, filled, row, stage, width);
     let y = pair_at(row, stage, t);
     let v = source.cost + steps[COST][i] + rest;
     relax(
@@ -94,7 +85,6 @@ fn offer<'a>(
         heap,
         pos,
         stack,
-        size.pairs,
         counts,
         source.key,
         y,
@@ -112,12 +102,12 @@ pub fn settle<'a>(
     pos: &mut [u32],
     stack: &mut [u32],
     filled: &mut [bool; 256],
-    size: Size,
+    width: usize,
     counts: Counts,
-    steps: &'a [[u32; 1024]; 3],
+    steps: &'a [[u32; 1024]; 2],
     first: &'a [u16; 257],
     row: &'a [u32; 256],
-    inner: &'a [[u16; 512]; 3],
+    inner: &'a [u32; 512],
     by_stage: &'a [u32; 256],
     by_node: &'a [u32; 512],
     source: Source,
@@ -127,7 +117,7 @@ pub fn settle<'a>(
         let before = progress slices (now filled) counts in
         let on = walk (read (now steps) (now inner)) (now first) (now row) in
         let estimated = estimates (now «by_stage») (now «by_node») in
-        Opening on estimated source size before)
+        Opening on estimated source width before)
         ⌝ }
     ensures { λ r. ⌜
         (let slices = work (now (keys .entry)) (now (via .entry)) (now (heap .entry)) (now (pos .entry)) (now (stack .entry)) in
@@ -137,8 +127,8 @@ pub fn settle<'a>(
         let on = walk (read (now (steps .entry)) (now (inner .entry))) (now (first .entry)) (now (row .entry)) in
         let estimated = estimates (now («by_stage» .entry)) (now («by_node» .entry)) in
         let s = source .pair .stage .0 in
-        (x : Opening on estimated source size before)
-        → Opened (x .by) source size (getD (on .first) s 0) (getD (on .first) (s + 1) 0) before after)
+        (x : Opening on estimated source width before)
+        → Opened (x .by) source (getD (on .first) s 0) (getD (on .first) (s + 1) 0) before after)
         ⌝ }
 {
     let s = source.pair.stage.0 as usize;
@@ -148,11 +138,11 @@ pub fn settle<'a>(
     let mut e = first[s];
     while e < until {
         let key = Step(e);
-        m = descend_to(&inner[STEP], &inner[LO], key, m);
+        m = descend_to(inner, key, m);
         if m.0 == 0 {
             return left;
         }
-        let t = branch(&inner[STEP], &inner[HI], key, m);
+        let t = branch(inner, key, m);
         left = offer(
             keys,
             via,
@@ -160,7 +150,7 @@ pub fn settle<'a>(
             pos,
             stack,
             filled,
-            size,
+            width,
             left,
             steps,
             row,

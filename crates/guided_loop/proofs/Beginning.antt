@@ -17,7 +17,7 @@ use Rattle.theory.specs.Basics.{either, same-or-not}
 use Rattle.theory.specs.Pairs.{pair-inside, pair-of, nodeOf-inside}
 use Rattle.theory.specs.Product.{startPair}
 use Rattle.queue.specs.declared.Counts.{Counts}
-use Rattle.queue.specs.Queue.{state, Contains, Queue, Empty, Inserted}
+use Rattle.queue.specs.Queue.{state, Contains, Queue, Empty, Inserting, Inserted}
 use Rattle.queue.proofs.Facts.{queue-empty, contains-none}
 use Rattle.checks.specs.Tables.{chartIn, diagramIn, Tables}
 use Rattle.checks.specs.Ready.{Walk, graphIn, automatonIn, width-is, sound-in, few-stages, few-nodes, row-start}
@@ -95,15 +95,15 @@ module _ {z : Shape} {on : Walk} {t : Estimates} {yes-at : List Bool} {rest : �
     pub begins : begin ≡ startPair (g by) (a by)
     begins = begin-is by e
 
-    begin-inside : begin < pairsIn z
+    pub begin-inside : begin < pairsIn z
     begin-inside =
         omega (arith, begins, pairs-are by, pair-inside (g by) (a by) (z .start .0) (z .root .0) (tables by .valid .start-inside) (sound by .root-inside))
 
-    begin-queue : Queue (pairsIn z) 0 (queueIn x₁ c)
+    pub begin-queue : Queue (pairsIn z) 0 (queueIn x₁ c)
     begin-queue = queue-empty no (omega (arith, few-pairs by)) keys-fit (b .space .heap-fits) (b .space .pos-fits) (b .space .stack-fits)
 
-    pub begin-asks : Queue (pairsIn z) 0 (queueIn x₁ c) × ((begin < pairsIn z) × (0 ≤ rest) × (Contains (queueIn x₁ c) begin → ⊥))
-    begin-asks = (begin-queue, (begin-inside, omega arith, λ w. contains-none begin-queue (no .none-held) w))
+    abbrev pub begin-asks : Inserting 0 begin rest (queueIn x₁ c)
+    begin-asks = record { p = pairsIn z; queue = begin-queue; pair = begin-inside; at-least = omega arith; outside = λ w. contains-none begin-queue (no .none-held) w }
 
     -- no pair that may be opened has a key
     clear : (k : ℕ) → Openable (g by) (a by) (by .h) k → getD (seen (a by) filled keys₁) k 0 ≡ NONE
@@ -116,16 +116,20 @@ module _ {z : Shape} {on : Walk} {t : Estimates} {yes-at : List Bool} {rest : �
         ∙ seen-fresh (a by) none-filled (x .keys) k (omega (arith, b .space .keys-fit, pairs-are by, pair-of (a by) k, within))
         (getD-replicate {A = Bool} 256 s false false (omega (arith, in-chart, few-stages z (on .read) (tables by))))
 
-    module _ {keys′ heap′ pos′ stack′ : List ℕ} {c′ : Counts} (i : Inserted (pairsIn z) 0 begin rest (queueIn x₁ c) (state keys′ heap′ pos′ stack′ c′)) where
+    module _ {keys′ heap′ pos′ stack′ : List ℕ} {c′ : Counts}
+        (inserted : (q : Inserting 0 begin rest (queueIn x₁ c)) → Inserted (q .p) 0 begin rest (queueIn x₁ c) (state keys′ heap′ pos′ stack′ c′)) where
+      pub first-opened : Inserted (pairsIn z) 0 begin rest (queueIn x₁ c) (state keys′ heap′ pos′ stack′ c′)
+      first-opened = inserted begin-asks
+
       abbrev begun : Progress
       begun = progress (work keys′ (x .via) heap′ pos′ stack′) filled c′
 
       only-begin : (k : ℕ) → Contains (queueOf begun) k → k ≡ begin
-      only-begin k w = either (same-or-not k begin) (λ q. q) (λ q. absurd (contains-none begin-queue (no .none-held) (i .only k w q)))
+      only-begin k w = either (same-or-not k begin) (λ q. q) (λ q. absurd (contains-none begin-queue (no .none-held) (first-opened .only k w q)))
 
       stored : seen (a by) filled keys′ ≡ set (seen (a by) filled keys₁) (startPair (g by) (a by)) rest
       stored =
-          ap (seen (a by) filled) (i .stored ∙ ap (λ (k : ℕ). set keys₁ k rest) begins)
+          ap (seen (a by) filled) (first-opened .stored ∙ ap (λ (k : ℕ). set keys₁ k rest) begins)
           ∙ seen-set (a by) filled keys₁ (startPair (g by) (a by)) rest (omega (arith, begins, begin-inside, keys-fit))
           (ap (λ (k : ℕ). getD filled k false) (stage-is (a by) (z .start .0) (z .root .0) (startPair (g by) (a by)) (sound by .root-inside) refl) ∙ o .marked)
 
@@ -133,16 +137,15 @@ module _ {z : Shape} {on : Walk} {t : Estimates} {yes-at : List Bool} {rest : �
       begin-running =
           running-start (chartIn z (on .read)) (diagramIn z (on .read)) (sound by) (by .guide) (seen (a by) filled keys₁) log (seenIn (a by) begun) rest (b .has) clear
           (omega (arith, begins, begin-inside, keys-fit, seen-long (a by) filled keys₁)) stored
-          (subst (Contains (queueOf begun)) begins (i .here)) (λ k w. only-begin k w ∙ begins) (omega (arith, pairs-are by, b .space .log-fits))
+          (subst (Contains (queueOf begun)) begins (first-opened .here)) (λ k w. only-begin k w ∙ begins) (omega (arith, pairs-are by, b .space .log-fits))
 
       -- the loop may begin
-      abbrev pub begin-begun : Begun z on t yes-at (record { pairs = pairsIn z; width = z .nodes + 2 }) begin begun log
+      abbrev pub begin-begun : Begun z on t yes-at begin begun log
       begin-begun = record {
         prepared = b .prepared;
         begins = begins;
         turning = record {
-          sized = record { pairs = refl; width = refl };
-          queue = i .queue;
+          queue = first-opened .queue;
           fits = b .space .via-fits;
           rows = o .long ∙ length-replicate {A = Bool} 256 false;
           running = begin-running;
@@ -152,11 +155,11 @@ module _ {z : Shape} {on : Walk} {t : Estimates} {yes-at : List Bool} {rest : �
 
       begin-past : Past (pairsIn z) x (begun .slices)
       begin-past = record {
-        keys-past = ap (drop (pairsIn z)) (i .stored) ∙ drop-set-lt (pairsIn z) keys₁ begin rest begin-inside ∙ opened-past o row-end;
+        keys-past = ap (drop (pairsIn z)) (first-opened .stored) ∙ drop-set-lt (pairsIn z) keys₁ begin rest begin-inside ∙ opened-past o row-end;
         via-past = refl;
-        heap-past = i .past .heap-past;
-        pos-past = i .past .pos-past;
-        stack-past = i .past .stack-past;
+        heap-past = first-opened .past .heap-past;
+        pos-past = first-opened .past .pos-past;
+        stack-past = first-opened .past .stack-past;
       }
 
       pub begin-searched : {x″ : Work} {log″ : List ℕ} {r : Ended} → Searched (b .prepared .by) (begun .slices) log x″ log″ r → Searched (b .prepared .by) x log x″ log″ r

@@ -27,11 +27,13 @@ module _ {via to row : List ℕ} {begin start x : ℕ} (p : Placed via to row be
   pub placed-begin : x ≡ begin → InRow start
   placed-begin q = subst InRow (at-begin via to begin start x q) (p .stage, p .from-row, p .in-row)
 
-  pub placed-step : (e : ℕ) → (x ≡ begin → ⊥) → e ≡ stepIn (getD via x 0) → InRow (getD to e 0)
-  placed-step e q w = subst InRow (at-step via to begin start x q ∙ ap (λ (k : ℕ). getD to k 0) (sym w)) (p .stage, p .from-row, p .in-row)
+  -- step e leads to stage s
+  module _ (q : x ≡ begin → ⊥) {e s : ℕ} (w : e ≡ stepIn (getD via x 0)) (led : s ≡ getD to e 0) where
+    pub placed-stage : s ≡ stageAt via to begin start x
+    placed-stage = led ∙ ap (λ (k : ℕ). getD to k 0) w ∙ sym (at-step via to begin start x q)
 
-  pub placed-stage : (e : ℕ) → (x ≡ begin → ⊥) → e ≡ stepIn (getD via x 0) → getD to e 0 ≡ stageAt via to begin start x
-  placed-stage e q w = ap (λ (k : ℕ). getD to k 0) w ∙ sym (at-step via to begin start x q)
+    pub placed-step : InRow s
+    placed-step = subst InRow (sym placed-stage) (p .stage, p .from-row, p .in-row)
 
 -- the goal test
 pub goal-there : (s end : ℕ) (b : Bool) → s ≡ end → b ≡ (eqb s end && b)

@@ -18,7 +18,7 @@ use Rattle.theory.specs.Basics.{either, same-or-not, both, true-not-false}
 use Rattle.theory.specs.Product.{startPair}
 use Rattle.trace.specs.Trails.{stepIn}
 use Rattle.queue.specs.declared.Counts.{Counts}
-use Rattle.queue.specs.Queue.{state, Contains, Taken}
+use Rattle.queue.specs.Queue.{state, Contains, Taking, Taken}
 use Rattle.queue.proofs.Facts.{contains-none, contains-pair, keys-fit}
 use Rattle.checks.specs.Tables.{chartIn, diagramIn}
 use Rattle.checks.specs.Ready.{Walk, count-is, few-stages, from-at, to-at, first-all, row-start}
@@ -33,7 +33,6 @@ use Rattle.guided_expand.specs.Work.{Work, work, Progress, progress, queueOf, s
 use Rattle.guided_expand.specs.Guides.{Guides, pairsIn}
 use Rattle.guided_expand.specs.declared.steps.Pair.{Pair}
 use Rattle.guided_expand.specs.declared.steps.Source.{Source}
-use Rattle.guided_expand.specs.declared.steps.Size.{Size}
 use Rattle.guided_expand.specs.Opening.{Opens, Opened, Opening}
 use Rattle.guided_loop.specs.Places.{stageAt, Placed}
 use Rattle.guided_loop.specs.Search.{Prepared, Turning, Searched}
@@ -42,7 +41,7 @@ use Rattle.guided_loop.proofs.Placing.{at-begin, at-step}
 use Rattle.guided_loop.proofs.Beginning.{g, a, tables, sound, width, narrow, pairs-are, few-pairs}
 
 module _ {z : Shape} {on : Walk} {t : Estimates} {yes-at : List Bool} (prepared : Prepared z on t yes-at)
-    {size : Size} {x₀ : Work} {log₀ : List ℕ} {x : Progress} {log : List ℕ} {floor count : ℕ} (w : Turning (prepared .by) size x₀ log₀ x log floor count) where
+    {x₀ : Work} {log₀ : List ℕ} {x : Progress} {log : List ℕ} {floor count : ℕ} (w : Turning (prepared .by) x₀ log₀ x log floor count) where
   abbrev by : Guides z on t
   by = prepared .by
 
@@ -55,14 +54,7 @@ module _ {z : Shape} {on : Walk} {t : Estimates} {yes-at : List Bool} (prepared 
   abbrev D : Diagram
   D = diagramIn z (on .read)
 
-  -- all pairs
-  sized : z .stages * a by .size ≡ size .pairs
-  sized = pairs-are by ∙ sym (w .sized .pairs)
-
-  past-in : {y y′ : Work} → Past (size .pairs) y y′ → Past (pairsIn z) y y′
-  past-in {y} {y′} m = subst (λ (k : ℕ). Past k y y′) (w .sized .pairs) m
-
-  -- their keys
+  -- the keys of all pairs
   abbrev keys : List ℕ
   keys = seen (a by) (x .filled) (x .slices .keys)
 
@@ -81,8 +73,15 @@ module _ {z : Shape} {on : Walk} {t : Estimates} {yes-at : List Bool} (prepared 
     past = w .past;
   }
 
+  -- the next pair can be taken
+  abbrev pub turn-takes : 0 < x .counts .held → Taking floor (queueOf x)
+  turn-takes e = record { p = pairsIn z; queue = w .queue; filled = e }
+
   module _ {begin y key : ℕ} {heap′ pos′ : List ℕ} {c′ : Counts} (eb : begin ≡ startPair (g by) (a by))
-      (k : Taken (size .pairs) floor y key (queueOf x) (state (x .slices .keys) heap′ pos′ (x .slices .stack) c′)) where
+      (more : 0 < x .counts .held) (took : (q : Taking floor (queueOf x)) → Taken (q .p) floor y key (queueOf x) (state (x .slices .keys) heap′ pos′ (x .slices .stack) c′)) where
+    k : Taken (pairsIn z) floor y key (queueOf x) (state (x .slices .keys) heap′ pos′ (x .slices .stack) c′)
+    k = took (turn-takes more)
+
     abbrev x′ : Progress
     x′ = progress (work (x .slices .keys) (x .slices .via) heap′ pos′ (x .slices .stack)) (x .filled) c′
 
@@ -96,14 +95,14 @@ module _ {z : Shape} {on : Walk} {t : Estimates} {yes-at : List Bool} (prepared 
     others = record { kept = k .kept; only = k .only; gone = k .gone }
 
     -- there is room for it in the log, and its number is small
-    pub turn-room : count < size .pairs
-    turn-room = omega (arith, running-room C D (sound by) (by .guide) (w .running) smallest, sized)
+    pub turn-room : count < pairsIn z
+    turn-room = omega (arith, running-room C D (sound by) (by .guide) (w .running) smallest, pairs-are by)
 
     pub turn-fits : count < length log
-    turn-fits = omega (arith, turn-room, w .running .fits, sized)
+    turn-fits = omega (arith, turn-room, w .running .fits, pairs-are by)
 
     pub turn-small : (y < 131072) × (count < 131072)
-    turn-small = (omega (arith, k .pair, w .sized .pairs, few-pairs by), omega (arith, turn-room, w .sized .pairs, few-pairs by))
+    turn-small = (omega (arith, k .pair, few-pairs by), omega (arith, turn-room, few-pairs by))
 
     -- where it stands
     abbrev stage : ℕ
@@ -174,9 +173,9 @@ module _ {z : Shape} {on : Walk} {t : Estimates} {yes-at : List Bool} (prepared 
         abbrev pub turn-source : Source
         turn-source = record { pair = pair; cost = key - r; key = key }
 
-        pub turn-opens : Opens (prepared .by) turn-source size x′
+        pub turn-opens : Opens (prepared .by) turn-source (z .nodes + 2) x′
         turn-opens = record {
-          sized = w .sized;
+          wide = refl;
           fits = w .fits;
           rows = w .rows;
           queue = k .queue;
@@ -185,7 +184,7 @@ module _ {z : Shape} {on : Walk} {t : Estimates} {yes-at : List Bool} (prepared 
           settling = subst (λ (i : ℕ). Settling (g by) (a by) h s n (i - r) i) (sym key-is) (settles .2);
         }
 
-        abbrev pub turn-asks : Opening on t turn-source size x′
+        abbrev pub turn-asks : Opening on t turn-source (z .nodes + 2) x′
         turn-asks = record { z = z; by = prepared .by; opens = turn-opens }
 
         module _ {goal-at : Bool} (eg : goal-at ≡ (eqb s (z .end .0) && getD yes-at n false)) where
@@ -200,10 +199,10 @@ module _ {z : Shape} {on : Walk} {t : Estimates} {yes-at : List Bool} (prepared 
                     (λ f j. from-at z (on .read) (tables by) f (omega (arith, count-is z (on .read) (tables by))))
                     turn-located (eqb-true s (z .end .0) (v .0)) (sym (prepared .accepts n (turn-located .node)) ∙ v .1) spent-is);
                 no-goal = λ i. absurd (true-not-false (sym ef ∙ i));
-                past = past-more (w .past) (past-in taken-past);
+                past = past-more (w .past) taken-past;
               }
             where
-              taken-past : Past (size .pairs) (x .slices) (x′ .slices)
+              taken-past : Past (pairsIn z) (x .slices) (x′ .slices)
               taken-past = record { keys-past = refl; via-past = refl; heap-past = k .past .heap-past; pos-past = k .past .pos-past; stack-past = refl }
 
           no-goal : goal-at ≡ false → goalAt (g by) (a by) h y ≡ false
@@ -216,21 +215,20 @@ module _ {z : Shape} {on : Walk} {t : Estimates} {yes-at : List Bool} (prepared 
 
           -- no goal pair: the steps from it were offered
           pub turn-more : goal-at ≡ false → {x″ : Progress} → length (x″ .slices .via) ≡ length (x .slices .via)
-              → Opened (prepared .by) turn-source size (getD (on .first) s 0) (getD (on .first) (s + 1) 0) x′ x″
-              → Turning (prepared .by) size x₀ log₀ x″ (set log count y) key (count + 1)
+              → Opened (prepared .by) turn-source (getD (on .first) s 0) (getD (on .first) (s + 1) 0) x′ x″
+              → Turning (prepared .by) x₀ log₀ x″ (set log count y) key (count + 1)
           turn-more q {x″} l o = record {
-            sized = w .sized;
             queue = o .kept .queue;
             fits = omega (arith, w .fits);
             rows = o .rows ∙ w .rows;
             running = subst (λ (f : ℕ). Running C D h (seenIn (a by) x″) log₀ (set log count y) (count + 1) f) (sym key-is)
                 (running-turn C D (sound by) (by .guide) (w .running) smallest others s n (key - r) (getD (on .first) s 0) (getD (on .first) (s + 1) 0)
                 turn-located spent-is (λ e i f. first-all z on (by .ready) s e (turn-located .stage) i f) (o .expanded) (no-goal q));
-            past = past-more (w .past) (past-in (record {
+            past = past-more (w .past) (record {
               keys-past = o .kept .past .keys-past;
               via-past = o .kept .past .via-past;
               heap-past = o .kept .past .heap-past ∙ k .past .heap-past;
               pos-past = o .kept .past .pos-past ∙ k .past .pos-past;
               stack-past = o .kept .past .stack-past;
-            }));
+            });
           }

@@ -15,8 +15,7 @@ use Rattle.checks.specs.Ready.{Walk, graphIn, automatonIn}
 use Rattle.guided_model.specs.Charts.{Running, GoalSettled, NoneSettled}
 use Rattle.guided_expand.specs.Estimates.{Estimates}
 use Rattle.guided_expand.specs.Work.{Work, Progress, queueOf, seenIn, Past}
-use Rattle.guided_expand.specs.Guides.{Guides, pairsIn, Sized}
-use Rattle.guided_expand.specs.declared.steps.Size.{Size}
+use Rattle.guided_expand.specs.Guides.{Guides, pairsIn}
 use Rattle.guided_loop.specs.declared.turns.Ended.{Ended}
 
 -- all tables of the search
@@ -42,10 +41,9 @@ pub record Start (z : Shape) (on : Walk) (t : Estimates) (yes-at : List Bool) (r
 
 module _ {z : Shape} {on : Walk} {t : Estimates} (by : Guides z on t) where
   -- between two turns: from the slices x₀ and log₀ it came to x and log, in which `count` pairs are settled, the last one at the key `floor`, and those of the queue are open
-  pub record Turning (size : Size) (x₀ : Work) (log₀ : List ℕ) (x : Progress) (log : List ℕ) (floor count : ℕ) : Type 0 where
-    pub sized : Sized z size
-    pub queue : Queue (size .pairs) floor (queueOf x)
-    pub fits : size .pairs ≤ length (x .slices .via)
+  pub record Turning (x₀ : Work) (log₀ : List ℕ) (x : Progress) (log : List ℕ) (floor count : ℕ) : Type 0 where
+    pub queue : Queue (pairsIn z) floor (queueOf x)
+    pub fits : pairsIn z ≤ length (x .slices .via)
     pub rows : length (x .filled) ≡ 256
     pub running : Running (chartIn z (on .read)) (diagramIn z (on .read)) (by .h) (seenIn (automatonIn z (on .read)) x) log₀ log count floor
     pub past : Past (pairsIn z) x₀ (x .slices)
@@ -58,7 +56,7 @@ module _ {z : Shape} {on : Walk} {t : Estimates} (by : Guides z on t) where
     pub past : Past (pairsIn z) x x′
 
 -- nothing is settled yet, the pairs of the queue are open, and `begin` is the pair of start and root
-pub record Begun (z : Shape) (on : Walk) (t : Estimates) (yes-at : List Bool) (size : Size) (begin : ℕ) (x : Progress) (log : List ℕ) : Type 0 where
+pub record Begun (z : Shape) (on : Walk) (t : Estimates) (yes-at : List Bool) (begin : ℕ) (x : Progress) (log : List ℕ) : Type 0 where
   pub prepared : Prepared z on t yes-at
   pub begins : begin ≡ startPair (graphIn z (on .read)) (automatonIn z (on .read))
-  pub turning : Turning (prepared .by) size (x .slices) log x log 0 0
+  pub turning : Turning (prepared .by) (x .slices) log x log 0 0

@@ -4,7 +4,9 @@ ghost use mathlib.Core.Bool.{false, _&&_};
 ghost use Prim.Native.Nat.{_+_, _≤_, _<_};
 ghost use lib.Dec.{eqb};
 ghost use lib.ListN.{getD};
+ghost use Rattle.chart.specs.Ends.{tos};
 ghost use Rattle.guided_loop.specs.Places.{stageAt, Placed};
+use chart::to_at;
 use convert::wide;
 use definitions::Node;
 use definitions::Stage;
@@ -27,15 +29,15 @@ fn pair_in(row: &[u32; 256], s: Stage, x: usize) -> Pair
 // size of a row is needed.
 pub fn pair_of<'a>(
     via: &'a [u32],
-    to: &'a [u32; 1024],
+    ends: &'a [u32; 1024],
     row: &'a [u32; 256],
     begin: usize,
     start: Stage,
     x: usize,
 ) -> Pair
-    requires { ⌜ Placed (now via) (now to) (now row) begin (start .0) x ⌝ }
+    requires { ⌜ Placed (now via) (tos (now ends)) (now row) begin (start .0) x ⌝ }
     ensures { λ r. ⌜
-        (r .stage .0 ≡ stageAt (now (via .entry)) (now (to .entry)) begin (start .0) x)
+        (r .stage .0 ≡ stageAt (now (via .entry)) (tos (now (ends .entry))) begin (start .0) x)
         × (getD (now (row .entry)) (r .stage .0) 0 + r .node .0 ≡ x)
         ⌝ }
 {
@@ -43,8 +45,7 @@ pub fn pair_of<'a>(
         return pair_in(row, start, x);
     }
     let e = step_in(via[x]).0 as usize;
-    let entered = to[e] as u16;
-    pair_in(row, Stage(entered), x)
+    pair_in(row, to_at(ends, e), x)
 }
 
 // Whether an opened pair is a goal pair: it is one of the end stage, and its node finishes at 1.

@@ -2,19 +2,17 @@
 ghost use Rattle.checks.specs.Tables.{read};
 ghost use Rattle.checks.specs.Ready.{walk};
 ghost use Rattle.guided_expand.specs.Estimates.{estimates};
-ghost use Rattle.guided_expand.specs.Work.{work, progress};
-ghost use Rattle.guided_loop.specs.Search.{Start, Begun, Searched};
+ghost use Rattle.guided_expand.specs.Work.{work};
+ghost use Rattle.guided_loop.specs.Search.{Start, Searched};
 use crate::places::is_goal;
 use crate::places::pair_of;
-use chart::TO;
+use chart::ENDS;
 use definitions::Node;
 use definitions::Shape;
-use guided_expand::Size;
 use guided_expand::Source;
 use guided_expand::pair_estimate;
 use guided_expand::settle;
 use guided_rows::open_row;
-use queue::Counts;
 use trace::pair_at;
 
 // Whether a goal pair was settled, its node and its cost; and how many pairs were settled.
@@ -25,98 +23,8 @@ pub struct Ended {
     pub count: usize,
 }
 
-// Settles open pairs in turn and writes each to the log, until a goal pair is settled or none is open. `begin` is the pair of
-// start and root.
-fn settle_open<'a>(
-    keys: &mut [u32],
-    via: &mut [u32],
-    heap: &mut [u32],
-    pos: &mut [u32],
-    stack: &mut [u32],
-    log: &mut [u32],
-    filled: &mut [bool; 256],
-    size: Size,
-    opened: Counts,
-    steps: &'a [[u32; 1024]; 3],
-    first: &'a [u16; 257],
-    row: &'a [u32; 256],
-    inner: &'a [[u16; 512]; 3],
-    by_stage: &'a [u32; 256],
-    by_node: &'a [u32; 512],
-    yes: &'a [bool; 512],
-    z: Shape,
-    begin: usize,
-) -> Ended
-    requires { ⌜
-        (let slices = work (now keys) (now via) (now heap) (now pos) (now stack) in
-        let before = progress slices (now filled) opened in
-        let on = walk (read (now steps) (now inner)) (now first) (now row) in
-        let estimated = estimates (now «by_stage») (now «by_node») in
-        Begun z on estimated (now yes) size begin before (now log))
-        ⌝ }
-    ensures { λ r. ⌜
-        (let slices = work (now (keys .entry)) (now (via .entry)) (now (heap .entry)) (now (pos .entry)) (now (stack .entry)) in
-        let before = progress slices (now (filled .entry)) opened in
-        let after = work (now (keys .exit)) (now (via .exit)) (now (heap .exit)) (now (pos .exit)) (now (stack .exit)) in
-        let on = walk (read (now (steps .entry)) (now (inner .entry))) (now (first .entry)) (now (row .entry)) in
-        let estimated = estimates (now («by_stage» .entry)) (now («by_node» .entry)) in
-        (x : Begun z on estimated (now (yes .entry)) size begin before (now (log .entry)))
-        → Searched (x .prepared .by) slices (now (log .entry)) after (now (log .exit)) r)
-        ⌝ }
-{
-    let mut counts = opened;
-    let mut floor: u32 = 0;
-    let mut count: usize = 0;
-    let mut found = false;
-    let mut node = Node(0);
-    let mut cost: u32 = 0;
-    'search: while 0 < counts.held {
-        let next = queue::take(keys, heap, pos, stack, size.pairs, counts, floor);
-        let x = next.pair;
-        floor = next.key;
-        log[count] = x as u32;
-        count += 1;
-        let at = pair_of(via, &steps[TO], row, begin, z.start, x);
-        let spent = floor - pair_estimate(by_stage, by_node, at.stage, at.node);
-        if is_goal(yes, z.end, at) {
-            found = true;
-            node = at.node;
-            cost = spent;
-            break 'search;
-        }
-        let source = Source {
-            pair: at,
-            cost: spent,
-            key: floor,
-        };
-        counts = settle(
-            keys,
-            via,
-            heap,
-            pos,
-            stack,
-            filled,
-            size,
-            next.counts,
-            steps,
-            first,
-            row,
-            inner,
-            by_stage,
-            by_node,
-            source,
-        );
-    }
-    Ended {
-        found,
-        node,
-        cost,
-        count,
-    }
-}
-
-// Opens the pair of start and root, whose estimate is `rest`, and settles open pairs until a goal pair is settled or none
-// is open. Each row of keys is filled when its first pair is opened.
+// Opens the pair of start and root, whose estimate is `rest`. Then settles open pairs in turn and writes each to the log, until a
+// goal pair is settled or none is open. Each row of keys is filled when its first pair is opened.
 pub fn search<'a>(
     keys: &mut [u32],
     via: &mut [u32],
@@ -124,10 +32,10 @@ pub fn search<'a>(
     pos: &mut [u32],
     stack: &mut [u32],
     log: &mut [u32],
-    steps: &'a [[u32; 1024]; 3],
+    steps: &'a [[u32; 1024]; 2],
     first: &'a [u16; 257],
     row: &'a [u32; 256],
-    inner: &'a [[u16; 512]; 3],
+    inner: &'a [u32; 512],
     by_stage: &'a [u32; 256],
     by_node: &'a [u32; 512],
     yes: &'a [bool; 512],
@@ -150,40 +58,56 @@ pub fn search<'a>(
         ⌝ }
 {
     let width = z.nodes + 2;
-    let pairs = z.stages as usize * width;
-    let size = Size { pairs, width };
     let begin = pair_at(row, z.start, z.root);
     let mut filled = [false; 256];
     open_row(keys, &mut filled, row, z.start, width);
-    let opened = queue::insert(
-        keys,
-        heap,
-        pos,
-        stack,
-        pairs,
-        queue::empty(),
-        0,
-        begin,
-        rest,
-    );
-    settle_open(
-        keys,
-        via,
-        heap,
-        pos,
-        stack,
-        log,
-        &mut filled,
-        size,
-        opened,
-        steps,
-        first,
-        row,
-        inner,
-        by_stage,
-        by_node,
-        yes,
-        z,
-        begin,
-    )
+    let mut counts = queue::insert(keys, heap, pos, stack, queue::empty(), 0, begin, rest);
+    let mut floor: u32 = 0;
+    let mut count: usize = 0;
+    let mut found = false;
+    let mut node = Node(0);
+    let mut cost: u32 = 0;
+    'search: while 0 < counts.held {
+        let next = queue::take(keys, heap, pos, stack, counts, floor);
+        let x = next.pair;
+        floor = next.key;
+        log[count] = x as u32;
+        count += 1;
+        let at = pair_of(via, &steps[ENDS], row, begin, z.start, x);
+        let spent = floor - pair_estimate(by_stage, by_node, at.stage, at.node);
+        if is_goal(yes, z.end, at) {
+            found = true;
+            node = at.node;
+            cost = spent;
+            break 'search;
+        }
+        let source = Source {
+            pair: at,
+            cost: spent,
+            key: floor,
+        };
+        counts = settle(
+            keys,
+            via,
+            heap,
+            pos,
+            stack,
+            &mut filled,
+            width,
+            next.counts,
+            steps,
+            first,
+            row,
+            inner,
+            by_stage,
+            by_node,
+            source,
+        );
+    }
+    Ended {
+        found,
+        node,
+        cost,
+        count,
+    }
 }

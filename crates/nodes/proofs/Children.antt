@@ -1,5 +1,6 @@
 -- A child that is read from its table, in a pass over the inner nodes from 2 up.
-use Prim.Native.Nat.{ℕ, _+_, _*_, _≤_, _<_}
+use Prim.Native.Nat.{ℕ, _+_, _≤_, _<_}
+use mathlib.Core.Path.{_≡_}
 use mathlib.Core.List.{List}
 use lib.ListN.{getD}
 use native.Mathlib.Omega.{arith}
@@ -11,13 +12,11 @@ module _ (child : List ℕ) (count n : ℕ) (falls : Falls child (count + 1)) (i
   pub child-below : getD child n 0 < n
   child-below = falls .below n i (omega arith)
 
-  pub child-fits : Fits w64 (getD child n 0)
-  child-fits = omega (arith, child-below, falls .inside)
+  module _ (v : ℕ) (is : v ≡ getD child n 0) where
+    pub child-fits : Fits w64 v
+    child-fits = omega (arith, child-below, falls .inside)
 
-  pub child-quad : Fits w64 (getD child n 0 * 4)
-  child-quad = omega (arith, child-below, falls .inside)
+    pub child-inside : v < 512
+    child-inside = omega (arith, child-below, falls .inside)
 
-  pub child-inside : getD child n 0 < 512
-  child-inside = omega (arith, child-below, falls .inside)
-
-pub ruleset child-laws = (child-fits, child-quad, child-inside)
+pub ruleset child-laws = (child-fits, child-inside)

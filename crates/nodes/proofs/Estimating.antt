@@ -1,6 +1,6 @@
 -- The loop of `fill_diagram_estimates`: its invariant, with one law for each way on.
 use Prim.Native.Nat.{ℕ, zero, suc, _+_, _*_, _≤_, _<_}
-use mathlib.Core.Path.{_≡_, refl, _∙_}
+use mathlib.Core.Path.{_≡_, refl, _∙_, subst}
 use mathlib.Core.List.{List}
 use mathlib.Core.Option.{Option, none, some}
 use lib.ListN.{length, getD, set, length-set}
@@ -100,11 +100,17 @@ module _ (step lo hi cost : List ℕ) (count : ℕ) where
     }
 
     module _ (priced : Priced step cost count) (l : n < count + 2) where
-      pub estimating-step : getD step n 0 < 1024
-      estimating-step = priced .inside n (found .inner) l
+      pub estimating-step : (k : ℕ) → k ≡ getD step n 0 → k < 1024
+      estimating-step k is = omega (arith, priced .inside n (found .inner) l)
 
-      module _ (los : Falls lo (count + 1)) (his : Falls hi (count + 1)) (v : ℕ)
-          (join : Joins (getD r (getD lo n 0) 0) (getD r (getD hi n 0) 0) (getD cost (getD step n 0) 0) v) where
+      module _ (los : Falls lo (count + 1)) (his : Falls hi (count + 1)) (k low high v : ℕ) (ek : k ≡ getD step n 0) (el : low ≡ getD lo n 0) (eh : high ≡ getD hi n 0)
+          (joins : Joins (getD r low 0) (getD r high 0) (getD cost k 0) v) where
+        join : Joins (getD r (getD lo n 0) 0) (getD r (getD hi n 0) 0) (getD cost (getD step n 0) 0) v
+        join =
+            subst (λ (i : ℕ). Joins (getD r i 0) (getD r (getD hi n 0) 0) (getD cost (getD step n 0) 0) v) el
+            (subst (λ (i : ℕ). Joins (getD r low 0) (getD r i 0) (getD cost (getD step n 0) 0) v) eh
+            (subst (λ (i : ℕ). Joins (getD r low 0) (getD r high 0) (getD cost i 0) v) ek joins))
+
         -- the stored value at n, and the others as they were
         here : getD (set r n v) n 0 ≡ v
         here = getD-set-same r n v 0 (omega (arith, found .long, los .inside))

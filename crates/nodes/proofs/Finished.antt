@@ -45,18 +45,21 @@ module _ (lo : List ℕ) (count : ℕ) where
       leaves d o (suc (suc k)) i l = absurd (omega arith)
 
   module _ (yes : List Bool) (n : ℕ) (now : Passed lo count yes n) where
-    pub passed-next : Falls lo (count + 1) → n < count + 2 → Passed lo count (set yes n (getD yes (getD lo n 0) false)) (n + 1)
-    passed-next f l = record {
-      long = length-set yes n (getD yes (getD lo n 0) false) ∙ now .long;
+    pub passed-next : Falls lo (count + 1) → n < count + 2 → (v : ℕ) → v ≡ getD lo n 0 → Passed lo count (set yes n (getD yes v false)) (n + 1)
+    passed-next f l v lo-is = record {
+      long = length-set yes n (getD yes v false) ∙ now .long;
       few = omega arith;
       inner = omega (arith, now .inner);
       is = λ d step hi h g.
-          below-more (λ (k : ℕ). k < size d → getD (set yes n (getD yes (getD lo n 0) false)) k false ≡ eqb (finish d k) 1) n
-          (λ k i j. getD-set-other yes n k (getD yes (getD lo n 0) false) false (λ q. omega arith) ∙ now .is d step hi h g k i j)
-          (λ j. getD-set-same yes n (getD yes (getD lo n 0) false) false (omega (arith, now .long, f .inside))
-          ∙ now .is d step hi h g (getD lo n 0) (child-below lo count n f (now .inner) l) (omega (arith, child-below lo count n f (now .inner) l))
-          ∙ ap (λ (k : ℕ). eqb k 1) (sym (finish-lo d step lo hi h n (now .inner) j)));
+          below-more (λ (k : ℕ). k < size d → getD (set yes n (getD yes v false)) k false ≡ eqb (finish d k) 1) n
+          (λ k i j. getD-set-other yes n k (getD yes v false) false (λ q. omega arith) ∙ now .is d step hi h g k i j)
+          (λ j. getD-set-same yes n (getD yes v false) false (omega (arith, now .long, f .inside))
+          ∙ now .is d step hi h g v (omega (arith, below)) (omega (arith, below))
+          ∙ ap (λ (k : ℕ). eqb k 1) (ap (finish d) lo-is ∙ sym (finish-lo d step lo hi h n (now .inner) j)));
     }
+      where
+        below : getD lo n 0 < n
+        below = child-below lo count n f (now .inner) l
 
     pub passed-done : count + 2 ≤ n → Finishing lo count yes
     passed-done q = record { is = λ d step hi h f k l. now .is d step hi h f k (omega arith) l }

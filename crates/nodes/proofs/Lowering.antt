@@ -4,11 +4,9 @@ use mathlib.Core.Path.{_≡_, refl, sym, _∙_, ap}
 use mathlib.Core.List.{List}
 use lib.ListN.{getD}
 use native.Mathlib.Omega.{arith}
-use mir.Val.{Fits}
-use mir.Syntax.{w16}
 use Rattle.definitions.specs.Diagrams.{Diagram, size}
 use Rattle.theory.specs.Basics.{either, lt-or-le}
-use Rattle.diagram.specs.Tables.{Marked, Held}
+use Rattle.diagram.specs.Tables.{MARK, Marked, Held}
 use Rattle.diagram.specs.Held.{held-step, held-lo}
 use Rattle.nodes.specs.Walks.{Falls, lowered, Lowers}
 use Rattle.nodes.specs.Lowered.{lowered-leaf, lowered-below, lowered-stop}
@@ -23,21 +21,24 @@ module _ (step lo : List ℕ) (e n : ℕ) where
   pub lowering-start : Lowering step lo e n n
   lowering-start = record { below = omega arith; same = λ d hi h l. refl }
 
-  module _ (m : ℕ) (marked : Marked step) (falls : Falls lo n) (now : Lowering step lo e n m) where
-    pub lowering-less : Fits w16 e → getD step m 0 < e → getD lo m 0 < m
-    lowering-less f q = falls .below m (unmarked step m marked (omega arith)) (now .below)
+  module _ (m : ℕ) (marked : Marked step) (falls : Falls lo n) (now : Lowering step lo e n m) (k : ℕ) (is : k ≡ getD step m 0) where
+    module _ (fits : e ≤ MARK) (q : k < e) (r : ℕ) (to : r ≡ getD lo m 0) where
+      inner-one : 2 ≤ m
+      inner-one = unmarked step m marked (omega arith)
 
-    pub lowering-next : Fits w16 e → getD step m 0 < e → Lowering step lo e n (getD lo m 0)
-    lowering-next f q = record {
-      below = omega (arith, lowering-less f q, now .below);
-      same = λ d hi h l.
-          let i : 2 ≤ m = unmarked step m marked (omega arith) in
-          let s = held-step d step lo hi h m i (omega (arith, now .below)) in
-          ap (lowered d e) (sym (held-lo d step lo hi h m i (omega (arith, now .below))))
-          ∙ sym (lowered-below d (h .ordered) e m i (omega arith)) ∙ now .same d hi h l;
-    }
+      pub lowering-less : r < m
+      lowering-less = omega (arith, falls .below m inner-one (now .below))
 
-    pub lowering-done : e ≤ getD step m 0 → Lowers step lo e n m
+      pub lowering-next : Lowering step lo e n r
+      lowering-next = record {
+        below = omega (arith, lowering-less, now .below);
+        same = λ d hi h l.
+            let s = held-step d step lo hi h m inner-one (omega (arith, now .below)) in
+            ap (lowered d e) (to ∙ sym (held-lo d step lo hi h m inner-one (omega (arith, now .below))))
+            ∙ sym (lowered-below d (h .ordered) e m inner-one (omega arith)) ∙ now .same d hi h l;
+      }
+
+    pub lowering-done : e ≤ k → Lowers step lo e n m
     lowering-done q = record {
       below = now .below;
       is = λ d hi h l.

@@ -7,13 +7,13 @@ use lib.ListN.{getD}
 use native.Mathlib.Omega.{arith}
 use Rattle.definitions.specs.Diagrams.{inner, advance}
 use Rattle.theory.specs.Diagrams.{advance-leaf}
-use Rattle.diagram.specs.Tables.{Marked}
+use Rattle.diagram.specs.Tables.{MARK, Marked}
 use Rattle.diagram.specs.Held.{held-step, held-hi}
 use Rattle.nodes.specs.Walks.{lowered, Lowers, Advances}
 use Rattle.nodes.specs.Lowered.{lowered-zero, lowered-lowered, advance-lowered, advance-hi, advance-stays}
 
 -- a node whose entry is not the mark is inner
-pub unmarked : (step : List ℕ) (m : ℕ) → Marked step → getD step m 0 < 65535 → 2 ≤ m
+pub unmarked : (step : List ℕ) (m : ℕ) → Marked step → getD step m 0 < MARK → 2 ≤ m
 unmarked step zero marked q = absurd (omega (arith, marked .at-no))
 unmarked step (suc zero) marked q = absurd (omega (arith, marked .at-yes))
 unmarked step (suc (suc m)) marked q = omega arith
@@ -30,25 +30,25 @@ lowers-on step lo e f n m r le low on = record {
       on .is d hi h (omega (arith, low .below)) ∙ ap (lowered d f) (low .is d hi h l) ∙ lowered-lowered d (h .ordered) e f n le;
 }
 
-module _ (step lo hi : List ℕ) (e n m : ℕ) (marked : Marked step) (low : Lowers step lo e n m) where
-  pub advancing-hi : e < 65535 → getD step m 0 ≡ e → Advances step lo hi e n (getD hi m 0)
-  advancing-hi f q = record {
+module _ (step lo hi : List ℕ) (e n m : ℕ) (marked : Marked step) (low : Lowers step lo e n m) (k : ℕ) (at : k ≡ getD step m 0) where
+  pub advancing-hi : e < MARK → k ≡ e → (r : ℕ) → r ≡ getD hi m 0 → Advances step lo hi e n r
+  advancing-hi f q r to = record {
     is = λ d h l.
         let i : 2 ≤ m = unmarked step m marked (omega arith) in
         let w = low .is d hi h l in
         let s = held-step d step lo hi h m i (omega (arith, low .below)) in
         let x = held-hi d step lo hi h m i (omega (arith, low .below)) in
-        sym x ∙ ap (λ (k : ℕ). inner d k .hi) w
+        to ∙ sym x ∙ ap (λ (k : ℕ). inner d k .hi) w
         ∙ sym (advance-hi d (h .ordered) e n (omega arith) (ap (λ (k : ℕ). inner d k .step) (sym w) ∙ omega arith));
   }
 
-  pub advancing-stays : (getD step m 0 ≡ e → ⊥) → Advances step lo hi e n m
+  pub advancing-stays : (k ≡ e → ⊥) → Advances step lo hi e n m
   advancing-stays q = record {
     is = λ d h l.
         let w = low .is d hi h l in
         w ∙ sym (advance-stays d (h .ordered) e n (λ g p.
         let i : 2 ≤ m = omega arith in
-        q (sym (held-step d step lo hi h m i (omega (arith, low .below))) ∙ ap (λ (k : ℕ). inner d k .step) w ∙ p)));
+        q (at ∙ sym (held-step d step lo hi h m i (omega (arith, low .below))) ∙ ap (λ (k : ℕ). inner d k .step) w ∙ p)));
   }
 
 -- from node 0 every later step leads to 0

@@ -9,9 +9,9 @@ use definitions::NONE;
 use definitions::Node;
 use definitions::Shape;
 use definitions::Step;
-use diagram::HI;
-use diagram::LO;
-use diagram::STEP;
+use diagram::hi_at;
+use diagram::lo_at;
+use diagram::step_at;
 
 // The smaller of two estimates, one of them with a cost added. A sum that is no number below NONE counts as none.
 fn join(low: u32, high: u32, cost: u32) -> u32
@@ -50,7 +50,7 @@ fn inner_estimate<'a>(
 pub fn fill_diagram_estimates<'a>(
     estimates: &mut [u32; 512],
     z: Shape,
-    inner: &'a [[u16; 512]; 3],
+    inner: &'a [u32; 512],
     cost: &'a [u32; 1024],
 )
     requires { ⌜
@@ -67,9 +67,9 @@ pub fn fill_diagram_estimates<'a>(
     estimates[0] = NONE;
     estimates[1] = 0;
     for n in 2..count + 2 {
-        let e = inner[STEP][n];
-        let lo = inner[LO][n];
-        let hi = inner[HI][n];
+        let e = step_at(inner, n);
+        let lo = lo_at(inner, n);
+        let hi = hi_at(inner, n);
         estimates[n] = inner_estimate(estimates, cost, Step(e), Node(lo), Node(hi));
     }
 }

@@ -5,15 +5,9 @@ use mathlib.Core.List.{List}
 use Prim.Native.Nat.{ℕ, _≤_, _<_}
 use native.Mathlib.Omega.{arith}
 use lib.ListN.{length, getD}
-<<<<<<< HEAD
-use Rattle.heap.specs.Heap.{slices, key, parent, Heap}
-use Rattle.heap.proofs.Places.{in-pair, stands}
-use Rattle.heap.proofs.Calls.{heap-empty}
-=======
-use Rattle.heap_sift.specs.Heap.{slices, Heap}
-use Rattle.heap_sift.proofs.Places.{in-pair}
+use Rattle.heap_sift.specs.Heap.{slices, key, parent, Heap}
+use Rattle.heap_sift.proofs.Places.{in-pair, stands}
 use Rattle.heap.proofs.Facts.{heap-empty}
->>>>>>> wh
 use Rattle.queue.specs.declared.Counts.{Counts}
 use Rattle.queue.specs.Queue.{State, state, heaped, Contains, Queue, Empty}
 

@@ -23,8 +23,8 @@ const MOST_STEPS: usize = 255;
 pub fn space_needed(chart: &[u8], rules: &[u8]) -> Space
     ensures { λ r. ⌜ r ≡ spaceNeeded (readFiles (now (chart .entry)) (now (rules .entry))) ⌝ }
 {
-    let mut steps = [[0u32; 1024]; 3];
-    let mut inner = [[0u16; 512]; 3];
+    let mut steps = [[0u32; 1024]; 2];
+    let mut inner = [0u32; 512];
     let got = load(chart, rules, MOST_PAIRS, MOST_STEPS, &mut steps, &mut inner);
     if got.number != 0 {
         return Space {

@@ -4,14 +4,13 @@ ghost use lib.ListN.{length};
 ghost use Rattle.sweep_model.specs.Model.{rows};
 ghost use Rattle.checks.specs.Tables.{read};
 ghost use Rattle.sweep.specs.Runs.{Final, Concludes};
-use chart::FROM;
+use chart::ENDS;
 use checks::accepted;
 use checks::refusal;
 use convert::wide;
 use definitions::Answer;
 use definitions::NONE;
 use definitions::Shape;
-use diagram::LO;
 use nodes::fill_finishing;
 use sweep_ends::cheapest_goal;
 use sweep_ends::total_count;
@@ -24,9 +23,9 @@ pub fn conclude<'a>(
     nodes: &'a [u32],
     counts: &'a [u32; 256],
     z: Shape,
-    steps: &'a [[u32; 1024]; 3],
+    steps: &'a [[u32; 1024]; 2],
     row: &'a [u32; 256],
-    inner: &'a [[u16; 512]; 3],
+    inner: &'a [u32; 512],
     plan: &mut [u16],
 ) -> Answer
     requires { ⌜ Final z (read (now steps) (now inner)) (now row) (rows (now costs) (now via) (now nodes) (now counts)) ⌝ }
@@ -37,7 +36,7 @@ pub fn conclude<'a>(
 {
     let count = total_count(counts, z.stages as usize);
     let mut yes = [false; 512];
-    fill_finishing(&mut yes, &inner[LO], z.nodes);
+    fill_finishing(&mut yes, inner, z.nodes);
     let end = z.end.0 as usize;
     let base = wide(row[end]);
     let listed = wide(counts[end]);
@@ -45,6 +44,6 @@ pub fn conclude<'a>(
     if best.cost == NONE {
         return refusal(8, 0, 0, count);
     }
-    let length = write_plan(via, &steps[FROM], row, z.start, z.end, best.node, plan);
+    let length = write_plan(via, &steps[ENDS], row, z.start, z.end, best.node, plan);
     accepted(best.cost, length, count)
 }

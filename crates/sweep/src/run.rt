@@ -8,7 +8,7 @@ ghost use Rattle.checks.specs.Ready.{walk, Ready, graphIn, automatonIn};
 ghost use Rattle.sweep_rows.specs.Standing.{at};
 ghost use Rattle.sweep.specs.Runs.{Space, Blank, cleared, Promised};
 use crate::conclude::conclude;
-use chart::FROM;
+use chart::ENDS;
 use chart_stages::fill_first_steps;
 use checks::load;
 use checks::refusal;
@@ -28,10 +28,10 @@ fn least_costs<'a>(
     nodes: &mut [u32],
     counts: &mut [u32; 256],
     z: Shape,
-    steps: &'a [[u32; 1024]; 3],
+    steps: &'a [[u32; 1024]; 2],
     first: &'a [u16; 257],
     row: &'a [u32; 256],
-    inner: &'a [[u16; 512]; 3],
+    inner: &'a [u32; 512],
 )
     requires { ⌜ Ready z (walk (read (now steps) (now inner)) (now first) (now row)) ⌝ }
     requires { ⌜ Blank z (rows (now costs) (now via) (now nodes) (now counts)) ⌝ }
@@ -56,8 +56,8 @@ fn run<'a>(
     nodes: &mut [u32],
     plan: &mut [u16],
     z: Shape,
-    steps: &'a [[u32; 1024]; 3],
-    inner: &'a [[u16; 512]; 3],
+    steps: &'a [[u32; 1024]; 2],
+    inner: &'a [u32; 512],
 ) -> Answer
     requires { ⌜ Tables z (read (now steps) (now inner)) ⌝ }
     requires { ⌜ Space z (sweepSlices (now costs) (now via) (now nodes) (now plan)) ⌝ }
@@ -69,7 +69,7 @@ fn run<'a>(
         ⌝ }
 {
     let mut first = [0u16; 257];
-    fill_first_steps(&mut first, &steps[FROM], z.steps, z.stages);
+    fill_first_steps(&mut first, &steps[ENDS], z.steps, z.stages);
     let mut row = [0u32; 256];
     fill_row_starts(&mut row, z.stages as usize, z.nodes + 2);
     let mut counts = [0u32; 256];
@@ -103,8 +103,8 @@ pub fn sweep(
         SweepCall (now (chart .entry)) (now (rules .entry)) before after r)
         ⌝ }
 {
-    let mut steps = [[0u32; 1024]; 3];
-    let mut inner = [[0u16; 512]; 3];
+    let mut steps = [[0u32; 1024]; 2];
+    let mut inner = [0u32; 512];
     let work = lesser(lesser(cost.len(), via.len()), nodes.len());
     let got = load(chart, rules, work, plan.len(), &mut steps, &mut inner);
     if got.number != 0 {

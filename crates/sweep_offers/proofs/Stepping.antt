@@ -1,7 +1,7 @@
 -- One law for each way out of `relax_step`.
 -- Assumes nothing.
 use Prim.Native.Nat.{ℕ, _+_}
-use mathlib.Core.Path.{_≡_, sym, _∙_, ap₂, subst}
+use mathlib.Core.Path.{_≡_, sym, _∙_, ap, ap₂, subst}
 use mathlib.Core.List.{List}
 use lib.ListN.{getD}
 use borrow.Author.Tests.{eq-eqb, ne-eqb}
@@ -11,10 +11,11 @@ use Rattle.sweep_model.specs.Model.{Rows, offer}
 use Rattle.chart.specs.Tables.{Steps}
 use Rattle.sweep_offers.specs.Offers.{Open, Offering, stepped}
 
--- what `relax_step` asks is what `offer` asks
+-- what `relax_step` asks is what `offer` asks, s being the stage that the step leads to
 pub offers : {c : Steps} {row : List ℕ} {e n v t : ℕ} {r : Rows} → Offering c row e n v t r → (t ≡ 0 → ⊥)
-    → (base : ℕ) → base ≡ getD row (getD (c .to) e 0) 0 → Open base (getD (c .to) e 0) t r
-offers {c} {row} {e} {n} {v} {t} {r} o h base q = subst (λ (b : ℕ). Open b (getD (c .to) e 0) t r) (sym q) (o .takes h)
+    → (s base : ℕ) → s ≡ getD (c .to) e 0 → base ≡ getD row s 0 → Open base s t r
+offers {c} {row} {e} {n} {v} {t} {r} o h s base p q =
+    subst (λ (b : ℕ). Open b s t r) (sym q) (subst (λ (s : ℕ). Open (getD row s 0) s t r) (sym p) (o .takes h))
 
 -- the ways out of `relax_step`
 module _ (c : Steps) (row : List ℕ) (e n v t : ℕ) (r : Rows) where
@@ -22,8 +23,9 @@ module _ (c : Steps) (row : List ℕ) (e n v t : ℕ) (r : Rows) where
   unfolding stepped
   stepped-none h = sym (pick-true _ _ _ (eq-eqb t 0 h))
 
-  pub stepped-offer : (base mark : ℕ) (r′ : Rows) → (t ≡ 0 → ⊥) → base ≡ getD row (getD (c .to) e 0) 0 → mark ≡ packed e n
-      → r′ ≡ offer base (getD (c .to) e 0) t (v + getD (c .cost) e 0) mark r → r′ ≡ stepped c row e n v t r
+  pub stepped-offer : (s base mark : ℕ) (r′ : Rows) → (t ≡ 0 → ⊥) → s ≡ getD (c .to) e 0 → base ≡ getD row s 0 → mark ≡ packed e n
+      → r′ ≡ offer base s t (v + getD (c .cost) e 0) mark r → r′ ≡ stepped c row e n v t r
   unfolding stepped
-  stepped-offer base mark r′ h b m q =
-      q ∙ ap₂ (λ (i j : ℕ). offer i (getD (c .to) e 0) t (v + getD (c .cost) e 0) j r) b m ∙ sym (pick-false _ _ _ (ne-eqb t 0 h))
+  stepped-offer s base mark r′ h p b m q =
+      q ∙ ap₂ (λ (i j : ℕ). offer i s t (v + getD (c .cost) e 0) j r) b m
+      ∙ ap (λ (s : ℕ). offer (getD row s 0) s t (v + getD (c .cost) e 0) (packed e n) r) p ∙ sym (pick-false _ _ _ (ne-eqb t 0 h))

@@ -4,7 +4,8 @@ ghost use Rattle.sweep_model.specs.Model.{rows, offer as offered};
 ghost use Rattle.chart.specs.Tables.{stepsIn};
 ghost use Rattle.sweep_offers.specs.Offers.{Open, Offering, stepped};
 use chart::COST;
-use chart::TO;
+use chart::ENDS;
+use chart::to_at;
 use convert::wide;
 use definitions::NONE;
 use definitions::Node;
@@ -56,7 +57,7 @@ pub fn relax_step<'a>(
     via: &mut [u32],
     nodes: &mut [u32],
     counts: &mut [u32; 256],
-    steps: &'a [[u32; 1024]; 3],
+    steps: &'a [[u32; 1024]; 2],
     row: &'a [u32; 256],
     e: Step,
     n: Node,
@@ -76,7 +77,7 @@ pub fn relax_step<'a>(
         return;
     }
     let step = e.0 as usize;
-    let s = Stage(steps[TO][step] as u16);
+    let s = to_at(&steps[ENDS], step);
     let base = wide(row[s.0 as usize]);
     let mark = packed(e, n);
     let total = v + steps[COST][step];

@@ -10,9 +10,6 @@ use definitions::Node;
 use definitions::Shape;
 use definitions::Stage;
 use definitions::Step;
-use diagram::HI;
-use diagram::LO;
-use diagram::STEP;
 use nodes::branch;
 use nodes::descend_to;
 use sweep_offers::relax_step;
@@ -29,9 +26,9 @@ fn relax_node<'a>(
     via: &mut [u32],
     nodes: &mut [u32],
     counts: &mut [u32; 256],
-    steps: &'a [[u32; 1024]; 3],
+    steps: &'a [[u32; 1024]; 2],
     row: &'a [u32; 256],
-    inner: &'a [[u16; 512]; 3],
+    inner: &'a [u32; 512],
     n: Node,
     v: u32,
     leaving: Span,
@@ -53,11 +50,11 @@ fn relax_node<'a>(
     let end = leaving.until.0;
     while next < end {
         let e = Step(next);
-        m = descend_to(&inner[STEP], &inner[LO], e, m);
+        m = descend_to(inner, e, m);
         if m.0 == 0 {
             return;
         }
-        let t = branch(&inner[STEP], &inner[HI], e, m);
+        let t = branch(inner, e, m);
         relax_step(costs, via, nodes, counts, steps, row, e, n, v, t);
         next += 1;
     }
@@ -69,10 +66,10 @@ fn relax_row<'a>(
     via: &mut [u32],
     nodes: &mut [u32],
     counts: &mut [u32; 256],
-    steps: &'a [[u32; 1024]; 3],
+    steps: &'a [[u32; 1024]; 2],
     first: &'a [u16; 257],
     row: &'a [u32; 256],
-    inner: &'a [[u16; 512]; 3],
+    inner: &'a [u32; 512],
     s: Stage,
 )
     requires { ⌜
@@ -110,10 +107,10 @@ pub fn relax_rows<'a>(
     nodes: &mut [u32],
     counts: &mut [u32; 256],
     z: Shape,
-    steps: &'a [[u32; 1024]; 3],
+    steps: &'a [[u32; 1024]; 2],
     first: &'a [u16; 257],
     row: &'a [u32; 256],
-    inner: &'a [[u16; 512]; 3],
+    inner: &'a [u32; 512],
 )
     requires { ⌜
         (let on = walk (read (now steps) (now inner)) (now first) (now row) in

@@ -103,9 +103,8 @@ module _ {via from row : List ℕ} {start s₀ n₀ : ℕ} (t : Traceable via fr
       step-is : stepIn (getD via at 0) ≡ last .e
       step-is = step-packed (last .e) (last .m) (getD via at 0) packs small
 
-      pub follow-packed : (stepIn (getD via at 0) < 1024) × (getD from (stepIn (getD via at 0)) 0 < 65536)
-      follow-packed =
-          (omega (arith, step-is, last .exists), omega (arith, ap (λ (i : ℕ). getD from i 0) step-is, last .down, follow-stage))
+      pub follow-packed : stepIn (getD via at 0) < 1024
+      follow-packed = omega (arith, step-is, last .exists)
 
       module _ {p : Predecessor} (c : CameFrom from (getD via at 0) p) where
         by-last : p .step .0 ≡ last .e

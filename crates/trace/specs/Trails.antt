@@ -1,16 +1,16 @@
 -- The trail from a pair back to the start: each pair keeps the step and the node by which it was reached, packed in one number.
 -- Assumes nothing.
-use Prim.Native.Nat.{ℕ, _+_, _*_, _/_, _%_, _≤_, _<_}
+use Prim.Native.Nat.{ℕ, _*_, _/_, _%_, _+_, _≤_, _<_}
 use mathlib.Core.Path.{_≡_}
-use native.Mathlib.Omega.{arith}
 use mathlib.Core.List.{List, [], _∷_, _++_}
 use lib.ListN.{length, getD}
+use Rattle.theory.specs.Packing.{pack, first-packed, second-packed}
 use Rattle.rows.specs.Rows.{rowStarts}
 use Rattle.trace.specs.declared.Predecessor.{Predecessor}
 
 -- a step and a node in one number, and both taken out of it
 abbrev pub packed : ℕ → ℕ → ℕ
-packed e n = e * 512 + n
+packed e n = pack 512 e n
 
 abbrev pub stepIn : ℕ → ℕ
 stepIn mark = mark / 512
@@ -19,10 +19,10 @@ abbrev pub nodeIn : ℕ → ℕ
 nodeIn mark = mark % 512
 
 pub step-packed : (e n mark : ℕ) → mark ≡ packed e n → n < 512 → stepIn mark ≡ e
-step-packed e n mark q h = omega arith
+step-packed e n mark q h = first-packed 512 e n mark q h
 
 pub node-packed : (e n mark : ℕ) → mark ≡ packed e n → n < 512 → nodeIn mark ≡ n
-node-packed e n mark q h = omega arith
+node-packed e n mark q h = second-packed 512 e n mark q h
 
 -- what a mark says of the pair that keeps it, by the table of the stages that steps leave
 pub record CameFrom (from : List ℕ) (mark : ℕ) (p : Predecessor) : Type 0 where

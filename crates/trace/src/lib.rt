@@ -3,7 +3,9 @@ ghost use mathlib.Core.Path.{_≡_};
 ghost use Prim.Native.Nat.{_+_, _-_, _≤_, _<_};
 ghost use lib.ListN.{length, getD, take, drop};
 ghost use mathlib.Core.List.{_++_, reverse};
+ghost use Rattle.chart.specs.Ends.{froms};
 ghost use Rattle.trace.specs.Trails.{stepIn, CameFrom, Traceable};
+use chart::from_at;
 use convert::wide;
 use definitions::Node;
 use definitions::Stage;
@@ -31,15 +33,14 @@ pub fn pair_at(row: &[u32; 256], s: Stage, n: Node) -> usize
 }
 
 // What a pair was reached from, by the mark that it keeps.
-fn came_from(from: &[u32; 1024], mark: u32) -> Predecessor
-    requires { ⌜ (stepIn mark < 1024) × (getD (now from) (stepIn mark) 0 < 65536) ⌝ }
-    ensures { λ r. ⌜ CameFrom (now (from .entry)) mark r ⌝ }
+fn came_from(ends: &[u32; 1024], mark: u32) -> Predecessor
+    requires { ⌜ stepIn mark < 1024 ⌝ }
+    ensures { λ r. ⌜ CameFrom (froms (now (ends .entry))) mark r ⌝ }
 {
     let step = step_in(mark);
-    let left = from[step.0 as usize];
     Predecessor {
         step,
-        stage: Stage(left as u16),
+        stage: from_at(ends, step.0 as usize),
         node: node_in(mark),
     }
 }
@@ -48,17 +49,17 @@ fn came_from(from: &[u32; 1024], mark: u32) -> Predecessor
 // they are.
 fn trace_back<'a>(
     via: &'a [u32],
-    from: &'a [u32; 1024],
+    ends: &'a [u32; 1024],
     row: &'a [u32; 256],
     start: Stage,
     stage: Stage,
     node: Node,
     plan: &mut [u16],
 ) -> usize
-    requires { ⌜ Traceable (now via) (now from) (now row) (start .0) (stage .0) (node .0) ⌝ }
+    requires { ⌜ Traceable (now via) (froms (now ends)) (now row) (start .0) (stage .0) (node .0) ⌝ }
     requires { ⌜ stage .0 - start .0 ≤ length (now plan) ⌝ }
     ensures { λ r. ⌜
-        ((x : Traceable (now (via .entry)) (now (from .entry)) (now (row .entry)) (start .0) (stage .0) (node .0))
+        ((x : Traceable (now (via .entry)) (froms (now (ends .entry))) (now (row .entry)) (start .0) (stage .0) (node .0))
         → (r ≡ length (x .steps)) × (now (plan .exit) ≡ reverse (x .steps) ++ drop r (now (plan .entry))))
         ⌝ }
 {
@@ -66,7 +67,7 @@ fn trace_back<'a>(
     let mut n = node;
     let mut count: usize = 0;
     while start.0 < s.0 {
-        let before = came_from(from, via[pair_at(row, s, n)]);
+        let before = came_from(ends, via[pair_at(row, s, n)]);
         plan[count] = before.step.0;
         s = before.stage;
         n = before.node;
@@ -96,21 +97,21 @@ fn reverse_front(plan: &mut [u16], count: usize)
 // Writes the steps that lead from the start to a pair to the front of the plan, and answers how many they are.
 pub fn write_plan<'a>(
     via: &'a [u32],
-    from: &'a [u32; 1024],
+    ends: &'a [u32; 1024],
     row: &'a [u32; 256],
     start: Stage,
     stage: Stage,
     node: Node,
     plan: &mut [u16],
 ) -> usize
-    requires { ⌜ Traceable (now via) (now from) (now row) (start .0) (stage .0) (node .0) ⌝ }
+    requires { ⌜ Traceable (now via) (froms (now ends)) (now row) (start .0) (stage .0) (node .0) ⌝ }
     requires { ⌜ stage .0 - start .0 ≤ length (now plan) ⌝ }
     ensures { λ r. ⌜
-        ((x : Traceable (now (via .entry)) (now (from .entry)) (now (row .entry)) (start .0) (stage .0) (node .0))
+        ((x : Traceable (now (via .entry)) (froms (now (ends .entry))) (now (row .entry)) (start .0) (stage .0) (node .0))
         → (r ≡ length (x .steps)) × (now (plan .exit) ≡ x .steps ++ drop r (now (plan .entry))))
         ⌝ }
 {
-    let length = trace_back(via, from, row, start, stage, node, plan);
+    let length = trace_back(via, ends, row, start, stage, node, plan);
     reverse_front(plan, length);
     length
 }

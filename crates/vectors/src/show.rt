@@ -39,13 +39,13 @@ fn diagram_answer(r: DiagramRead) {
 
 // A chart file.
 pub fn show_chart(file: &[u8]) {
-    let mut table = [[0u32; 1024]; 3];
+    let mut table = [[0u32; 1024]; 2];
     chart_answer(chart::read_chart(file, &mut table));
 }
 
 // A diagram file over a chart of so many steps.
 pub fn show_diagram(file: &[u8], steps: usize) {
-    let mut table = [[0u16; 512]; 3];
+    let mut table = [0u32; 512];
     diagram_answer(diagram::read_diagram(file, steps, &mut table));
 }
 

@@ -1,7 +1,7 @@
 -- `checks::load` meets its contract: one law for each answer.
 use mathlib.Core.Path.{refl}
 use native.Mathlib.Omega.{arith}
-use Rattle.checks.proofs.Passes.{some-stages, chart-refused, rules-refused, few-nodes, few-pairs, work-refused, plan-refused, loaded}
+use Rattle.checks.proofs.Passes.{few-steps, some-stages, chart-refused, rules-refused, few-nodes, few-pairs, work-refused, plan-refused, loaded}
 use borrow.Author.Needs.{needs}
 use Rattle.checks.proofs.load.Statement.{statement}
 use Rattle.checks.proofs.load.Tie as tie
@@ -38,7 +38,7 @@ returns-2 c =
     let p : tie.Else1 = search in
     let x : tie.After-read-chart = search in
     let s : tie.Start = search in
-    rules-refused (s .args .chart .now) (s .args .rules .now) (s .args .work) (s .args .plan) _ (x .read-chart .ensures .0) (p .if1 .left) _ (y .read-diagram .ensures .answer (s .pre .of-nodes)) _ _ (n .if2 .taken) (c .refused2 .ensures)
+    rules-refused (s .args .chart .now) (s .args .rules .now) (s .args .work) (s .args .plan) _ (x .read-chart .ensures .0) (p .if1 .left) _ (y .read-diagram .ensures .answer) _ _ (n .if2 .taken) (c .refused2 .ensures)
 
 cast-stages : tie.Need-cast-stages
 cast-stages c = search needs
@@ -50,7 +50,7 @@ add-if3 c =
     let p : tie.Else1 = search in
     let x : tie.After-read-chart = search in
     let s : tie.Start = search in
-    omega (arith, few-nodes (s .args .chart .now) (s .args .rules .now) (s .args .work) (s .args .plan) _ (x .read-chart .ensures .0) (p .if1 .left) _ (y .read-diagram .ensures .answer (s .pre .of-nodes)) (q .if2 .left))
+    omega (arith, few-nodes (s .args .chart .now) (s .args .rules .now) (s .args .work) (s .args .plan) _ (x .read-chart .ensures .0) (p .if1 .left) _ (y .read-diagram .ensures .answer) (q .if2 .left))
 
 mul-if3 : tie.Need-mul-if3
 mul-if3 c =
@@ -59,7 +59,7 @@ mul-if3 c =
     let p : tie.Else1 = search in
     let x : tie.After-read-chart = search in
     let s : tie.Start = search in
-    omega (arith, few-pairs (s .args .chart .now) (s .args .rules .now) (s .args .work) (s .args .plan) _ (x .read-chart .ensures .0) (p .if1 .left) _ (y .read-diagram .ensures .answer (s .pre .of-nodes)) (q .if2 .left))
+    omega (arith, few-pairs (s .args .chart .now) (s .args .rules .now) (s .args .work) (s .args .plan) _ (x .read-chart .ensures .0) (p .if1 .left) _ (y .read-diagram .ensures .answer) (q .if2 .left))
 
 refused-requires-3 : tie.Need-refused-requires-3
 refused-requires-3 c κs = search needs
@@ -72,7 +72,7 @@ returns-3 c =
     let p : tie.Else1 = search in
     let x : tie.After-read-chart = search in
     let s : tie.Start = search in
-    work-refused (s .args .chart .now) (s .args .rules .now) (s .args .work) (s .args .plan) _ (x .read-chart .ensures .0) (p .if1 .left) _ (y .read-diagram .ensures .answer (s .pre .of-nodes)) (q .if2 .left) _ _ (n .if3 .taken) (c .refused3 .ensures)
+    work-refused (s .args .chart .now) (s .args .rules .now) (s .args .work) (s .args .plan) _ (x .read-chart .ensures .0) (p .if1 .left) _ (y .read-diagram .ensures .answer) (q .if2 .left) _ _ (n .if3 .taken) (c .refused3 .ensures)
 
 sub-if4 : tie.Need-sub-if4
 sub-if4 c =
@@ -93,7 +93,7 @@ returns-4 c =
     let p : tie.Else1 = search in
     let x : tie.After-read-chart = search in
     let s : tie.Start = search in
-    plan-refused (s .args .chart .now) (s .args .rules .now) (s .args .work) (s .args .plan) _ (x .read-chart .ensures .0) (p .if1 .left) _ (y .read-diagram .ensures .answer (s .pre .of-nodes)) (q .if2 .left) _ _ (f .if3 .left) (n .if4 .taken) (c .refused4 .ensures)
+    plan-refused (s .args .chart .now) (s .args .rules .now) (s .args .work) (s .args .plan) _ (x .read-chart .ensures .0) (p .if1 .left) _ (y .read-diagram .ensures .answer) (q .if2 .left) _ _ (f .if3 .left) (n .if4 .taken) (c .refused4 .ensures)
 
 returns-5 : tie.Need-returns-5
 returns-5 c =
@@ -104,8 +104,9 @@ returns-5 c =
     let x : tie.After-read-chart = search in
     let s : tie.Start = search in
     let fc = x .read-chart .ensures .1 (s .pre .of-steps) in
-    let fd = y .read-diagram .ensures .filled (s .pre .of-nodes) in
-    loaded (s .args .chart .now) (s .args .rules .now) (s .args .work) (s .args .plan) _ (x .read-chart .ensures .0) (p .if1 .left) _ (y .read-diagram .ensures .answer (s .pre .of-nodes)) (q .if2 .left) _ _ _ _ fc fd _ refl refl refl refl refl refl _ refl refl refl refl (f .if3 .left) (c .if4 .left)
+    let few = few-steps (s .args .chart .now) (s .args .rules .now) (s .args .work) (s .args .plan) _ (x .read-chart .ensures .0) (p .if1 .left) in
+    let fd = y .read-diagram .ensures .filled (s .pre .of-nodes) few in
+    loaded (s .args .chart .now) (s .args .rules .now) (s .args .work) (s .args .plan) _ (x .read-chart .ensures .0) (p .if1 .left) _ (y .read-diagram .ensures .answer) (q .if2 .left) _ _ _ _ fc fd _ refl refl refl refl refl refl _ refl refl refl refl (f .if3 .left) (c .if4 .left)
 
 pub load-spec : {M : Type 1} → statement M
 load-spec =

@@ -26,22 +26,22 @@ returns c =
 cast-stages : tie.Need-cast-stages
 cast-stages c = search needs
 
-add-t13 : tie.Need-add-t13
-add-t13 c =
+add-t12 : tie.Need-add-t12
+add-t12 c =
     let passed : tie.Else1 = search in
     let got : tie.After-load = search in
     let start : tie.Start = search in
     omega (arith, small _ _ (load (start .args .chart .now) (start .args .rules .now) (131072 ∷ []) 255) (got .load .ensures) (passed .if1 .left) .narrow)
 
-mul-t14 : tie.Need-mul-t14
-mul-t14 c =
+mul-t13 : tie.Need-mul-t13
+mul-t13 c =
     let passed : tie.Else1 = search in
     let got : tie.After-load = search in
     let start : tie.Start = search in
     omega (arith, small _ _ (load (start .args .chart .now) (start .args .rules .now) (131072 ∷ []) 255) (got .load .ensures) (passed .if1 .left) .few-pairs)
 
-sub-t15 : tie.Need-sub-t15
-sub-t15 c =
+sub-t14 : tie.Need-sub-t14
+sub-t14 c =
     let passed : tie.Else1 = search in
     let got : tie.After-load = search in
     let start : tie.Start = search in
@@ -57,4 +57,4 @@ returns-2 c =
 
 pub space-needed-spec : {M : Type 1} → statement M
 space-needed-spec =
-    tie.close (tie.spec load-requires returns cast-stages add-t13 mul-t14 sub-t15 returns-2)
+    tie.close (tie.spec load-requires returns cast-stages add-t12 mul-t13 sub-t14 returns-2)

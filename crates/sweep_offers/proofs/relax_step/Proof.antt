@@ -10,17 +10,11 @@ returns c = stepped-none _ _ _ _ _ _ _ (c .if1 .taken)
 cast-step : tie.Need-cast-step
 cast-step c = search needs
 
-mul-t19 : tie.Need-mul-t19
-mul-t19 c = search needs
+index-1-to-at : tie.Need-index-1-to-at
+index-1-to-at c = search needs
 
-index-1-t22 : tie.Need-index-1-t22
-index-1-t22 c = search needs
-
-index-2-t22 : tie.Need-index-2-t22
-index-2-t22 c = search needs
-
-cast-t23 : tie.Need-cast-t23
-cast-t23 c = search needs
+to-at-requires : tie.Need-to-at-requires
+to-at-requires c κs = search needs
 
 cast-wide : tie.Need-cast-wide
 cast-wide c = search needs
@@ -52,9 +46,10 @@ add-total c = search needs
 offer-requires : tie.Need-offer-requires
 offer-requires c κs =
     let based : tie.After-wide = search in
+    let led : tie.After-to-at = search in
     let goes : tie.Else1 = search in
     let start : tie.Start = search in
-    offers (start .pre) (goes .if1 .left) _ (based .wide .ensures .0)
+    offers (start .pre) (goes .if1 .left) _ _ (led .to-at .ensures) (based .wide .ensures .0)
 
 same-length : tie.Need-same-length
 same-length c = search needs
@@ -70,8 +65,9 @@ returns-2 c =
     let offered : tie.After-offer = search in
     let marked : tie.After-packed = search in
     let based : tie.After-wide = search in
+    let led : tie.After-to-at = search in
     let goes : tie.Else1 = search in
-    stepped-offer _ _ _ _ _ _ _ _ _ _ (goes .if1 .left) (based .wide .ensures .0) (marked .packed .ensures) (offered .offer .ensures)
+    stepped-offer _ _ _ _ _ _ _ _ _ _ _ (goes .if1 .left) (led .to-at .ensures) (based .wide .ensures .0) (marked .packed .ensures) (offered .offer .ensures)
 
 pub relax-step-spec : {M : Type 1} → statement M
 relax-step-spec =
@@ -79,10 +75,8 @@ relax-step-spec =
     (tie.spec
     returns
     cast-step
-    mul-t19
-    index-1-t22
-    index-2-t22
-    cast-t23
+    index-1-to-at
+    to-at-requires
     cast-wide
     mul-wide
     element-copy-out-wide

@@ -26,19 +26,13 @@ abbrev μ-loop : tie.MeasureT-loop
 loop-holds : tie.Need-loop-holds Inv-loop μ-loop
 loop-holds c = (walk-start, refl, refl, refl)
 
-index-1-descend-to : tie.Need-index-1-descend-to Inv-loop μ-loop
-index-1-descend-to c = search needs
-
-index-1-descend-to-2 : tie.Need-index-1-descend-to-2 Inv-loop μ-loop
-index-1-descend-to-2 c = search needs
-
 descend-to-requires : tie.Need-descend-to-requires Inv-loop μ-loop
 descend-to-requires c κs =
     let turn : tie.In-loop Inv-loop μ-loop = search in
     let head : tie.At-loop Inv-loop μ-loop = search in
     let start : tie.Start Inv-loop μ-loop = search in
     let w = head .loop .inv .0 (start .pre) in
-    (walk-marked w, walk-falls w _ (omega arith))
+    (walk-marked w, walk-falls w _ (omega arith), omega (arith, walk-step w (turn .loop-test .taken)))
 
 same-length : tie.Need-same-length Inv-loop μ-loop
 same-length c =
@@ -61,12 +55,6 @@ returns c =
     let turn : tie.In-loop Inv-loop μ-loop = search in
     let head : tie.At-loop Inv-loop μ-loop = search in
     λ x. walk-dead (head .loop .inv .0 x) (turn .loop-test .taken) (low .descend-to .ensures) (c .if1 .taken)
-
-index-1-branch : tie.Need-index-1-branch Inv-loop μ-loop
-index-1-branch c = search needs
-
-index-1-branch-2 : tie.Need-index-1-branch-2 Inv-loop μ-loop
-index-1-branch-2 c = search needs
 
 branch-requires : tie.Need-branch-requires Inv-loop μ-loop
 branch-requires c κs =
@@ -138,15 +126,11 @@ relax-node-spec =
     Inv-loop
     μ-loop
     loop-holds
-    index-1-descend-to
-    index-1-descend-to-2
     descend-to-requires
     same-length
     same-length-2
     same-length-3
     returns
-    index-1-branch
-    index-1-branch-2
     branch-requires
     relax-step-requires
     add-next

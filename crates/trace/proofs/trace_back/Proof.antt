@@ -5,19 +5,20 @@ use mathlib.Core.List.{List, [], _∷_, _++_, reverse, reverse-cons}
 use native.Mathlib.Omega.{arith}
 use lib.ListN.{length, drop, length-reverse}
 use borrow.Author.Needs.{needs}
+use Rattle.chart.specs.Ends.{froms}
 use Rattle.trace.specs.Trails.{Traceable}
 use Rattle.trace.proofs.Steps.{Follows, follow-start, follow-stage, follow-fits, follow-packed, follow-less, follow-more, follow-done, put-on}
 use Rattle.trace.proofs.trace_back.Statement.{statement}
 use Rattle.trace.proofs.trace_back.Tie as tie
 
 abbrev Inv-loop : tie.InvT-loop
-Inv-loop via from row start plan₀ s₀ n₀ count₀ plan s n count =
-    ((x : Traceable via from row (start .0) (s₀ .0) (n₀ .0)) → (taken : List ℕ) × Follows x (s .0) (n .0) taken
+Inv-loop via ends row start plan₀ s₀ n₀ count₀ plan s n count =
+    ((x : Traceable via (froms ends) row (start .0) (s₀ .0) (n₀ .0)) → (taken : List ℕ) × Follows x (s .0) (n .0) taken
     × (length taken ≡ count) × (plan ≡ reverse taken ++ drop count plan₀))
     × (count + s .0 ≤ s₀ .0) × (length plan ≡ length plan₀)
 
 abbrev μ-loop : tie.MeasureT-loop
-μ-loop via from row start plan₀ s₀ n₀ count₀ plan s n count = s .0
+μ-loop via ends row start plan₀ s₀ n₀ count₀ plan s n count = s .0
 
 loop-holds : tie.Need-loop-holds Inv-loop μ-loop
 loop-holds c = ((λ x. ([], follow-start x, refl, refl)), omega arith, refl)

@@ -84,7 +84,7 @@ use Rattle.chart.proofs.reader.read_steps.Code.Mir as mir-of
 
 -- the table's type and the answer's
 abbrev TB : RattleType
-TB = Array (Array u32 1024) 3
+TB = Array (Array u32 1024) 2
 
 abbrev SR : RattleType
 SR = R.the-row
@@ -97,7 +97,7 @@ abbrev fileTy : Ty
 fileTy = sliceTy (tyRef (named 0) imm (tyInt w8))
 
 abbrev tableTy : Ty
-tableTy = tyArray (tyArray (tyInt w32) 1024) 3
+tableTy = tyArray (tyArray (tyInt w32) 1024) 2
 
 -- the code after the loop
 abbrev rest : Body

@@ -10,15 +10,12 @@ use Rattle.chart.proofs.reader.stopped.Reads as stopped-reads
 use Rattle.chart.proofs.reader.step_fault.Reads as step-fault-reads
 use Rattle.chart.proofs.reader.step_of.Reads as step-of-reads
 
--- the places on the way: the step has passed, its values are there
+-- the places on the way: the step has passed, its values are there, its stages are in one number
 abbrev passed : tie.After-step-of → tie.Else1
 passed c = search
 
-abbrev read : tie.After-struct-known → tie.After-step-of
+abbrev read : tie.After-ends-of → tie.After-step-of
 read c = search
-
-abbrev read-on : tie.After-struct-known2 → tie.After-struct-known
-read-on c = search
 
 abbrev start-of : tie.Else1 → tie.Start
 start-of c = search
@@ -63,41 +60,29 @@ returns c = search (take-laws, body-laws, needs)
 step-of-requires : tie.Need-step-of-requires
 step-of-requires c κs = search (take-laws, body-laws, needs)
 
-cast-steps : tie.Need-cast-steps
-cast-steps c = search needs
+ends-of-requires : tie.Need-ends-of-requires
+ends-of-requires c κs = search needs
 
 mul-steps : tie.Need-mul-steps
-mul-steps c = search (take-laws, body-laws, needs)
+mul-steps c = omega (arith, room (passed (read c)))
 
 index-1-steps : tie.Need-index-1-steps
 index-1-steps c = search needs
 
 index-2-steps : tie.Need-index-2-steps
-index-2-steps c = search (take-laws, body-laws, needs)
-
-cast-steps-2 : tie.Need-cast-steps-2
-cast-steps-2 c = search needs
+index-2-steps c = omega (arith, room (passed (read c)))
 
 mul-steps-2 : tie.Need-mul-steps-2
-mul-steps-2 c = omega (arith, room (passed (read (read-on c))))
+mul-steps-2 c = omega (arith, room (passed (read c)))
 
 index-1-steps-2 : tie.Need-index-1-steps-2
 index-1-steps-2 c = search needs
 
 index-2-steps-2 : tie.Need-index-2-steps-2
-index-2-steps-2 c = omega (arith, room (passed (read (read-on c))))
+index-2-steps-2 c = omega (arith, room (passed (read c)))
 
-mul-steps-3 : tie.Need-mul-steps-3
-mul-steps-3 c = omega (arith, room (passed (read (read-on c))))
-
-index-1-steps-3 : tie.Need-index-1-steps-3
-index-1-steps-3 c = search needs
-
-index-2-steps-3 : tie.Need-index-2-steps-3
-index-2-steps-3 c = omega (arith, room (passed (read (read-on c))))
-
-add-t16 : tie.Need-add-t16
-add-t16 c = omega (arith, room (passed (read (read-on c))))
+add-t17 : tie.Need-add-t17
+add-t17 c = omega (arith, room (passed (read c)))
 
 returns-2 : tie.Need-returns-2
 returns-2 c = search (take-laws, body-laws, needs)
@@ -107,10 +92,11 @@ returns-3 c = search (take-laws, body-laws, needs)
 
 returns-4 : tie.Need-returns-4
 returns-4 c =
-    let q = read (read-on c) in
+    let q = read c in
     let p = passed q in
     let s = start-of p in
-    take-step _ _ _ _ _ (s .pre) _ _ (search needs) _ (p .before .step-fault .ensures) (p .if1 .left) _ (q .step-of .ensures)
+    take-step _ _ _ _ _ (s .pre) _ _ (search needs) _ (p .before .step-fault .ensures) (p .if1 .left) _ (q .step-of .ensures) _ (c .ends-of .ensures)
+    (omega (arith, q .step-of .ok))
 
 pub take-step-spec : {M : Type 1} → statement M
 take-step-spec =
@@ -128,18 +114,14 @@ take-step-spec =
     stopped-requires-3
     returns
     step-of-requires
-    cast-steps
+    ends-of-requires
     mul-steps
     index-1-steps
     index-2-steps
-    cast-steps-2
     mul-steps-2
     index-1-steps-2
     index-2-steps-2
-    mul-steps-3
-    index-1-steps-3
-    index-2-steps-3
-    add-t16
+    add-t17
     returns-2
     returns-3
     returns-4)

@@ -24,21 +24,11 @@ loop-holds c =
     let start : tie.Start Inv-loop μ-loop = search in
     (search needs, steps-rise (start .pre), steps-end (start .pre), λ x. none-yet x)
 
-mul-t : tie.Need-mul-t Inv-loop μ-loop
-mul-t c = search needs
+index-1-to-at : tie.Need-index-1-to-at Inv-loop μ-loop
+index-1-to-at c = search needs
 
-index-1-t : tie.Need-index-1-t Inv-loop μ-loop
-index-1-t c = search needs
-
-index-2-t : tie.Need-index-2-t Inv-loop μ-loop
-index-2-t c = search needs
-
-cast-t : tie.Need-cast-t Inv-loop μ-loop
-cast-t c =
-    let turn : tie.In-loop Inv-loop μ-loop = search in
-    let head : tie.At-loop Inv-loop μ-loop = search in
-    let start : tie.Start Inv-loop μ-loop = search in
-    omega (arith, to-below (start .pre) (head .loop .inv .0) (turn .loop-test .taken))
+to-at-requires : tie.Need-to-at-requires Inv-loop μ-loop
+to-at-requires c κs = search needs
 
 mul-through : tie.Need-mul-through Inv-loop μ-loop
 mul-through c = search needs
@@ -51,10 +41,12 @@ index-2-through c = search needs
 
 through-requires : tie.Need-through-requires Inv-loop μ-loop
 through-requires c κs =
+    let entered : tie.After-to-at Inv-loop μ-loop = search in
     let turn : tie.In-loop Inv-loop μ-loop = search in
     let head : tie.At-loop Inv-loop μ-loop = search in
     let start : tie.Start Inv-loop μ-loop = search in
-    (to-below (start .pre) (head .loop .inv .0) (turn .loop-test .taken), step-adds (start .pre) (head .loop .inv .0) (turn .loop-test .taken))
+    let leads = entered .to-at .ensures in
+    (to-below (start .pre) (head .loop .inv .0) (turn .loop-test .taken) leads, step-adds (start .pre) (head .loop .inv .0) (turn .loop-test .taken) leads)
 
 add-e : tie.Need-add-e Inv-loop μ-loop
 add-e c = search needs
@@ -65,9 +57,11 @@ loop-less c = search needs
 loop-again : tie.Need-loop-again Inv-loop μ-loop
 loop-again c =
     let done : tie.After-through Inv-loop μ-loop = search in
+    let entered : tie.After-to-at Inv-loop μ-loop = search in
     let turn : tie.In-loop Inv-loop μ-loop = search in
     let head : tie.At-loop Inv-loop μ-loop = search in
-    (search needs, search needs, search needs, λ x. step-turn x (head .loop .inv .0) (turn .loop-test .taken) (head .loop .inv .3 x) (done .through .ensures))
+    let leads = entered .to-at .ensures in
+    (search needs, search needs, search needs, λ x. step-turn x (head .loop .inv .0) (turn .loop-test .taken) leads (head .loop .inv .3 x) (done .through .ensures))
 
 returns : tie.Need-returns Inv-loop μ-loop
 returns c =
@@ -81,10 +75,8 @@ least-through-spec =
     Inv-loop
     μ-loop
     loop-holds
-    mul-t
-    index-1-t
-    index-2-t
-    cast-t
+    index-1-to-at
+    to-at-requires
     mul-through
     index-1-through
     index-2-through

@@ -2,16 +2,17 @@
 use Prim.Native.Nat.{_+_, _-_, _≤_}
 use mathlib.Core.Path.{_≡_}
 use lib.ListN.{length}
+use Rattle.chart.specs.Ends.{froms}
 use Rattle.chart_stages.proofs.Firsts.{FirstsBefore, firsts-laws}
 use borrow.Author.Needs.{needs}
 use Rattle.chart_stages.proofs.first.fill_first_steps.Statement.{statement}
 use Rattle.chart_stages.proofs.first.fill_first_steps.Tie as tie
 
 abbrev Inv-loop : tie.InvT-loop
-Inv-loop first₀ from count stages e₀ s₀ first e s = (s ≤ stages + 1) × (e ≤ count) × (length first ≡ 257) × FirstsBefore count from first e s
+Inv-loop first₀ ends count stages e₀ s₀ first e s = (s ≤ stages + 1) × (e ≤ count) × (length first ≡ 257) × FirstsBefore count (froms ends) first e s
 
 abbrev μ-loop : tie.MeasureT-loop
-μ-loop first₀ from count stages e₀ s₀ first e s = stages + 1 - s
+μ-loop first₀ ends count stages e₀ s₀ first e s = stages + 1 - s
 
 loop-holds : tie.Need-loop-holds Inv-loop μ-loop
 loop-holds c = search (firsts-laws, needs)

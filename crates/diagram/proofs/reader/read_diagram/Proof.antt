@@ -5,17 +5,14 @@ use borrow.Author.Needs.{needs}
 use Rattle.diagram.proofs.reader.read_diagram.Statement.{statement}
 use Rattle.diagram.proofs.reader.read_diagram.Tie as tie
 
-index-1-inner : tie.Need-index-1-inner
-index-1-inner c = search needs
+word-requires : tie.Need-word-requires
+word-requires c κs = search needs
 
-index-2-inner : tie.Need-index-2-inner
-index-2-inner c = search needs
+element-write-inner : tie.Need-element-write-inner
+element-write-inner c = search needs
 
-index-1-inner-2 : tie.Need-index-1-inner-2
-index-1-inner-2 c = search needs
-
-index-2-inner-2 : tie.Need-index-2-inner-2
-index-2-inner-2 c = search needs
+element-write-inner-2 : tie.Need-element-write-inner-2
+element-write-inner-2 c = search needs
 
 field-at-requires : tie.Need-field-at-requires
 field-at-requires c κs = search needs
@@ -75,10 +72,9 @@ pub read-diagram-spec : {M : Type 1} → statement M
 read-diagram-spec =
     tie.close
     (tie.spec
-    index-1-inner
-    index-2-inner
-    index-1-inner-2
-    index-2-inner-2
+    word-requires
+    element-write-inner
+    element-write-inner-2
     field-at-requires
     enum-told
     bad-head-requires

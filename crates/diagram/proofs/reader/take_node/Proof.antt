@@ -2,25 +2,20 @@
 use Rattle.fields.specs.Positions.{body-laws}
 use Prim.Native.Nat.{_+_, _<_}
 use native.Mathlib.Omega.{arith}
-use Rattle.diagram.proofs.Nodes.{node-below, take-node, take-laws}
+use Rattle.definitions.specs.Fields.{two}
+use Rattle.diagram.proofs.Nodes.{node-below, node-lo-below, node-hi-below, take-node, take-laws}
 use borrow.Author.Needs.{needs}
 use Rattle.diagram.proofs.reader.take_node.Statement.{statement}
 use Rattle.diagram.proofs.reader.take_node.Tie as tie
-use Rattle.diagram.proofs.reader.node_fault.Reads as node-fault-reads
-use Rattle.diagram.proofs.reader.stopped.Reads as stopped-reads
-use Rattle.diagram.proofs.reader.store_node.Reads as store-node-reads
 
 -- the places on the way: the node has passed, it is stored
 abbrev start-of : tie.Else1 → tie.Start
 start-of c = search
 
-abbrev passed : tie.After-store-node-arg → tie.Else1
+abbrev passed : tie.After-store-node → tie.Else1
 passed c = search
 
-abbrev lent : tie.After-store-node → tie.After-store-node-arg
-lent c = search
-
--- a node that passed has room in the table
+-- a node that passed has room in the tables
 room : (c : tie.Else1) → start-of c .args .read .nodes + 2 < 512
 room c = node-below _ _ _ _ _ (c .before .node-fault .ensures) (c .if1 .left)
 
@@ -48,9 +43,6 @@ part-body-start c = search (take-laws, body-laws, needs)
 part-body-end : tie.Need-part-body-end
 part-body-end c = search (take-laws, body-laws, needs)
 
-index-1-node-fault : tie.Need-index-1-node-fault
-index-1-node-fault c = search needs
-
 node-fault-requires : tie.Need-node-fault-requires
 node-fault-requires c κs = search (take-laws, body-laws, needs)
 
@@ -64,10 +56,16 @@ add-store-node : tie.Need-add-store-node
 add-store-node c = omega (arith, room c)
 
 store-node-requires : tie.Need-store-node-requires
-store-node-requires c κs = (search body-laws, room (passed c))
+store-node-requires c κs =
+    let p : tie.Else1 = search in (
+      search body-laws,
+      room p,
+      node-lo-below _ _ _ _ _ (p .before .node-fault .ensures) (p .if1 .left),
+      node-hi-below _ _ _ _ _ (p .before .node-fault .ensures) (p .if1 .left),
+    )
 
-add-t15 : tie.Need-add-t15
-add-t15 c = omega (arith, room (passed (lent c)))
+add-t16 : tie.Need-add-t16
+add-t16 c = omega (arith, room (passed c))
 
 returns-2 : tie.Need-returns-2
 returns-2 c = search (take-laws, body-laws, needs)
@@ -77,8 +75,9 @@ returns-3 c = search (take-laws, body-laws, needs)
 
 returns-4 : tie.Need-returns-4
 returns-4 c =
-    let p = passed (lent c) in
-    take-node _ _ _ (start-of p .args .inner .now) _ (start-of p .pre) _ _ (search needs) _ (p .before .node-fault .ensures) (p .if1 .left) _ (c .store-node .ensures)
+    let p = passed c in
+    take-node _ _ _ (start-of p .args .step .now) (start-of p .args .inner .now) _ (start-of p .pre) _ _ (search needs) _ (p .before .node-fault .ensures) (p .if1 .left) _ _
+    (c .store-node .ensures .0) (c .store-node .ensures .1)
 
 pub take-node-spec : {M : Type 1} → statement M
 take-node-spec =
@@ -92,13 +91,12 @@ take-node-spec =
     sub-body
     part-body-start
     part-body-end
-    index-1-node-fault
     node-fault-requires
     stopped-requires-3
     returns
     add-store-node
     store-node-requires
-    add-t15
+    add-t16
     returns-2
     returns-3
     returns-4)

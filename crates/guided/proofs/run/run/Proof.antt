@@ -91,9 +91,6 @@ fill-row-starts-requires c κs =
     let narrow = run-narrow (start .pre .0) in
     (refl, narrow .0, narrow .1)
 
-index-1-fill-finishing : tie.Need-index-1-fill-finishing
-index-1-fill-finishing c = search needs
-
 fill-finishing-requires : tie.Need-fill-finishing-requires
 fill-finishing-requires c κs =
     let row : tie.After-fill-row-starts = search in
@@ -193,7 +190,6 @@ run-spec =
     cast-fill-row-starts
     add-fill-row-starts
     fill-row-starts-requires
-    index-1-fill-finishing
     fill-finishing-requires
     search-requires
     conclude-requires

@@ -1,6 +1,6 @@
 -- `guided_expand::relax` meets its contract: one law for each way.
 use native.Mathlib.Omega.{arith}
-use Rattle.guided_expand.proofs.Relaxing.{relax-none, relax-inserts, relax-decreases, relax-lowers}
+use Rattle.guided_expand.proofs.Relaxing.{relax-none, relax-inserts, relax-decreases, relax-opens, relax-lowers}
 use borrow.Author.Needs.{needs}
 use Rattle.guided_expand.proofs.relax.relax.Statement.{statement}
 use Rattle.guided_expand.proofs.relax.relax.Tie as tie
@@ -13,8 +13,7 @@ slice-read-old c = search needs
 
 returns : tie.Need-returns
 returns c =
-    let start : tie.Start = search in
-    relax-none (start .pre) (c .if1 .taken)
+    λ x. relax-none x (c .if1 .taken)
 
 mul-via : tie.Need-mul-via
 mul-via c = search needs
@@ -26,7 +25,7 @@ insert-requires : tie.Need-insert-requires
 insert-requires c κs =
     let new : tie.Then2 = search in
     let start : tie.Start = search in
-    (start .pre .queue, (start .pre .pair, start .pre .above, start .pre .offerable .outside (new .if2 .taken)))
+    relax-opens (start .pre) (new .if2 .taken)
 
 same-length : tie.Need-same-length
 same-length c = search needs
@@ -46,9 +45,9 @@ same-length-5 c = search needs
 returns-2 : tie.Need-returns-2
 returns-2 c =
     let inserted : tie.After-insert = search in
+    let new : tie.Then2 = search in
     let lower : tie.Else1 = search in
-    let start : tie.Start = search in
-    relax-inserts (start .pre) (lower .if1 .left) (inserted .insert .ensures)
+    λ x. relax-inserts x (lower .if1 .left) (inserted .insert .ensures (relax-opens x (new .if2 .taken)))
 
 decrease-requires : tie.Need-decrease-requires
 decrease-requires c κs =
@@ -57,7 +56,7 @@ decrease-requires c κs =
     let old : tie.After-slice-known6 = search in
     let start : tie.Start = search in
     let small = old .slice-known6 .given (start .args .y) in
-    relax-lowers (start .pre) (lower .if1 .left) (omega (arith, small)) (opened .if2 .left)
+    (start .args .stack .now, start .args .counts, relax-lowers (start .pre) (lower .if1 .left) (omega (arith, small)) (opened .if2 .left))
 
 same-length-6 : tie.Need-same-length-6
 same-length-6 c = search needs
@@ -71,9 +70,6 @@ same-length-8 c = search needs
 same-length-9 : tie.Need-same-length-9
 same-length-9 c = search needs
 
-same-length-10 : tie.Need-same-length-10
-same-length-10 c = search needs
-
 returns-3 : tie.Need-returns-3
 returns-3 c =
     let decreased : tie.After-decrease = search in
@@ -82,8 +78,9 @@ returns-3 c =
     let old : tie.After-slice-known6 = search in
     let start : tie.Start = search in
     let small = old .slice-known6 .given (start .args .y) in
-    let asked = relax-lowers (start .pre) (lower .if1 .left) (omega (arith, small)) (opened .if2 .left) in
-    relax-decreases (start .pre) (lower .if1 .left) (asked .here) (decreased .decrease .ensures asked)
+    λ x.
+    let asked = relax-lowers x (lower .if1 .left) (omega (arith, small)) (opened .if2 .left) in
+    relax-decreases x (lower .if1 .left) (asked .here) (decreased .decrease .ensures (start .args .stack .now) (start .args .counts) asked)
 
 pub relax-spec : {M : Type 1} → statement M
 relax-spec =
@@ -106,5 +103,4 @@ relax-spec =
     same-length-7
     same-length-8
     same-length-9
-    same-length-10
     returns-3)

@@ -20,47 +20,46 @@ some-of c = search
 abbrev rest-of : tie.Else1 → tie.After-pair-estimate
 rest-of c = search
 
-abbrev start-of : tie.After-pair-estimate → tie.Start
+abbrev led-of : tie.After-pair-estimate → tie.After-to-at
+led-of c = search
+
+abbrev start-of : tie.After-to-at → tie.Start
 start-of c = search
 
 cast-i : tie.Need-cast-i
 cast-i c = search needs
 
-mul-entered : tie.Need-mul-entered
-mul-entered c = search needs
+index-1-to-at : tie.Need-index-1-to-at
+index-1-to-at c = search needs
 
-index-1-entered : tie.Need-index-1-entered
-index-1-entered c = search needs
-
-index-2-entered : tie.Need-index-2-entered
-index-2-entered c =
+to-at-requires : tie.Need-to-at-requires
+to-at-requires c κs =
     let start : tie.Start = search in
     step-small (start .pre)
 
-cast-entered : tie.Need-cast-entered
-cast-entered c =
-    let start : tie.Start = search in
-    omega (arith, stage-small (start .pre))
-
 pair-estimate-requires : tie.Need-pair-estimate-requires
 pair-estimate-requires c κs =
+    let led : tie.After-to-at = search in
     let start : tie.Start = search in
-    (stage-small (start .pre), target-small (start .pre))
+    (stage-small (start .pre) (led .to-at .ensures), target-small (start .pre))
 
 returns : tie.Need-returns
 returns c =
     let rest : tie.After-pair-estimate = search in
-    λ x. leads-none x _ (rest .pair-estimate .ensures) (c .if1 .taken)
+    let led : tie.After-to-at = search in
+    λ x. leads-none x (led .to-at .ensures) _ (rest .pair-estimate .ensures) (c .if1 .taken)
 
 open-row-requires : tie.Need-open-row-requires
 open-row-requires c κs =
+    let led : tie.After-to-at = search in
     let start : tie.Start = search in
-    leads-row (start .pre)
+    leads-row (start .pre) (led .to-at .ensures)
 
 pair-at-requires : tie.Need-pair-at-requires
 pair-at-requires c κs =
+    let led : tie.After-to-at = search in
     let start : tie.Start = search in
-    stage-small (start .pre)
+    stage-small (start .pre) (led .to-at .ensures)
 
 mul-v : tie.Need-mul-v
 mul-v c = search needs
@@ -77,15 +76,17 @@ add-v : tie.Need-add-v
 add-v c =
     let some : tie.Else1 = search in
     let rest : tie.After-pair-estimate = search in
+    let led : tie.After-to-at = search in
     let start : tie.Start = search in
-    omega (arith, leads-fit (start .pre) _ (rest .pair-estimate .ensures) (some .if1 .left))
+    omega (arith, leads-fit (start .pre) (led .to-at .ensures) _ (rest .pair-estimate .ensures) (some .if1 .left))
 
 add-v-2 : tie.Need-add-v-2
 add-v-2 c =
     let some : tie.Else1 = search in
     let rest : tie.After-pair-estimate = search in
+    let led : tie.After-to-at = search in
     let start : tie.Start = search in
-    omega (arith, leads-fit (start .pre) _ (rest .pair-estimate .ensures) (some .if1 .left))
+    omega (arith, leads-fit (start .pre) (led .to-at .ensures) _ (rest .pair-estimate .ensures) (some .if1 .left))
 
 packed-requires : tie.Need-packed-requires
 packed-requires c κs = search needs
@@ -96,10 +97,11 @@ relax-requires c κs =
     let ready = row-of target in
     let some = some-of ready in
     let rest = rest-of some in
-    let start = start-of rest in
+    let led = led-of rest in
+    let start = start-of led in
     let row = ready .open-row in
-    let l = row-leading (start .pre) (row .kept .0) (row .ensures) in
-    leads-ask l _ (rest .pair-estimate .ensures) (some .if1 .left) _ _ (target .pair-at .ensures) refl (row .ensures .marked)
+    let l = row-leading (start .pre) (led .to-at .ensures) (row .kept .0) (row .ensures) in
+    leads-ask l (led .to-at .ensures) _ (rest .pair-estimate .ensures) (some .if1 .left) _ _ (target .pair-at .ensures) refl (row .ensures .marked)
 
 same-length : tie.Need-same-length
 same-length c =
@@ -137,22 +139,22 @@ returns-2 c =
     let ready = row-of target in
     let some = some-of ready in
     let rest = rest-of some in
+    let led = led-of rest in
     let row = ready .open-row in
     λ x.
-    let l = row-leading x (row .kept .0) (row .ensures) in
-    opened-more (x .by) _ _ (row-opened x (row .kept .0) (row .ensures))
-    (leads-some l _ (rest .pair-estimate .ensures) (some .if1 .left) _ _ (target .pair-at .ensures) refl (row .ensures .marked)
-    (marked .packed .ensures) (relaxed .relax .kept .0) (relaxed .relax .ensures))
+    let l = row-leading x (led .to-at .ensures) (row .kept .0) (row .ensures) in
+    let asked = leads-ask l (led .to-at .ensures) _ (rest .pair-estimate .ensures) (some .if1 .left) _ _ (target .pair-at .ensures) refl (row .ensures .marked) in
+    opened-more (x .by) _ (row-opened x (led .to-at .ensures) (row .kept .0) (row .ensures))
+    (leads-some l (led .to-at .ensures) _ (rest .pair-estimate .ensures) (some .if1 .left) _ _ (target .pair-at .ensures) refl (row .ensures .marked)
+    (marked .packed .ensures) (relaxed .relax .kept .0) (relaxed .relax .ensures asked))
 
 pub offer-spec : {M : Type 1} → statement M
 offer-spec =
     tie.close
     (tie.spec
     cast-i
-    mul-entered
-    index-1-entered
-    index-2-entered
-    cast-entered
+    index-1-to-at
+    to-at-requires
     pair-estimate-requires
     returns
     open-row-requires

@@ -14,9 +14,9 @@ use Rattle.guided_expand.proofs.steps.settle.Statement.{statement}
 use Rattle.guided_expand.proofs.steps.settle.Tie as tie
 
 abbrev Inv-loop : tie.InvT-loop
-Inv-loop keys₀ via₀ heap₀ pos₀ stack₀ filled₀ size steps first row inner by-stage by-node source s until left₀ m₀ e₀ keys via heap pos stack filled left m e =
-    ((x : Opening (walk (read steps inner) first row) (estimates by-stage by-node) source size (progress (work keys₀ via₀ heap₀ pos₀ stack₀) filled₀ left₀))
-    → Walking (x .by) source size (progress (work keys₀ via₀ heap₀ pos₀ stack₀) filled₀ left₀) (progress (work keys via heap pos stack) filled left) (m .0) e)
+Inv-loop keys₀ via₀ heap₀ pos₀ stack₀ filled₀ width steps first row inner by-stage by-node source s until left₀ m₀ e₀ keys via heap pos stack filled left m e =
+    ((x : Opening (walk (read steps inner) first row) (estimates by-stage by-node) source width (progress (work keys₀ via₀ heap₀ pos₀ stack₀) filled₀ left₀))
+    → Walking (x .by) source width (progress (work keys₀ via₀ heap₀ pos₀ stack₀) filled₀ left₀) (progress (work keys via heap pos stack) filled left) (m .0) e)
     × (e ≤ until)
     × (length keys ≡ length keys₀)
     × (length via ≡ length via₀)
@@ -25,7 +25,7 @@ Inv-loop keys₀ via₀ heap₀ pos₀ stack₀ filled₀ size steps first row i
     × (length stack ≡ length stack₀)
 
 abbrev μ-loop : tie.MeasureT-loop
-μ-loop keys₀ via₀ heap₀ pos₀ stack₀ filled₀ size steps first row inner by-stage by-node source s until left₀ m₀ e₀ keys via heap pos stack filled left m e = until - e
+μ-loop keys₀ via₀ heap₀ pos₀ stack₀ filled₀ width steps first row inner by-stage by-node source s until left₀ m₀ e₀ keys via heap pos stack filled left m e = until - e
 
 -- the place before a place
 abbrev start-of : tie.At-loop Inv-loop μ-loop → tie.Start Inv-loop μ-loop
@@ -64,17 +64,12 @@ loop-holds c =
     let start : tie.Start Inv-loop μ-loop = search in
     (walk-start, settles-order (start .pre), refl, refl, refl, refl, refl)
 
-index-1-descend-to : tie.Need-index-1-descend-to Inv-loop μ-loop
-index-1-descend-to c = search needs
-
-index-1-descend-to-2 : tie.Need-index-1-descend-to-2 Inv-loop μ-loop
-index-1-descend-to-2 c = search needs
-
 descend-to-requires : tie.Need-descend-to-requires Inv-loop μ-loop
 descend-to-requires c κs =
+    let turn : tie.In-loop Inv-loop μ-loop = search in
     let head : tie.At-loop Inv-loop μ-loop = search in
     let start : tie.Start Inv-loop μ-loop = search in
-    walk-falls (head .loop .inv .0 (start .pre))
+    walk-falls (head .loop .inv .0 (start .pre)) (turn .loop-test .taken)
 
 same-length : tie.Need-same-length Inv-loop μ-loop
 same-length c =
@@ -107,12 +102,6 @@ returns c =
     let turn : tie.In-loop Inv-loop μ-loop = search in
     let head : tie.At-loop Inv-loop μ-loop = search in
     λ x. walk-dead (head .loop .inv .0 x) (turn .loop-test .taken) (low .descend-to .ensures) (c .if1 .taken)
-
-index-1-branch : tie.Need-index-1-branch Inv-loop μ-loop
-index-1-branch c = search needs
-
-index-1-branch-2 : tie.Need-index-1-branch-2 Inv-loop μ-loop
-index-1-branch-2 c = search needs
 
 branch-requires : tie.Need-branch-requires Inv-loop μ-loop
 branch-requires c κs =
@@ -204,8 +193,6 @@ settle-spec =
     mul-e
     element-copy-out-e
     loop-holds
-    index-1-descend-to
-    index-1-descend-to-2
     descend-to-requires
     same-length
     same-length-2
@@ -213,8 +200,6 @@ settle-spec =
     same-length-4
     same-length-5
     returns
-    index-1-branch
-    index-1-branch-2
     branch-requires
     offer-requires
     add-e

@@ -31,36 +31,28 @@ step-in-requires c κs =
 cast-e : tie.Need-cast-e
 cast-e c = search needs
 
-mul-entered : tie.Need-mul-entered
-mul-entered c = search needs
-
-element-copy-out-entered : tie.Need-element-copy-out-entered
-element-copy-out-entered c =
+to-at-requires : tie.Need-to-at-requires
+to-at-requires c κs =
     let step : tie.After-step-in = search in
     let later : tie.Else1 = search in
     let start : tie.Start = search in
     omega (arith, step .step-in .ensures, start .pre .by-step (later .if1 .left))
 
-cast-entered : tie.Need-cast-entered
-cast-entered c =
-    let step : tie.After-step-in = search in
-    let later : tie.Else1 = search in
-    let start : tie.Start = search in
-    omega (arith, placed-step (start .pre) _ (later .if1 .left) (step .step-in .ensures) .0)
-
 pair-in-requires-2 : tie.Need-pair-in-requires-2
 pair-in-requires-2 c κs =
+    let led : tie.After-to-at = search in
     let step : tie.After-step-in = search in
     let later : tie.Else1 = search in
     let start : tie.Start = search in
-    placed-step (start .pre) _ (later .if1 .left) (step .step-in .ensures)
+    placed-step (start .pre) (later .if1 .left) (step .step-in .ensures) (led .to-at .ensures)
 
 returns-2 : tie.Need-returns-2
 returns-2 c =
+    let led : tie.After-to-at = search in
     let step : tie.After-step-in = search in
     let later : tie.Else1 = search in
     let start : tie.Start = search in
-    (c .pair-in2 .ensures .0 ∙ placed-stage (start .pre) _ (later .if1 .left) (step .step-in .ensures), c .pair-in2 .ensures .1)
+    (c .pair-in2 .ensures .0 ∙ placed-stage (start .pre) (later .if1 .left) (step .step-in .ensures) (led .to-at .ensures), c .pair-in2 .ensures .1)
 
 pub pair-of-spec : {M : Type 1} → statement M
 pair-of-spec =
@@ -72,8 +64,6 @@ pair-of-spec =
     shared-slice-read-step-in
     step-in-requires
     cast-e
-    mul-entered
-    element-copy-out-entered
-    cast-entered
+    to-at-requires
     pair-in-requires-2
     returns-2)

@@ -1,134 +1,398 @@
 -- `guided_loop::search` meets its contract: the pair of start and root is opened, then open pairs are settled.
-use mathlib.Core.Path.{_∙_}
+use mathlib.Core.Path.{_≡_, refl, _∙_}
+use mathlib.Core.Bool.{false}
+use Prim.Native.Nat.{_-_, _≤_}
 use native.Mathlib.Omega.{arith}
 use borrow.Author.Needs.{needs}
-use Rattle.guided_loop.proofs.Beginning.{narrow, few-pairs, start-small, begin-row, begin-asks, begin-begun, begin-searched}
+use lib.ListN.{length, length-set}
+use Rattle.checks.specs.Tables.{read}
+use Rattle.checks.specs.Ready.{walk}
+use Rattle.guided_expand.specs.Estimates.{estimates}
+use Rattle.guided_expand.specs.Work.{work, progress}
+use Rattle.guided_expand.specs.Guides.{pairsIn}
+use Rattle.guided_loop.specs.Search.{Turning, Begun}
+use Rattle.guided_loop.proofs.Beginning.{narrow, start-small, begin-row, begin-asks, begin-begun, begin-searched}
+use Rattle.guided_loop.proofs.Turning.{turn-takes, turn-none, turn-room, turn-fits, turn-small, turn-placed, turn-inside, turn-estimate, turn-asks, turn-goal, turn-more}
 use Rattle.guided_loop.proofs.turns.search.Statement.{statement}
 use Rattle.guided_loop.proofs.turns.search.Tie as tie
 
+-- the loop was begun, and whatever it was begun by, this many turns are done
+abbrev Inv-search : tie.InvT-search
+Inv-search keys₀ via₀ heap₀ pos₀ stack₀ log₀ steps first row inner by-stage by-node yes' z rest width begin filled₀ counts₀ floor₀ count₀ found₀ node₀ cost₀ keys via heap pos stack log filled counts floor count found node cost =
+    Begun z (walk (read steps inner) first row) (estimates by-stage by-node) yes' begin (progress (work keys₀ via₀ heap₀ pos₀ stack₀) filled₀ counts₀) log₀
+    × ((x : Begun z (walk (read steps inner) first row) (estimates by-stage by-node) yes' begin (progress (work keys₀ via₀ heap₀ pos₀ stack₀) filled₀ counts₀) log₀)
+    → Turning (x .prepared .by) (work keys₀ via₀ heap₀ pos₀ stack₀) log₀ (progress (work keys via heap pos stack) filled counts) log floor count)
+    × (count ≤ pairsIn z)
+    × (found ≡ false)
+    × (length keys ≡ length keys₀)
+    × (length via ≡ length via₀)
+    × (length heap ≡ length heap₀)
+    × (length pos ≡ length pos₀)
+    × (length stack ≡ length stack₀)
+    × (length log ≡ length log₀)
+
+abbrev μ-search : tie.MeasureT-search
+μ-search keys₀ via₀ heap₀ pos₀ stack₀ log₀ steps first row inner by-stage by-node yes' z rest width begin filled₀ counts₀ floor₀ count₀ found₀ node₀ cost₀ keys via heap pos stack log filled counts floor count found node cost = pairsIn z - count
+
 -- the places before a place
-abbrev start-of : tie.After-pair-at → tie.Start
+abbrev start-of : tie.After-pair-at Inv-search μ-search → tie.Start Inv-search μ-search
 start-of c = search
 
-abbrev first-of : tie.After-open-row → tie.After-pair-at
+abbrev first-of : tie.After-open-row Inv-search μ-search → tie.After-pair-at Inv-search μ-search
 first-of c = search
 
-abbrev row-of : tie.After-empty → tie.After-open-row
+abbrev row-of : tie.After-empty Inv-search μ-search → tie.After-open-row Inv-search μ-search
 row-of c = search
 
-abbrev none-of : tie.After-insert → tie.After-empty
+abbrev none-of : tie.After-insert Inv-search μ-search → tie.After-empty Inv-search μ-search
 none-of c = search
 
-abbrev opened-of : tie.After-settle-open → tie.After-insert
+abbrev opened-of : tie.At-search Inv-search μ-search → tie.After-insert Inv-search μ-search
 opened-of c = search
 
-add-width : tie.Need-add-width
+abbrev head-of : tie.Then1 Inv-search μ-search → tie.At-search Inv-search μ-search
+head-of c = search
+
+abbrev more-of : tie.After-take Inv-search μ-search → tie.Then1 Inv-search μ-search
+more-of c = search
+
+abbrev taken-of : tie.After-pair-of Inv-search μ-search → tie.After-take Inv-search μ-search
+taken-of c = search
+
+abbrev pair-of : tie.After-pair-estimate Inv-search μ-search → tie.After-pair-of Inv-search μ-search
+pair-of c = search
+
+abbrev rest-of : tie.After-is-goal Inv-search μ-search → tie.After-pair-estimate Inv-search μ-search
+rest-of c = search
+
+abbrev goal-of-yes : tie.Then2 Inv-search μ-search → tie.After-is-goal Inv-search μ-search
+goal-of-yes c = search
+
+abbrev goal-of-no : tie.Else2 Inv-search μ-search → tie.After-is-goal Inv-search μ-search
+goal-of-no c = search
+
+abbrev no-of : tie.After-settle Inv-search μ-search → tie.Else2 Inv-search μ-search
+no-of c = search
+
+add-width : tie.Need-add-width Inv-search μ-search
 add-width c =
-    let start : tie.Start = search in
+    let start : tie.Start Inv-search μ-search = search in
     omega (arith, narrow (start .pre .prepared .by))
 
-cast-pairs : tie.Need-cast-pairs
-cast-pairs c = search needs
-
-mul-pairs : tie.Need-mul-pairs
-mul-pairs c =
-    let start : tie.Start = search in
-    omega (arith, few-pairs (start .pre .prepared .by))
-
-pair-at-requires : tie.Need-pair-at-requires
+pair-at-requires : tie.Need-pair-at-requires Inv-search μ-search
 pair-at-requires c κs =
-    let start : tie.Start = search in
+    let start : tie.Start Inv-search μ-search = search in
     start-small (start .pre .prepared .by)
 
-open-row-requires : tie.Need-open-row-requires
+open-row-requires : tie.Need-open-row-requires Inv-search μ-search
 open-row-requires c κs =
-    let start : tie.Start = search in
+    let start : tie.Start Inv-search μ-search = search in
     begin-row (start .pre)
 
-empty-requires : tie.Need-empty-requires
+empty-requires : tie.Need-empty-requires Inv-search μ-search
 empty-requires c κs = search needs
 
-insert-requires : tie.Need-insert-requires
+insert-requires : tie.Need-insert-requires Inv-search μ-search
 insert-requires c κs =
-    let none : tie.After-empty = search in
+    let none : tie.After-empty Inv-search μ-search = search in
     let row = row-of none in
     let first = first-of row in
     let start = start-of first in
     begin-asks (start .pre) (row .open-row .kept .0) (row .open-row .ensures) (first .pair-at .ensures) (none .empty .ensures)
 
-settle-open-requires : tie.Need-settle-open-requires
-settle-open-requires c κs =
-    let opened : tie.After-insert = search in
+search-holds : tie.Need-search-holds Inv-search μ-search
+search-holds c =
+    let opened : tie.After-insert Inv-search μ-search = search in
     let none = none-of opened in
     let row = row-of none in
     let first = first-of row in
     let start = start-of first in
-    begin-begun (start .pre) (row .open-row .kept .0) (row .open-row .ensures) (first .pair-at .ensures) (none .empty .ensures) (opened .insert .ensures)
+    let begun = begin-begun (start .pre) (row .open-row .kept .0) (row .open-row .ensures) (first .pair-at .ensures) (none .empty .ensures) (opened .insert .ensures) in
+    (begun, (λ x. x .turning), omega arith, refl, refl, refl, refl, refl, refl, refl)
 
-same-length : tie.Need-same-length
+take-requires : tie.Need-take-requires Inv-search μ-search
+take-requires c κs =
+    let more : tie.Then1 Inv-search μ-search = search in
+    let head = head-of more in
+    let begun = head .search .inv .0 in
+    let w = head .search .inv .1 begun in
+    turn-takes (begun .prepared) w (more .if1 .taken)
+
+cast-log : tie.Need-cast-log Inv-search μ-search
+cast-log c =
+    let taken : tie.After-take Inv-search μ-search = search in
+    let more = more-of taken in
+    let head = head-of more in
+    let begun = head .search .inv .0 in
+    let w = head .search .inv .1 begun in
+    omega (arith, turn-small (begun .prepared) w (begun .begins) (more .if1 .taken) (taken .take .ensures) .0)
+
+mul-log : tie.Need-mul-log Inv-search μ-search
+mul-log c =
+    let taken : tie.After-take Inv-search μ-search = search in
+    let more = more-of taken in
+    let head = head-of more in
+    let begun = head .search .inv .0 in
+    let w = head .search .inv .1 begun in
+    omega (arith, turn-small (begun .prepared) w (begun .begins) (more .if1 .taken) (taken .take .ensures) .1)
+
+slice-write-log : tie.Need-slice-write-log Inv-search μ-search
+slice-write-log c =
+    let taken : tie.After-take Inv-search μ-search = search in
+    let more = more-of taken in
+    let head = head-of more in
+    let begun = head .search .inv .0 in
+    let w = head .search .inv .1 begun in
+    turn-fits (begun .prepared) w (begun .begins) (more .if1 .taken) (taken .take .ensures)
+
+add-count : tie.Need-add-count Inv-search μ-search
+add-count c =
+    let taken : tie.After-take Inv-search μ-search = search in
+    let more = more-of taken in
+    let head = head-of more in
+    let begun = head .search .inv .0 in
+    let w = head .search .inv .1 begun in
+    omega (arith, turn-small (begun .prepared) w (begun .begins) (more .if1 .taken) (taken .take .ensures) .1)
+
+index-1-pair-of : tie.Need-index-1-pair-of Inv-search μ-search
+index-1-pair-of c = search needs
+
+pair-of-requires : tie.Need-pair-of-requires Inv-search μ-search
+pair-of-requires c κs =
+    let taken : tie.After-take Inv-search μ-search = search in
+    let more = more-of taken in
+    let head = head-of more in
+    let begun = head .search .inv .0 in
+    let w = head .search .inv .1 begun in
+    turn-placed (begun .prepared) w (begun .begins) (more .if1 .taken) (taken .take .ensures)
+
+pair-estimate-requires : tie.Need-pair-estimate-requires Inv-search μ-search
+pair-estimate-requires c κs =
+    let at : tie.After-pair-of Inv-search μ-search = search in
+    let taken = taken-of at in
+    let more = more-of taken in
+    let head = head-of more in
+    let begun = head .search .inv .0 in
+    let w = head .search .inv .1 begun in
+    turn-inside (begun .prepared) w (begun .begins) (more .if1 .taken) (taken .take .ensures) (at .pair-of .result) (at .pair-of .ensures)
+
+sub-spent : tie.Need-sub-spent Inv-search μ-search
+sub-spent c =
+    let rest : tie.After-pair-estimate Inv-search μ-search = search in
+    let at = pair-of rest in
+    let taken = taken-of at in
+    let more = more-of taken in
+    let head = head-of more in
+    let begun = head .search .inv .0 in
+    let w = head .search .inv .1 begun in
+    turn-estimate (begun .prepared) w (begun .begins) (more .if1 .taken) (taken .take .ensures) (at .pair-of .result) (at .pair-of .ensures) (rest .pair-estimate .ensures)
+
+is-goal-requires : tie.Need-is-goal-requires Inv-search μ-search
+is-goal-requires c κs =
+    let at : tie.After-pair-of Inv-search μ-search = search in
+    let taken = taken-of at in
+    let more = more-of taken in
+    let head = head-of more in
+    let begun = head .search .inv .0 in
+    let w = head .search .inv .1 begun in
+    turn-inside (begun .prepared) w (begun .begins) (more .if1 .taken) (taken .take .ensures) (at .pair-of .result) (at .pair-of .ensures) .1
+
+settle-requires : tie.Need-settle-requires Inv-search μ-search
+settle-requires c κs =
+    let rest : tie.After-pair-estimate Inv-search μ-search = search in
+    let at = pair-of rest in
+    let taken = taken-of at in
+    let more = more-of taken in
+    let head = head-of more in
+    let begun = head .search .inv .0 in
+    let w = head .search .inv .1 begun in
+    turn-asks (begun .prepared) w (begun .begins) (more .if1 .taken) (taken .take .ensures) (at .pair-of .result) (at .pair-of .ensures) (rest .pair-estimate .ensures)
+
+search-less : tie.Need-search-less Inv-search μ-search
+search-less c =
+    let settled : tie.After-settle Inv-search μ-search = search in
+    let no = no-of settled in
+    let goal = goal-of-no no in
+    let rest = rest-of goal in
+    let at = pair-of rest in
+    let taken = taken-of at in
+    let more = more-of taken in
+    let head = head-of more in
+    let begun = head .search .inv .0 in
+    let w = head .search .inv .1 begun in
+    omega (arith, turn-room (begun .prepared) w (begun .begins) (more .if1 .taken) (taken .take .ensures))
+
+search-again : tie.Need-search-again Inv-search μ-search
+search-again c =
+    let settled : tie.After-settle Inv-search μ-search = search in
+    let no = no-of settled in
+    let goal = goal-of-no no in
+    let rest = rest-of goal in
+    let at = pair-of rest in
+    let taken = taken-of at in
+    let more = more-of taken in
+    let head = head-of more in
+    let begun = head .search .inv .0 in
+    let w = head .search .inv .1 begun in
+    let kept = settled .settle .kept in (
+      begun,
+      (λ x.
+          let asked = turn-asks (x .prepared) (head .search .inv .1 x) (x .begins) (more .if1 .taken) (taken .take .ensures) (at .pair-of .result) (at .pair-of .ensures) (rest .pair-estimate .ensures) in
+          turn-more (x .prepared) (head .search .inv .1 x) (x .begins) (more .if1 .taken) (taken .take .ensures) (at .pair-of .result) (at .pair-of .ensures) (rest .pair-estimate .ensures)
+          (goal .is-goal .ensures) (no .if2 .left) (kept .1 .0) (settled .settle .ensures asked)),
+      omega (arith, turn-room (begun .prepared) w (begun .begins) (more .if1 .taken) (taken .take .ensures)),
+      head .search .inv .3,
+      kept .0 ∙ head .search .inv .4,
+      kept .1 .0 ∙ head .search .inv .5,
+      kept .1 .1 .0 ∙ taken .take .kept .1 .0 ∙ head .search .inv .6,
+      kept .1 .1 .1 .0 ∙ taken .take .kept .1 .1 .0 ∙ head .search .inv .7,
+      kept .1 .1 .1 .1 .0 ∙ head .search .inv .8,
+      simp length-set (head .search .inv .9),
+    )
+
+same-length : tie.Need-same-length Inv-search μ-search
 same-length c =
-    let settled : tie.After-settle-open = search in
-    let opened = opened-of settled in
+    let head : tie.At-search Inv-search μ-search = search in
+    let opened = opened-of head in
     let none = none-of opened in
     let row = row-of none in
-    settled .settle-open .kept .0 ∙ opened .insert .kept .0 ∙ row .open-row .kept .0
+    head .search .inv .4 ∙ opened .insert .kept .0 ∙ row .open-row .kept .0
 
-same-length-2 : tie.Need-same-length-2
+same-length-2 : tie.Need-same-length-2 Inv-search μ-search
 same-length-2 c =
-    let settled : tie.After-settle-open = search in
-    settled .settle-open .kept .1 .0
+    let head : tie.At-search Inv-search μ-search = search in
+    head .search .inv .5
 
-same-length-3 : tie.Need-same-length-3
+same-length-3 : tie.Need-same-length-3 Inv-search μ-search
 same-length-3 c =
-    let settled : tie.After-settle-open = search in
-    let opened = opened-of settled in
-    settled .settle-open .kept .1 .1 .0 ∙ opened .insert .kept .1 .0
+    let head : tie.At-search Inv-search μ-search = search in
+    let opened = opened-of head in
+    head .search .inv .6 ∙ opened .insert .kept .1 .0
 
-same-length-4 : tie.Need-same-length-4
+same-length-4 : tie.Need-same-length-4 Inv-search μ-search
 same-length-4 c =
-    let settled : tie.After-settle-open = search in
-    let opened = opened-of settled in
-    settled .settle-open .kept .1 .1 .1 .0 ∙ opened .insert .kept .1 .1 .0
+    let head : tie.At-search Inv-search μ-search = search in
+    let opened = opened-of head in
+    head .search .inv .7 ∙ opened .insert .kept .1 .1 .0
 
-same-length-5 : tie.Need-same-length-5
+same-length-5 : tie.Need-same-length-5 Inv-search μ-search
 same-length-5 c =
-    let settled : tie.After-settle-open = search in
-    let opened = opened-of settled in
-    settled .settle-open .kept .1 .1 .1 .1 .0 ∙ opened .insert .kept .1 .1 .1 .0
+    let head : tie.At-search Inv-search μ-search = search in
+    let opened = opened-of head in
+    head .search .inv .8 ∙ opened .insert .kept .1 .1 .1 .0
 
-same-length-6 : tie.Need-same-length-6
+same-length-6 : tie.Need-same-length-6 Inv-search μ-search
 same-length-6 c =
-    let settled : tie.After-settle-open = search in
-    settled .settle-open .kept .1 .1 .1 .1 .1 .0
+    let head : tie.At-search Inv-search μ-search = search in
+    head .search .inv .9
 
-returns : tie.Need-returns
+returns : tie.Need-returns Inv-search μ-search
 returns c =
-    let settled : tie.After-settle-open = search in
-    let opened = opened-of settled in
+    let head : tie.At-search Inv-search μ-search = search in
+    let opened = opened-of head in
     let none = none-of opened in
     let row = row-of none in
     let first = first-of row in
-    let long = row .open-row .kept .0 in
     λ x.
-    let begun = begin-begun x long (row .open-row .ensures) (first .pair-at .ensures) (none .empty .ensures) (opened .insert .ensures) in
-    begin-searched x long (row .open-row .ensures) (first .pair-at .ensures) (none .empty .ensures) (opened .insert .ensures) (settled .settle-open .ensures begun)
+    let begun = begin-begun x (row .open-row .kept .0) (row .open-row .ensures) (first .pair-at .ensures) (none .empty .ensures) (opened .insert .ensures) in
+    begin-searched x (row .open-row .kept .0) (row .open-row .ensures) (first .pair-at .ensures) (none .empty .ensures) (opened .insert .ensures)
+    (turn-none (x .prepared) (head .search .inv .1 begun) (c .if1 .left) (head .search .inv .3) refl)
+
+same-length-7 : tie.Need-same-length-7 Inv-search μ-search
+same-length-7 c =
+    let head : tie.At-search Inv-search μ-search = search in
+    let opened = opened-of head in
+    let none = none-of opened in
+    let row = row-of none in
+    head .search .inv .4 ∙ opened .insert .kept .0 ∙ row .open-row .kept .0
+
+same-length-8 : tie.Need-same-length-8 Inv-search μ-search
+same-length-8 c =
+    let head : tie.At-search Inv-search μ-search = search in
+    head .search .inv .5
+
+same-length-9 : tie.Need-same-length-9 Inv-search μ-search
+same-length-9 c =
+    let taken : tie.After-take Inv-search μ-search = search in
+    let more = more-of taken in
+    let head = head-of more in
+    let opened = opened-of head in
+    taken .take .kept .1 .0 ∙ head .search .inv .6 ∙ opened .insert .kept .1 .0
+
+same-length-10 : tie.Need-same-length-10 Inv-search μ-search
+same-length-10 c =
+    let taken : tie.After-take Inv-search μ-search = search in
+    let more = more-of taken in
+    let head = head-of more in
+    let opened = opened-of head in
+    taken .take .kept .1 .1 .0 ∙ head .search .inv .7 ∙ opened .insert .kept .1 .1 .0
+
+same-length-11 : tie.Need-same-length-11 Inv-search μ-search
+same-length-11 c =
+    let head : tie.At-search Inv-search μ-search = search in
+    let opened = opened-of head in
+    head .search .inv .8 ∙ opened .insert .kept .1 .1 .1 .0
+
+same-length-12 : tie.Need-same-length-12 Inv-search μ-search
+same-length-12 c =
+    let head : tie.At-search Inv-search μ-search = search in
+    simp length-set (head .search .inv .9)
+
+returns-2 : tie.Need-returns-2 Inv-search μ-search
+returns-2 c =
+    let yes : tie.Then2 Inv-search μ-search = search in
+    let goal = goal-of-yes yes in
+    let rest = rest-of goal in
+    let at = pair-of rest in
+    let taken = taken-of at in
+    let more = more-of taken in
+    let head = head-of more in
+    let opened = opened-of head in
+    let none = none-of opened in
+    let row = row-of none in
+    let first = first-of row in
+    λ x.
+    let begun = begin-begun x (row .open-row .kept .0) (row .open-row .ensures) (first .pair-at .ensures) (none .empty .ensures) (opened .insert .ensures) in
+    begin-searched x (row .open-row .kept .0) (row .open-row .ensures) (first .pair-at .ensures) (none .empty .ensures) (opened .insert .ensures)
+    (turn-goal (x .prepared) (head .search .inv .1 begun) (begun .begins) (more .if1 .taken) (taken .take .ensures) (at .pair-of .result) (at .pair-of .ensures) (rest .pair-estimate .ensures)
+    (goal .is-goal .ensures) (yes .if2 .taken) refl refl refl refl)
 
 pub search-spec : {M : Type 1} → statement M
 search-spec =
     tie.close
     (tie.spec
+    Inv-search
+    μ-search
     add-width
-    cast-pairs
-    mul-pairs
     pair-at-requires
     open-row-requires
     empty-requires
     insert-requires
-    settle-open-requires
+    search-holds
+    take-requires
+    cast-log
+    mul-log
+    slice-write-log
+    add-count
+    index-1-pair-of
+    pair-of-requires
+    pair-estimate-requires
+    sub-spent
+    is-goal-requires
+    settle-requires
+    search-less
+    search-again
     same-length
     same-length-2
     same-length-3
     same-length-4
     same-length-5
     same-length-6
-    returns)
+    returns
+    same-length-7
+    same-length-8
+    same-length-9
+    same-length-10
+    same-length-11
+    same-length-12
+    returns-2)

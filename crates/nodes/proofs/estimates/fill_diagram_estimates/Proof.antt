@@ -4,7 +4,7 @@ use Prim.Native.Nat.{_+_, _-_, _<_}
 use mathlib.Core.Path.{_≡_}
 use native.Mathlib.Omega.{arith}
 use Rattle.diagram.specs.Files.{nodesIn}
-use Rattle.nodes.proofs.Children.{child-inside, child-laws}
+use Rattle.nodes.proofs.Children.{child-inside}
 use Rattle.nodes.proofs.Estimating.{Estimating, estimating-step, estimating-laws}
 use Rattle.nodes.proofs.estimates.fill_diagram_estimates.Statement.{statement}
 use Rattle.nodes.proofs.estimates.fill_diagram_estimates.Tie as tie
@@ -29,43 +29,28 @@ add-n-end c = search needs
 loop-holds : tie.Need-loop-holds Inv-loop μ-loop
 loop-holds c = search (estimating-laws, needs)
 
-mul-e : tie.Need-mul-e Inv-loop μ-loop
-mul-e c = search (estimating-laws, child-laws, needs)
+step-at-requires : tie.Need-step-at-requires Inv-loop μ-loop
+step-at-requires c κs = search needs
 
-index-1-e : tie.Need-index-1-e Inv-loop μ-loop
-index-1-e c = search (estimating-laws, child-laws, needs)
+lo-at-requires : tie.Need-lo-at-requires Inv-loop μ-loop
+lo-at-requires c κs = search needs
 
-index-2-e : tie.Need-index-2-e Inv-loop μ-loop
-index-2-e c = search (estimating-laws, child-laws, needs)
-
-mul-lo : tie.Need-mul-lo Inv-loop μ-loop
-mul-lo c = search (estimating-laws, child-laws, needs)
-
-index-1-lo : tie.Need-index-1-lo Inv-loop μ-loop
-index-1-lo c = search (estimating-laws, child-laws, needs)
-
-index-2-lo : tie.Need-index-2-lo Inv-loop μ-loop
-index-2-lo c = search (estimating-laws, child-laws, needs)
-
-mul-hi : tie.Need-mul-hi Inv-loop μ-loop
-mul-hi c = search (estimating-laws, child-laws, needs)
-
-index-1-hi : tie.Need-index-1-hi Inv-loop μ-loop
-index-1-hi c = search (estimating-laws, child-laws, needs)
-
-index-2-hi : tie.Need-index-2-hi Inv-loop μ-loop
-index-2-hi c = search (estimating-laws, child-laws, needs)
+hi-at-requires : tie.Need-hi-at-requires Inv-loop μ-loop
+hi-at-requires c κs = search needs
 
 inner-estimate-requires : tie.Need-inner-estimate-requires Inv-loop μ-loop
 inner-estimate-requires c κs =
+    let by-hi : tie.After-hi-at Inv-loop μ-loop = search in
+    let by-lo : tie.After-lo-at Inv-loop μ-loop = search in
+    let by-step : tie.After-step-at Inv-loop μ-loop = search in
     let turn : tie.In-loop Inv-loop μ-loop = search in
     let head : tie.At-loop Inv-loop μ-loop = search in
     let start : tie.Start Inv-loop μ-loop = search in
     let found = head .loop .inv .1 in
     let below : head .loop .n < start .args .z .nodes + 2 = omega (arith, turn .loop-test .taken, head .loop .inv .0) in (
-      estimating-step _ _ _ _ _ _ _ found (start .pre .0 .2) below,
-      child-inside _ _ _ (start .pre .0 .0) (found .inner) below,
-      child-inside _ _ _ (start .pre .0 .1) (found .inner) below,
+      estimating-step _ _ _ _ _ _ _ found (start .pre .0 .2) below _ (by-step .step-at .ensures),
+      child-inside _ _ _ (start .pre .0 .0) (found .inner) below _ (by-lo .lo-at .ensures),
+      child-inside _ _ _ (start .pre .0 .1) (found .inner) below _ (by-hi .hi-at .ensures),
     )
 
 mul-estimates : tie.Need-mul-estimates Inv-loop μ-loop
@@ -96,15 +81,9 @@ fill-diagram-estimates-spec =
     element-write-estimates-2
     add-n-end
     loop-holds
-    mul-e
-    index-1-e
-    index-2-e
-    mul-lo
-    index-1-lo
-    index-2-lo
-    mul-hi
-    index-1-hi
-    index-2-hi
+    step-at-requires
+    lo-at-requires
+    hi-at-requires
     inner-estimate-requires
     mul-estimates
     element-write-estimates-3

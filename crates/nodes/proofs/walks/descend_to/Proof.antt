@@ -1,35 +1,30 @@
 -- `nodes::descend_to` meets its contract.
 use borrow.Author.Needs.{needs}
+use Rattle.diagram.specs.Files.{nodesIn}
 use Rattle.nodes.proofs.Lowering.{Lowering, lowering-laws}
 use Rattle.nodes.proofs.walks.descend_to.Statement.{statement}
 use Rattle.nodes.proofs.walks.descend_to.Tie as tie
 
 abbrev Inv-loop : tie.InvT-loop
-Inv-loop step lo key m₀ m = Lowering step lo key m₀ m
+Inv-loop inner key m₀ m = Lowering (nodesIn inner .step) (nodesIn inner .lo) key m₀ m
 
 abbrev μ-loop : tie.MeasureT-loop
-μ-loop step lo key m₀ m = m
+μ-loop inner key m₀ m = m
 
 loop-holds : tie.Need-loop-holds Inv-loop μ-loop
 loop-holds c = search lowering-laws
 
-cast-if1 : tie.Need-cast-if1 Inv-loop μ-loop
-cast-if1 c = search needs
+cast-step-at : tie.Need-cast-step-at Inv-loop μ-loop
+cast-step-at c = search needs
 
-mul-if1 : tie.Need-mul-if1 Inv-loop μ-loop
-mul-if1 c = search needs
+step-at-requires : tie.Need-step-at-requires Inv-loop μ-loop
+step-at-requires c κs = search needs
 
-element-copy-out-if1 : tie.Need-element-copy-out-if1 Inv-loop μ-loop
-element-copy-out-if1 c = search needs
+cast-lo-at : tie.Need-cast-lo-at Inv-loop μ-loop
+cast-lo-at c = search needs
 
-cast-m : tie.Need-cast-m Inv-loop μ-loop
-cast-m c = search needs
-
-mul-m : tie.Need-mul-m Inv-loop μ-loop
-mul-m c = search needs
-
-element-copy-out-m : tie.Need-element-copy-out-m Inv-loop μ-loop
-element-copy-out-m c = search needs
+lo-at-requires : tie.Need-lo-at-requires Inv-loop μ-loop
+lo-at-requires c κs = search needs
 
 loop-less : tie.Need-loop-less Inv-loop μ-loop
 loop-less c = search lowering-laws
@@ -47,12 +42,10 @@ descend-to-spec =
     Inv-loop
     μ-loop
     loop-holds
-    cast-if1
-    mul-if1
-    element-copy-out-if1
-    cast-m
-    mul-m
-    element-copy-out-m
+    cast-step-at
+    step-at-requires
+    cast-lo-at
+    lo-at-requires
     loop-less
     loop-again
     returns)

@@ -1,16 +1,17 @@
 -- `nodes::fill_finishing` meets its contract.
 use borrow.Author.Needs.{needs}
 use Prim.Native.Nat.{_+_, _-_}
+use Rattle.diagram.specs.Files.{nodesIn}
 use Rattle.nodes.proofs.Children.{child-laws}
 use Rattle.nodes.proofs.Finished.{Passed, passed-laws}
 use Rattle.nodes.proofs.walks.fill_finishing.Statement.{statement}
 use Rattle.nodes.proofs.walks.fill_finishing.Tie as tie
 
 abbrev Inv-loop : tie.InvT-loop
-Inv-loop yes₀ lo count n₀ n-end yes' n = Passed lo count yes' n
+Inv-loop yes₀ inner count n₀ n-end yes' n = Passed (nodesIn inner .lo) count yes' n
 
 abbrev μ-loop : tie.MeasureT-loop
-μ-loop yes₀ lo count n₀ n-end yes' n = count + 2 - n
+μ-loop yes₀ inner count n₀ n-end yes' n = count + 2 - n
 
 element-write-yes : tie.Need-element-write-yes Inv-loop μ-loop
 element-write-yes c = search needs
@@ -24,11 +25,8 @@ add-n-end c = search needs
 loop-holds : tie.Need-loop-holds Inv-loop μ-loop
 loop-holds c = search passed-laws
 
-mul-child : tie.Need-mul-child Inv-loop μ-loop
-mul-child c = search needs
-
-element-copy-out-child : tie.Need-element-copy-out-child Inv-loop μ-loop
-element-copy-out-child c = search needs
+lo-at-requires : tie.Need-lo-at-requires Inv-loop μ-loop
+lo-at-requires c κs = search needs
 
 cast-child : tie.Need-cast-child Inv-loop μ-loop
 cast-child c = search child-laws
@@ -61,8 +59,7 @@ fill-finishing-spec =
     element-write-yes-2
     add-n-end
     loop-holds
-    mul-child
-    element-copy-out-child
+    lo-at-requires
     cast-child
     element-copy-out-yes
     element-write-yes-3

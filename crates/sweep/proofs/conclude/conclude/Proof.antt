@@ -17,9 +17,6 @@ cast-total-count c = search needs
 total-count-requires : tie.Need-total-count-requires
 total-count-requires c κs = search needs
 
-index-1-fill-finishing : tie.Need-index-1-fill-finishing
-index-1-fill-finishing c = search needs
-
 fill-finishing-requires : tie.Need-fill-finishing-requires
 fill-finishing-requires c κs =
     let start : tie.Start = search in
@@ -112,7 +109,6 @@ conclude-spec =
     (tie.spec
     cast-total-count
     total-count-requires
-    index-1-fill-finishing
     fill-finishing-requires
     cast-end
     mul-wide
