@@ -18,7 +18,7 @@ use Rattle.theory.specs.Basics.{either, same-or-not, both, true-not-false}
 use Rattle.theory.specs.Product.{startPair}
 use Rattle.trace.specs.Trails.{stepIn}
 use Rattle.queue.specs.declared.Counts.{Counts}
-use Rattle.queue.specs.Queue.{state, Contains, Taking, Taken}
+use Rattle.queue.specs.Queue.{state, Contains, Queue, Taken}
 use Rattle.queue.proofs.Facts.{contains-none, contains-pair, keys-fit}
 use Rattle.checks.specs.Tables.{chartIn, diagramIn}
 use Rattle.checks.specs.Ready.{Walk, count-is, few-stages, from-at, to-at, first-all, row-start}
@@ -74,13 +74,13 @@ module _ {z : Shape} {on : Walk} {t : Estimates} {yes-at : List Bool} (prepared 
   }
 
   -- the next pair can be taken
-  abbrev pub turn-takes : 0 < x .counts .held → Taking floor (queueOf x)
-  turn-takes e = record { p = pairsIn z; queue = w .queue; filled = e }
+  pub turn-takes : 0 < x .counts .held → (p : ℕ) × Queue p floor (queueOf x) × (0 < x .counts .held)
+  turn-takes more = (pairsIn z, w .queue, more)
 
   module _ {begin y key : ℕ} {heap′ pos′ : List ℕ} {c′ : Counts} (eb : begin ≡ startPair (g by) (a by))
-      (more : 0 < x .counts .held) (took : (q : Taking floor (queueOf x)) → Taken (q .p) floor y key (queueOf x) (state (x .slices .keys) heap′ pos′ (x .slices .stack) c′)) where
+      (took : (p : ℕ) → Queue p floor (queueOf x) → Taken p floor y key (queueOf x) (state (x .slices .keys) heap′ pos′ (x .slices .stack) c′)) where
     k : Taken (pairsIn z) floor y key (queueOf x) (state (x .slices .keys) heap′ pos′ (x .slices .stack) c′)
-    k = took (turn-takes more)
+    k = took (pairsIn z) (w .queue)
 
     abbrev x′ : Progress
     x′ = progress (work (x .slices .keys) (x .slices .via) heap′ pos′ (x .slices .stack)) (x .filled) c′

@@ -13,21 +13,12 @@ use Rattle.heap_sift.specs.Sift.{Swapped, Moved, Sinking, SiftingDown, Sifted}
 use Rattle.heap_sift.proofs.Places.{stands, swap-moved, past-more}
 use Rattle.heap_sift.proofs.Order.{At, at-first, top-least}
 use Rattle.heap_sift.proofs.Loops.{key-swap}
-use Rattle.heap.specs.Calls.{Popping, Popped}
+use Rattle.heap.specs.Calls.{Popped}
 use Rattle.heap.proofs.Facts.{key-of}
 
-module _ {keys heap pos : List ℕ} {n : ℕ} (a : Popping n (slices keys heap pos)) {heap₁ pos₁ : List ℕ} (s : Swapped 0 (n - 1) heap pos heap₁ pos₁) where
-  abbrev p : ℕ
-  p = a .p
-
-  abbrev h : Heap (slices keys heap pos) p n
-  h = a .ordered
-
-  abbrev z : 0 < n
-  z = a .filled
-
+module _ {keys heap pos : List ℕ} {p n : ℕ} (h : Heap (slices keys heap pos) p n) (z : 0 < n) {heap₁ pos₁ : List ℕ} (s : Swapped 0 (n - 1) heap pos heap₁ pos₁) where
   moved : Moved p n heap pos heap₁ pos₁
-  moved = swap-moved (h .indexed) z (omega (arith, z)) s
+  moved = swap-moved (h .indexed) z (omega arith) s
 
   swap-keys : (m : ℕ) → At (key keys heap) (key keys heap₁) 0 (n - 1) m
   swap-keys = key-swap keys heap heap₁ 0 (n - 1) (omega (arith, h .indexed .count, h .indexed .heap-fits)) (omega (arith, h .indexed .count, h .indexed .heap-fits)) (s .places)

@@ -38,12 +38,6 @@ pub record Decreased (p n q v : ℕ) (x x′ : Slices) : Type 0 where
   pub only : (k : ℕ) → In (x′ .heap) (x′ .pos) n k → In (x .heap) (x .pos) n k
   pub past : Past p (x .heap) (x .pos) (x′ .heap) (x′ .pos)
 
--- what `pop_min` asks: a heap that is not empty
-pub record Popping (n : ℕ) (x : Slices) : Type 0 where
-  pub p : ℕ
-  pub ordered : Heap x p n
-  pub filled : 0 < n
-
 -- what `pop_min` leaves: the same pairs without r, which had the least key; the keys stay
 pub record Popped (p n r : ℕ) (x x′ : Slices) : Type 0 where
   pub was : In (x .heap) (x .pos) n r

@@ -1,8 +1,9 @@
 // A binary min-heap with positions, over the pairs 0 to p - 1, in three lent slices: keys has the key of each pair, heap the n
 // pairs of the heap, in heap order, and pos the place of each of these. What else stands in heap and pos is arbitrary, and
 // nothing from p on is touched. No call reads p: its contract holds for every p that fits.
-ghost use Rattle.heap_sift.specs.Heap.{slices};
-ghost use Rattle.heap.specs.Calls.{Pushing, Pushed, Decreasing, Decreased, Popping, Popped};
+ghost use Prim.Native.Nat.{ℕ, _<_};
+ghost use Rattle.heap_sift.specs.Heap.{slices, Heap};
+ghost use Rattle.heap.specs.Calls.{Pushing, Pushed, Decreasing, Decreased, Popped};
 use convert::wide;
 use heap_sift::key_at;
 use heap_sift::sift_down;
@@ -40,11 +41,11 @@ pub fn decrease_key(keys: &mut [u32], heap: &mut [u32], pos: &mut [u32], q: usiz
 
 // Takes a pair with the least key out of the heap.
 pub fn pop_min(keys: &[u32], heap: &mut [u32], pos: &mut [u32], n: usize) -> usize
-    requires { ⌜ Popping n (slices (now keys) (now heap) (now pos)) ⌝ }
+    requires { ⌜ ((p : ℕ) × Heap (slices (now keys) (now heap) (now pos)) p n × (0 < n)) ⌝ }
     ensures { λ r. ⌜
         (let before = slices (now (keys .entry)) (now (heap .entry)) (now (pos .entry)) in
         let after = slices (now (keys .entry)) (now (heap .exit)) (now (pos .exit)) in
-        (x : Popping n before) → Popped (x .p) n r before after)
+        (p : ℕ) → Heap before p n → Popped p n r before after)
         ⌝ }
 {
     let first = 0;

@@ -9,19 +9,13 @@ use native.Mathlib.Omega.{arith}
 use lib.ListN.{length, getD}
 use Rattle.theory.specs.Counting.{pigeons}
 use Rattle.heap_sift.specs.Heap.{slices, In, Heap}
-use Rattle.heap.specs.Calls.{Popping, Popped}
+use Rattle.heap.specs.Calls.{Popped}
 use Rattle.queue.specs.declared.Counts.{Counts}
-use Rattle.queue.specs.Queue.{state, heaped, Contains, Queue, recent, Taking, Taken}
+use Rattle.queue.specs.Queue.{state, heaped, Contains, Queue, recent, Taken}
 use Rattle.queue.proofs.Facts.{contains-pair, floor-le}
 use Rattle.queue.proofs.Recent.{recent-last, recent-none}
 
-module _ {keys heap pos stack : List ℕ} {floor : ℕ} {c : Counts} (asks : Taking floor (state keys heap pos stack c)) where
-  abbrev p : ℕ
-  p = asks .p
-
-  abbrev x : Queue p floor (state keys heap pos stack c)
-  x = asks .queue
-
+module _ {keys heap pos stack : List ℕ} {p floor : ℕ} {c : Counts} (x : Queue p floor (state keys heap pos stack c)) where
   -- the stack is within its slice
   pub stack-within : c .top ≤ length stack
   stack-within = omega (arith, pigeons p (c .top) (λ (i : ℕ). getD stack i 0) (x .pairs) (x .distinct), x .stack-fits)
@@ -92,12 +86,9 @@ module _ {keys heap pos stack : List ℕ} {floor : ℕ} {c : Counts} (asks : Tak
   all : c .top ≤ 0 → heaped c ≡ c .held
   all z = omega arith
 
+  -- what `pop_min` asks
   pub all-heaped : c .top ≤ 0 → Heap (slices keys heap pos) p (c .held)
   all-heaped z = rw (all z) at (x .ordered)
-
-  -- what `pop_min` asks
-  abbrev pub take-popping : c .top ≤ 0 → Popping (c .held) (slices keys heap pos)
-  take-popping z = record { p = p; ordered = all-heaped z; filled = asks .filled }
 
   module _ {r : ℕ} {heap′ pos′ : List ℕ} (z : c .top ≤ 0) (u : Popped p (c .held) r (slices keys heap pos) (slices keys heap′ pos′)) where
     abbrev left : Counts
@@ -131,8 +122,8 @@ module _ {keys heap pos stack : List ℕ} {floor : ℕ} {c : Counts} (asks : Tak
     pub take-within : r < length keys
     take-within = omega (arith, u .pair, x .ordered .keys-fit)
 
-    pub take-heap : Taken p floor r (getD keys r 0) (state keys heap pos stack c) (state keys heap′ pos′ stack left)
-    take-heap = record {
+    pub take-heap : 0 < c .held → Taken p floor r (getD keys r 0) (state keys heap pos stack c) (state keys heap′ pos′ stack left)
+    take-heap y = record {
       was = Contains.in-heap (rw (all z) (u .was));
       pair = u .pair;
       least = least;
@@ -146,7 +137,7 @@ module _ {keys heap pos stack : List ℕ} {floor : ℕ} {c : Counts} (asks : Tak
         apart = λ i h w. omega arith;
         above = λ k w. u .least k (was-in′ w);
       };
-      one-fewer = omega (arith, asks .filled);
+      one-fewer = omega arith;
       its-key = refl;
       rises = floor-le x (Contains.in-heap (rw (all z) (u .was)));
       gone = gone′;

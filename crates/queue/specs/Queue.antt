@@ -1,5 +1,5 @@
 -- A queue of the pairs 0 to p - 1, smallest key first: what is in it, and what each call leaves.
--- No call reads p: what a call asks has a field for it, and what the call leaves holds for every p that fits.
+-- No call reads p: what a call leaves holds for every p that fits what it asks.
 -- A caller passes `Queue` and `Contains` on as they are, and learns of them from the fields of `Inserted`, `Decreased` and `Taken` and from the laws of proofs/Facts.antt.
 -- Assumes nothing.
 use Prim.Native.Nat.{ℕ, zero, suc, _+_, _-_, _≤_, _<_}
@@ -98,12 +98,6 @@ pub record Decreased (p floor q v : ℕ) (x x′ : State) : Type 0 where
   pub kept : (k : ℕ) → Contains x k → Contains x′ k
   pub only : (k : ℕ) → Contains x′ k → Contains x k
   pub past : Past p x x′
-
--- what `take` asks: a queue that is not empty
-pub record Taking (floor : ℕ) (x : State) : Type 0 where
-  pub p : ℕ
-  pub queue : Queue p floor x
-  pub filled : 0 < x .counts .held
 
 -- what `take` leaves: the same pairs without r, which had the least key, now the floor; of recent ones r is the last in; the keys and the stack stay
 pub record Taken (p floor r key : ℕ) (x x′ : State) : Type 0 where

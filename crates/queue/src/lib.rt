@@ -2,10 +2,10 @@
 // key just taken goes on the stack and is taken before all others, last in first out. The slices keys, heap, pos and stack are
 // lent with any content. The pairs are 0 to p - 1, for any p that fits the slices: no call reads it, and nothing from p on is
 // touched. `floor` is the key last taken, or any number before the first.
-ghost use Prim.Native.Nat.{ℕ};
+ghost use Prim.Native.Nat.{ℕ, _<_};
 ghost use mathlib.Core.List.{List};
 ghost use Rattle.queue.specs.declared.Counts.{Counts};
-ghost use Rattle.queue.specs.Queue.{state, Empty, Inserting, Inserted, Decreasing, Decreased, Taking, Taken};
+ghost use Rattle.queue.specs.Queue.{state, Queue, Empty, Inserting, Inserted, Decreasing, Decreased, Taken};
 use convert::wide;
 
 // How many pairs the queue holds, and how many of them are on the stack.
@@ -86,11 +86,11 @@ pub fn take(
     counts: Counts,
     floor: u32,
 ) -> Next
-    requires { ⌜ Taking floor (state (now keys) (now heap) (now pos) (now stack) counts) ⌝ }
+    requires { ⌜ ((p : ℕ) × Queue p floor (state (now keys) (now heap) (now pos) (now stack) counts) × (0 < counts .held)) ⌝ }
     ensures { λ r. ⌜
         (let before = state (now (keys .entry)) (now (heap .entry)) (now (pos .entry)) (now (stack .entry)) counts in
         let after = state (now (keys .entry)) (now (heap .exit)) (now (pos .exit)) (now (stack .entry)) (r .counts) in
-        (x : Taking floor before) → Taken (x .p) floor (r .pair) (r .key) before after)
+        (p : ℕ) → Queue p floor before → Taken p floor (r .pair) (r .key) before after)
         ⌝ }
 {
     let held = counts.held;

@@ -23,21 +23,21 @@ wide-requires c κs = search needs
 key-at-requires : tie.Need-key-at-requires
 key-at-requires c κs =
     let start : tie.Start = search in
-    let heap = start .pre .ordered in
+    let heap = start .pre .1 in
     key-within (heap .indexed) (start .args .keys .now) (heap .keys-fit) (start .args .n - 1) (omega arith)
 
 swap-requires : tie.Need-swap-requires
 swap-requires c κs =
     let start : tie.Start = search in
-    let place = entry (start .pre .ordered .indexed) in
-    (place 0 (start .pre .filled), place (start .args .n - 1) (omega arith))
+    let place = entry (start .pre .1 .indexed) in
+    (place 0 (start .pre .2), place (start .args .n - 1) (omega arith))
 
 sift-down-requires : tie.Need-sift-down-requires
 sift-down-requires c κs =
     let swapped : tie.After-swap = search in
     let lowest : tie.After-key-at = search in
     let start : tie.Start = search in
-    pop-sifting (start .pre) (swapped .swap .ensures) (lowest .key-at .ensures)
+    pop-sifting (start .pre .1) (start .pre .2) (swapped .swap .ensures) (lowest .key-at .ensures)
 
 same-length : tie.Need-same-length
 same-length c = search needs
@@ -51,7 +51,9 @@ returns c =
     let swapped : tie.After-swap = search in
     let lowest : tie.After-key-at = search in
     let first : tie.After-wide = search in
-    λ a. pop-done a (swapped .swap .ensures) (first .wide .ensures .0) (sifted .sift-down .ensures (pop-sifting a (swapped .swap .ensures) (lowest .key-at .ensures)))
+    let start : tie.Start = search in
+    let z = start .pre .2 in
+    λ p h. pop-done h z (swapped .swap .ensures) (first .wide .ensures .0) (sifted .sift-down .ensures (pop-sifting h z (swapped .swap .ensures) (lowest .key-at .ensures)))
 
 pub pop-min-spec : {M : Type 1} → statement M
 pop-min-spec =

@@ -50,11 +50,8 @@ none-of c = search
 abbrev opened-of : tie.At-search Inv-search μ-search → tie.After-insert Inv-search μ-search
 opened-of c = search
 
-abbrev head-of : tie.Then1 Inv-search μ-search → tie.At-search Inv-search μ-search
+abbrev head-of : tie.After-take Inv-search μ-search → tie.At-search Inv-search μ-search
 head-of c = search
-
-abbrev more-of : tie.After-take Inv-search μ-search → tie.Then1 Inv-search μ-search
-more-of c = search
 
 abbrev taken-of : tie.After-pair-of Inv-search μ-search → tie.After-take Inv-search μ-search
 taken-of c = search
@@ -113,7 +110,7 @@ search-holds c =
 take-requires : tie.Need-take-requires Inv-search μ-search
 take-requires c κs =
     let more : tie.Then1 Inv-search μ-search = search in
-    let head = head-of more in
+    let head : tie.At-search Inv-search μ-search = search in
     let begun = head .search .inv .0 in
     let w = head .search .inv .1 begun in
     turn-takes (begun .prepared) w (more .if1 .taken)
@@ -121,38 +118,34 @@ take-requires c κs =
 cast-log : tie.Need-cast-log Inv-search μ-search
 cast-log c =
     let taken : tie.After-take Inv-search μ-search = search in
-    let more = more-of taken in
-    let head = head-of more in
+    let head = head-of taken in
     let begun = head .search .inv .0 in
     let w = head .search .inv .1 begun in
-    omega (arith, turn-small (begun .prepared) w (begun .begins) (more .if1 .taken) (taken .take .ensures) .0)
+    omega (arith, turn-small (begun .prepared) w (begun .begins) (taken .take .ensures) .0)
 
 mul-log : tie.Need-mul-log Inv-search μ-search
 mul-log c =
     let taken : tie.After-take Inv-search μ-search = search in
-    let more = more-of taken in
-    let head = head-of more in
+    let head = head-of taken in
     let begun = head .search .inv .0 in
     let w = head .search .inv .1 begun in
-    omega (arith, turn-small (begun .prepared) w (begun .begins) (more .if1 .taken) (taken .take .ensures) .1)
+    omega (arith, turn-small (begun .prepared) w (begun .begins) (taken .take .ensures) .1)
 
 slice-write-log : tie.Need-slice-write-log Inv-search μ-search
 slice-write-log c =
     let taken : tie.After-take Inv-search μ-search = search in
-    let more = more-of taken in
-    let head = head-of more in
+    let head = head-of taken in
     let begun = head .search .inv .0 in
     let w = head .search .inv .1 begun in
-    turn-fits (begun .prepared) w (begun .begins) (more .if1 .taken) (taken .take .ensures)
+    turn-fits (begun .prepared) w (begun .begins) (taken .take .ensures)
 
 add-count : tie.Need-add-count Inv-search μ-search
 add-count c =
     let taken : tie.After-take Inv-search μ-search = search in
-    let more = more-of taken in
-    let head = head-of more in
+    let head = head-of taken in
     let begun = head .search .inv .0 in
     let w = head .search .inv .1 begun in
-    omega (arith, turn-small (begun .prepared) w (begun .begins) (more .if1 .taken) (taken .take .ensures) .1)
+    omega (arith, turn-small (begun .prepared) w (begun .begins) (taken .take .ensures) .1)
 
 index-1-pair-of : tie.Need-index-1-pair-of Inv-search μ-search
 index-1-pair-of c = search needs
@@ -160,53 +153,48 @@ index-1-pair-of c = search needs
 pair-of-requires : tie.Need-pair-of-requires Inv-search μ-search
 pair-of-requires c κs =
     let taken : tie.After-take Inv-search μ-search = search in
-    let more = more-of taken in
-    let head = head-of more in
+    let head = head-of taken in
     let begun = head .search .inv .0 in
     let w = head .search .inv .1 begun in
-    turn-placed (begun .prepared) w (begun .begins) (more .if1 .taken) (taken .take .ensures)
+    turn-placed (begun .prepared) w (begun .begins) (taken .take .ensures)
 
 pair-estimate-requires : tie.Need-pair-estimate-requires Inv-search μ-search
 pair-estimate-requires c κs =
     let at : tie.After-pair-of Inv-search μ-search = search in
     let taken = taken-of at in
-    let more = more-of taken in
-    let head = head-of more in
+    let head = head-of taken in
     let begun = head .search .inv .0 in
     let w = head .search .inv .1 begun in
-    turn-inside (begun .prepared) w (begun .begins) (more .if1 .taken) (taken .take .ensures) (at .pair-of .result) (at .pair-of .ensures)
+    turn-inside (begun .prepared) w (begun .begins) (taken .take .ensures) (at .pair-of .result) (at .pair-of .ensures)
 
 sub-spent : tie.Need-sub-spent Inv-search μ-search
 sub-spent c =
     let rest : tie.After-pair-estimate Inv-search μ-search = search in
     let at = pair-of rest in
     let taken = taken-of at in
-    let more = more-of taken in
-    let head = head-of more in
+    let head = head-of taken in
     let begun = head .search .inv .0 in
     let w = head .search .inv .1 begun in
-    turn-estimate (begun .prepared) w (begun .begins) (more .if1 .taken) (taken .take .ensures) (at .pair-of .result) (at .pair-of .ensures) (rest .pair-estimate .ensures)
+    turn-estimate (begun .prepared) w (begun .begins) (taken .take .ensures) (at .pair-of .result) (at .pair-of .ensures) (rest .pair-estimate .ensures)
 
 is-goal-requires : tie.Need-is-goal-requires Inv-search μ-search
 is-goal-requires c κs =
     let at : tie.After-pair-of Inv-search μ-search = search in
     let taken = taken-of at in
-    let more = more-of taken in
-    let head = head-of more in
+    let head = head-of taken in
     let begun = head .search .inv .0 in
     let w = head .search .inv .1 begun in
-    turn-inside (begun .prepared) w (begun .begins) (more .if1 .taken) (taken .take .ensures) (at .pair-of .result) (at .pair-of .ensures) .1
+    turn-inside (begun .prepared) w (begun .begins) (taken .take .ensures) (at .pair-of .result) (at .pair-of .ensures) .1
 
 settle-requires : tie.Need-settle-requires Inv-search μ-search
 settle-requires c κs =
     let rest : tie.After-pair-estimate Inv-search μ-search = search in
     let at = pair-of rest in
     let taken = taken-of at in
-    let more = more-of taken in
-    let head = head-of more in
+    let head = head-of taken in
     let begun = head .search .inv .0 in
     let w = head .search .inv .1 begun in
-    turn-asks (begun .prepared) w (begun .begins) (more .if1 .taken) (taken .take .ensures) (at .pair-of .result) (at .pair-of .ensures) (rest .pair-estimate .ensures)
+    turn-asks (begun .prepared) w (begun .begins) (taken .take .ensures) (at .pair-of .result) (at .pair-of .ensures) (rest .pair-estimate .ensures)
 
 search-less : tie.Need-search-less Inv-search μ-search
 search-less c =
@@ -216,11 +204,10 @@ search-less c =
     let rest = rest-of goal in
     let at = pair-of rest in
     let taken = taken-of at in
-    let more = more-of taken in
-    let head = head-of more in
+    let head = head-of taken in
     let begun = head .search .inv .0 in
     let w = head .search .inv .1 begun in
-    omega (arith, turn-room (begun .prepared) w (begun .begins) (more .if1 .taken) (taken .take .ensures))
+    omega (arith, turn-room (begun .prepared) w (begun .begins) (taken .take .ensures))
 
 search-again : tie.Need-search-again Inv-search μ-search
 search-again c =
@@ -230,17 +217,16 @@ search-again c =
     let rest = rest-of goal in
     let at = pair-of rest in
     let taken = taken-of at in
-    let more = more-of taken in
-    let head = head-of more in
+    let head = head-of taken in
     let begun = head .search .inv .0 in
     let w = head .search .inv .1 begun in
     let kept = settled .settle .kept in (
       begun,
       (λ x.
-          let asked = turn-asks (x .prepared) (head .search .inv .1 x) (x .begins) (more .if1 .taken) (taken .take .ensures) (at .pair-of .result) (at .pair-of .ensures) (rest .pair-estimate .ensures) in
-          turn-more (x .prepared) (head .search .inv .1 x) (x .begins) (more .if1 .taken) (taken .take .ensures) (at .pair-of .result) (at .pair-of .ensures) (rest .pair-estimate .ensures)
+          let asked = turn-asks (x .prepared) (head .search .inv .1 x) (x .begins) (taken .take .ensures) (at .pair-of .result) (at .pair-of .ensures) (rest .pair-estimate .ensures) in
+          turn-more (x .prepared) (head .search .inv .1 x) (x .begins) (taken .take .ensures) (at .pair-of .result) (at .pair-of .ensures) (rest .pair-estimate .ensures)
           (goal .is-goal .ensures) (no .if2 .left) (kept .1 .0) (settled .settle .ensures asked)),
-      omega (arith, turn-room (begun .prepared) w (begun .begins) (more .if1 .taken) (taken .take .ensures)),
+      omega (arith, turn-room (begun .prepared) w (begun .begins) (taken .take .ensures)),
       head .search .inv .3,
       kept .0 ∙ head .search .inv .4,
       kept .1 .0 ∙ head .search .inv .5,
@@ -314,16 +300,14 @@ same-length-8 c =
 same-length-9 : tie.Need-same-length-9 Inv-search μ-search
 same-length-9 c =
     let taken : tie.After-take Inv-search μ-search = search in
-    let more = more-of taken in
-    let head = head-of more in
+    let head = head-of taken in
     let opened = opened-of head in
     taken .take .kept .1 .0 ∙ head .search .inv .6 ∙ opened .insert .kept .1 .0
 
 same-length-10 : tie.Need-same-length-10 Inv-search μ-search
 same-length-10 c =
     let taken : tie.After-take Inv-search μ-search = search in
-    let more = more-of taken in
-    let head = head-of more in
+    let head = head-of taken in
     let opened = opened-of head in
     taken .take .kept .1 .1 .0 ∙ head .search .inv .7 ∙ opened .insert .kept .1 .1 .0
 
@@ -345,8 +329,7 @@ returns-2 c =
     let rest = rest-of goal in
     let at = pair-of rest in
     let taken = taken-of at in
-    let more = more-of taken in
-    let head = head-of more in
+    let head = head-of taken in
     let opened = opened-of head in
     let none = none-of opened in
     let row = row-of none in
@@ -354,7 +337,7 @@ returns-2 c =
     λ x.
     let begun = begin-begun x (row .open-row .kept .0) (row .open-row .ensures) (first .pair-at .ensures) (none .empty .ensures) (opened .insert .ensures) in
     begin-searched x (row .open-row .kept .0) (row .open-row .ensures) (first .pair-at .ensures) (none .empty .ensures) (opened .insert .ensures)
-    (turn-goal (x .prepared) (head .search .inv .1 begun) (begun .begins) (more .if1 .taken) (taken .take .ensures) (at .pair-of .result) (at .pair-of .ensures) (rest .pair-estimate .ensures)
+    (turn-goal (x .prepared) (head .search .inv .1 begun) (begun .begins) (taken .take .ensures) (at .pair-of .result) (at .pair-of .ensures) (rest .pair-estimate .ensures)
     (goal .is-goal .ensures) (yes .if2 .taken) refl refl refl refl)
 
 pub search-spec : {M : Type 1} → statement M
