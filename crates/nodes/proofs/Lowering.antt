@@ -46,5 +46,3 @@ module _ (step lo : List ℕ) (e n : ℕ) where
           (λ i. lowered-stop d (h .ordered) e m i (omega (arith, held-step d step lo hi h m i (omega (arith, now .below))))))
           ∙ now .same d hi h l;
     }
-
-pub ruleset lowering-laws = (lowering-start, lowering-less, lowering-next, lowering-done)

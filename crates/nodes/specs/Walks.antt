@@ -9,11 +9,16 @@ use lib.ListN.{length, getD}
 use Rattle.definitions.specs.Basics.{pick}
 use Rattle.definitions.specs.Diagrams.{Diagram, size, descend, advance, finish}
 use Rattle.diagram.specs.Tables.{Held}
+use Rattle.nodes.specs.declared.walks.Lowered.{Lowered}
 
 -- what a walk down from node n needs of a table of children: those of the nodes up to n have lower numbers
 pub record Falls (child : List ℕ) (n : ℕ) : Type 0 where
   pub inside : n < 512
   pub below : (k : ℕ) → 2 ≤ k → k ≤ n → getD child k 0 < k
+
+-- what is said to be a node's step is the table's
+abbrev pub Tests : List ℕ → Lowered → Type 0
+Tests step x = x .step ≡ getD step (x .node .0) 0
 
 -- The first half of advancing a node by step e: to lo while the node is inner and its step is below e. Over several steps in ascending order it is
 -- carried on from one to the next

@@ -3,6 +3,8 @@ mod estimates;
 mod walks;
 
 pub use estimates::fill_diagram_estimates;
+pub use walks::Lowered;
 pub use walks::branch;
 pub use walks::descend_to;
 pub use walks::fill_finishing;
+pub use walks::lowered_at;

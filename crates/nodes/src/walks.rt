@@ -4,37 +4,64 @@ ghost use Prim.Native.Nat.{_+_, _≤_, _<_};
 ghost use lib.ListN.{length};
 ghost use Rattle.diagram.specs.Tables.{MARK, Marked};
 ghost use Rattle.diagram.specs.Files.{nodesIn};
-ghost use Rattle.nodes.specs.Walks.{Falls, Lowers, BranchesTo, Finishing};
+ghost use Rattle.nodes.specs.Walks.{Falls, Tests, Lowers, BranchesTo, Finishing};
 use definitions::Node;
 use definitions::Step;
 use diagram::hi_at;
 use diagram::lo_at;
 use diagram::step_at;
 
+// A node of a diagram, and the step that it tests: the mark where it is none of the inner ones.
+pub struct Lowered {
+    pub node: Node,
+    pub step: u16,
+}
+
+// A node with its step, by the table.
+pub fn lowered_at(inner: &[u32; 512], n: Node) -> Lowered
+    requires { ⌜ n .0 < 512 ⌝ }
+    ensures { λ r. ⌜ (r .node ≡ n) × Tests (nodesIn (now (inner .entry)) .step) r ⌝ }
+{
+    let step = step_at(inner, n.0 as usize);
+    Lowered { node: n, step }
+}
+
 // The first half of advancing a node by step `e`: to lo while the node is inner and its step is below `e`.
-pub fn descend_to(inner: &[u32; 512], e: Step, n: Node) -> Node
-    requires { ⌜ (let t = nodesIn (now inner) in Marked (t .step) × Falls (t .lo) (n .0) × (e .0 ≤ MARK)) ⌝ }
-    ensures { λ r. ⌜ (let t = nodesIn (now (inner .entry)) in Lowers (t .step) (t .lo) (e .0) (n .0) (r .0)) ⌝ }
+pub fn descend_to(inner: &[u32; 512], e: Step, from: Lowered) -> Lowered
+    requires { ⌜
+        (let t = nodesIn (now inner) in
+        Marked (t .step) × Falls (t .lo) (from .node .0) × (e .0 ≤ MARK) × Tests (t .step) from)
+        ⌝ }
+    ensures { λ r. ⌜
+        (let t = nodesIn (now (inner .entry)) in
+        Lowers (t .step) (t .lo) (e .0) (from .node .0) (r .node .0) × Tests (t .step) r)
+        ⌝ }
 {
     let key = e.0;
-    let mut m = n.0;
-    while step_at(inner, m as usize) < key {
+    let mut m = from.node.0;
+    let mut step = from.step;
+    while step < key {
         m = lo_at(inner, m as usize);
+        step = step_at(inner, m as usize);
     }
-    Node(m)
+    Lowered {
+        node: Node(m),
+        step,
+    }
 }
 
 // The second half: to hi where step `e` is the lowered node's own. Both halves together advance a node.
-pub fn branch(inner: &[u32; 512], e: Step, m: Node) -> Node
-    requires { ⌜ Marked (nodesIn (now inner) .step) × (m .0 < 512) × (e .0 < MARK) ⌝ }
-    ensures { λ r. ⌜ (let t = nodesIn (now (inner .entry)) in BranchesTo (t .step) (t .hi) (e .0) (m .0) (r .0)) ⌝ }
+pub fn branch(inner: &[u32; 512], e: Step, at: Lowered) -> Node
+    requires { ⌜
+        (let t = nodesIn (now inner) in
+        Marked (t .step) × (at .node .0 < 512) × (e .0 < MARK) × Tests (t .step) at)
+        ⌝ }
+    ensures { λ r. ⌜ (let t = nodesIn (now (inner .entry)) in BranchesTo (t .step) (t .hi) (e .0) (at .node .0) (r .0)) ⌝ }
 {
-    let key = e.0;
-    let at = m.0 as usize;
-    if step_at(inner, at) == key {
-        return Node(hi_at(inner, at));
+    if at.step == e.0 {
+        return Node(hi_at(inner, at.node.0 as usize));
     }
-    m
+    at.node
 }
 
 // Fills the table: for each node of a diagram of `count` inner nodes, whether it finishes at 1.
