@@ -31,6 +31,14 @@ module _ {on : Walk} {t : Estimates} {from : Source} {width : ℕ} {x : Progress
   pub settles-stage : sourceStage from < 256
   settles-stage = omega (arith, o .opens .settling .stage, few-stages (o .z) (on .read) (o .by .ready .tables))
 
+  pub settles-node : sourceNode from < 512
+  settles-node = omega (
+    arith,
+    o .opens .settling .node,
+    width-is (o .z) (on .read) (o .by .ready .tables),
+    few-nodes (o .z) (on .read) (o .by .ready .tables),
+  )
+
   pub settles-order : firstOf on (sourceStage from) ≤ firstOf on (sourceStage from + 1)
   settles-order = first-order (o .z) on (o .by .ready) (sourceStage from) (o .opens .settling .stage) .0
 
@@ -52,12 +60,14 @@ opened-none {z} {on} {t} {by} {from} {width} {x} o first until q = record {
   rows = refl;
 }
 
-pub walk-start : {on : Walk} {t : Estimates} {from : Source} {width : ℕ} {x : Progress} (o : Opening on t from width x)
-    → Walking (o .by) from width x x (sourceNode from) (firstOf on (sourceStage from))
-walk-start {on} {t} {from} o = record {
+pub walk-start : {on : Walk} {t : Estimates} {from : Source} {width : ℕ} {x : Progress} (o : Opening on t from width x) {m : ℕ} → m ≡ sourceNode from
+    → Walking (o .by) from width x x m (firstOf on (sourceStage from))
+walk-start {on} {t} {from} o q = record {
   for-step = 0;
   not-later = omega arith;
-  lowers = lowers-zero (on .read .inner .step) (on .read .inner .lo) (sourceNode from);
+  lowers =
+      subst (Lowers (on .read .inner .step) (on .read .inner .lo) 0 (sourceNode from)) (sym q)
+      (lowers-zero (on .read .inner .step) (on .read .inner .lo) (sourceNode from));
   begun = omega arith;
   opens = o .opens;
   opened = opened-none (o .opens) (firstOf on (sourceStage from)) (firstOf on (sourceStage from)) (λ e i j. absurd (omega arith));

@@ -19,6 +19,7 @@ use definitions::Step;
 use guided_rows::open_row;
 use nodes::branch;
 use nodes::descend_to;
+use nodes::lowered_at;
 use queue::Counts;
 use trace::packed;
 use trace::pair_at;
@@ -134,12 +135,12 @@ pub fn settle<'a>(
     let s = source.pair.stage.0 as usize;
     let until = first[s + 1];
     let mut left = counts;
-    let mut m = source.pair.node;
+    let mut m = lowered_at(inner, source.pair.node);
     let mut e = first[s];
     while e < until {
         let key = Step(e);
         m = descend_to(inner, key, m);
-        if m.0 == 0 {
+        if m.node.0 == 0 {
             return left;
         }
         let t = branch(inner, key, m);

@@ -20,7 +20,7 @@ pub struct Lowered {
 // A node with its step, by the table.
 pub fn lowered_at(inner: &[u32; 512], n: Node) -> Lowered
     requires { ⌜ n .0 < 512 ⌝ }
-    ensures { λ r. ⌜ (r .node ≡ n) × Tests (nodesIn (now (inner .entry)) .step) r ⌝ }
+    ensures { λ r. ⌜ (r .node .0 ≡ n .0) × Tests (nodesIn (now (inner .entry)) .step) r ⌝ }
 {
     let step = step_at(inner, n.0 as usize);
     Lowered { node: n, step }

@@ -214,6 +214,17 @@ module _ {z : Shape} {on : Walk} {s n v begin until : ℕ} {r₀ r : Rows} {e m 
   unfolding relaxSteps
   walk-done h = let k : until - e ≡ 0 = omega arith in sym (w .same ∙ ap (λ (i : ℕ). relaxSteps g a n v e i r) k)
 
-pub walk-start : {t : Read} {row : List ℕ} {n v begin until : ℕ} {r : Rows} (x : Stands t row n v begin until r)
-    → Walking (x .z) (walk t (x .first) row) (x .s) n v begin until r r begin n
-walk-start x = record { begins = x .begins; ends = x .ends; standing = x .standing; same = refl; later = omega arith; carried = λ f h. refl; down = omega arith }
+module _ {t : Read} {row : List ℕ} {n v begin until : ℕ} {r : Rows} (x : Stands t row n v begin until r) where
+  pub walk-node : n < 512
+  walk-node = omega (arith, x .standing .node, width-is (x .z) t (x .standing .ready .tables), few-nodes (x .z) t (x .standing .ready .tables))
+
+  pub walk-start : {m : ℕ} → m ≡ n → Walking (x .z) (walk t (x .first) row) (x .s) n v begin until r r begin m
+  walk-start q = record {
+    begins = x .begins;
+    ends = x .ends;
+    standing = x .standing;
+    same = refl;
+    later = omega arith;
+    carried = λ f h. ap (advance (diagramIn (x .z) t) f) q;
+    down = omega (arith, q);
+  }

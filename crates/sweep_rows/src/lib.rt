@@ -12,6 +12,7 @@ use definitions::Stage;
 use definitions::Step;
 use nodes::branch;
 use nodes::descend_to;
+use nodes::lowered_at;
 use sweep_offers::relax_step;
 
 // The steps from `begin` to before `until`.
@@ -45,13 +46,13 @@ fn relax_node<'a>(
         → after ≡ relaxSteps (graphIn (x .z) t) (automatonIn (x .z) t) (n .0) v (leaving .begin .0) (leaving .until .0 - leaving .begin .0) before)
         ⌝ }
 {
-    let mut m = n;
+    let mut m = lowered_at(inner, n);
     let mut next = leaving.begin.0;
     let end = leaving.until.0;
     while next < end {
         let e = Step(next);
         m = descend_to(inner, e, m);
-        if m.0 == 0 {
+        if m.node.0 == 0 {
             return;
         }
         let t = branch(inner, e, m);

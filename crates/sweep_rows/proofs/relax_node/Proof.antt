@@ -5,9 +5,10 @@ use native.Mathlib.Omega.{arith}
 use lib.ListN.{length}
 use Rattle.checks.specs.Tables.{read}
 use Rattle.checks.specs.Ready.{walk}
+use Rattle.nodes.specs.Walks.{Tests}
 use Rattle.sweep_model.specs.Model.{rows}
 use Rattle.sweep_rows.specs.Standing.{Stands}
-use Rattle.sweep_rows.proofs.Walking.{Walking, walk-start, walk-step, walk-marked, walk-falls, walk-dead, walk-offering, walk-more, walk-done}
+use Rattle.sweep_rows.proofs.Walking.{Walking, walk-node, walk-start, walk-step, walk-marked, walk-falls, walk-dead, walk-offering, walk-more, walk-done}
 use borrow.Author.Needs.{needs}
 use Rattle.sweep_rows.proofs.relax_node.Statement.{statement}
 use Rattle.sweep_rows.proofs.relax_node.Tie as tie
@@ -15,16 +16,25 @@ use Rattle.sweep_rows.proofs.relax_node.Tie as tie
 abbrev Inv-loop : tie.InvT-loop
 Inv-loop costs₀ via₀ nodes₀ counts₀ steps row inner n v m₀ begin until costs via nodes counts m e =
     ((x : Stands (read steps inner) row (n .0) v begin until (rows costs₀ via₀ nodes₀ counts₀))
-    → Walking (x .z) (walk (read steps inner) (x .first) row) (x .s) (n .0) v begin until (rows costs₀ via₀ nodes₀ counts₀) (rows costs via nodes counts) e (m .0))
+    → Walking (x .z) (walk (read steps inner) (x .first) row) (x .s) (n .0) v begin until (rows costs₀ via₀ nodes₀ counts₀) (rows costs via nodes counts) e (m .node .0))
     × (length costs ≡ length costs₀)
     × (length via ≡ length via₀)
     × (length nodes ≡ length nodes₀)
+    × Tests (read steps inner .inner .step) m
 
 abbrev μ-loop : tie.MeasureT-loop
 μ-loop costs₀ via₀ nodes₀ counts₀ steps row inner n v m₀ begin until costs via nodes counts m e = until - e
 
+lowered-at-requires : tie.Need-lowered-at-requires Inv-loop μ-loop
+lowered-at-requires c κs =
+    let start : tie.Start Inv-loop μ-loop = search in
+    walk-node (start .pre)
+
 loop-holds : tie.Need-loop-holds Inv-loop μ-loop
-loop-holds c = (walk-start, refl, refl, refl)
+loop-holds c =
+    let begun : tie.After-lowered-at Inv-loop μ-loop = search in
+    let at = begun .lowered-at .ensures in
+    ((λ x. walk-start x (at .0)), refl, refl, refl, at .1)
 
 descend-to-requires : tie.Need-descend-to-requires Inv-loop μ-loop
 descend-to-requires c κs =
@@ -32,7 +42,7 @@ descend-to-requires c κs =
     let head : tie.At-loop Inv-loop μ-loop = search in
     let start : tie.Start Inv-loop μ-loop = search in
     let w = head .loop .inv .0 (start .pre) in
-    (walk-marked w, walk-falls w _ (omega arith), omega (arith, walk-step w (turn .loop-test .taken)))
+    (walk-marked w, walk-falls w _ (omega arith), omega (arith, walk-step w (turn .loop-test .taken)), head .loop .inv .4)
 
 same-length : tie.Need-same-length Inv-loop μ-loop
 same-length c =
@@ -54,7 +64,7 @@ returns c =
     let low : tie.After-descend-to Inv-loop μ-loop = search in
     let turn : tie.In-loop Inv-loop μ-loop = search in
     let head : tie.At-loop Inv-loop μ-loop = search in
-    λ x. walk-dead (head .loop .inv .0 x) (turn .loop-test .taken) (low .descend-to .ensures) (c .if1 .taken)
+    λ x. walk-dead (head .loop .inv .0 x) (turn .loop-test .taken) (low .descend-to .ensures .0) (c .if1 .taken)
 
 branch-requires : tie.Need-branch-requires Inv-loop μ-loop
 branch-requires c κs =
@@ -63,7 +73,7 @@ branch-requires c κs =
     let head : tie.At-loop Inv-loop μ-loop = search in
     let start : tie.Start Inv-loop μ-loop = search in
     let w = head .loop .inv .0 (start .pre) in
-    (walk-marked w, walk-falls w _ (low .descend-to .ensures .below) .inside, omega (arith, walk-step w (turn .loop-test .taken)))
+    (walk-marked w, walk-falls w _ (low .descend-to .ensures .0 .below) .inside, omega (arith, walk-step w (turn .loop-test .taken)), low .descend-to .ensures .1)
 
 relax-step-requires : tie.Need-relax-step-requires Inv-loop μ-loop
 relax-step-requires c κs =
@@ -73,7 +83,7 @@ relax-step-requires c κs =
     let head : tie.At-loop Inv-loop μ-loop = search in
     let start : tie.Start Inv-loop μ-loop = search in
     let w = head .loop .inv .0 (start .pre) in
-    walk-offering w (turn .loop-test .taken) (low .descend-to .ensures) (led .branch .ensures)
+    walk-offering w (turn .loop-test .taken) (low .descend-to .ensures .0) (led .branch .ensures)
 
 add-next : tie.Need-add-next Inv-loop μ-loop
 add-next c =
@@ -93,10 +103,11 @@ loop-again c =
     let low : tie.After-descend-to Inv-loop μ-loop = search in
     let turn : tie.In-loop Inv-loop μ-loop = search in
     let head : tie.At-loop Inv-loop μ-loop = search in (
-      (λ x. walk-more (head .loop .inv .0 x) (turn .loop-test .taken) (low .descend-to .ensures) (led .branch .ensures) _ (done .relax-step .ensures)),
+      (λ x. walk-more (head .loop .inv .0 x) (turn .loop-test .taken) (low .descend-to .ensures .0) (led .branch .ensures) _ (done .relax-step .ensures)),
       omega (arith, head .loop .inv .1, done .relax-step .kept .0),
       omega (arith, head .loop .inv .2, done .relax-step .kept .1 .0),
       omega (arith, head .loop .inv .3, done .relax-step .kept .1 .1 .0),
+      low .descend-to .ensures .1,
     )
 
 same-length-4 : tie.Need-same-length-4 Inv-loop μ-loop
@@ -125,6 +136,7 @@ relax-node-spec =
     (tie.spec
     Inv-loop
     μ-loop
+    lowered-at-requires
     loop-holds
     descend-to-requires
     same-length

@@ -3,12 +3,13 @@ use mathlib.Core.Path.{_≡_, refl}
 use Prim.Native.Nat.{_-_, _≤_}
 use native.Mathlib.Omega.{arith}
 use lib.ListN.{length}
+use Rattle.nodes.specs.Walks.{Tests}
 use Rattle.checks.specs.Tables.{read}
 use Rattle.checks.specs.Ready.{walk}
 use Rattle.guided_expand.specs.Estimates.{estimates}
 use Rattle.guided_expand.specs.Work.{work, progress}
 use Rattle.guided_expand.specs.Opening.{Opening}
-use Rattle.guided_expand.proofs.Walking.{Walking, settles-stage, settles-order, walk-start, walk-falls, walk-step, walk-branches, walk-dead, walk-leading, walk-more, walk-done}
+use Rattle.guided_expand.proofs.Walking.{Walking, settles-stage, settles-node, settles-order, walk-start, walk-falls, walk-step, walk-branches, walk-dead, walk-leading, walk-more, walk-done}
 use borrow.Author.Needs.{needs}
 use Rattle.guided_expand.proofs.steps.settle.Statement.{statement}
 use Rattle.guided_expand.proofs.steps.settle.Tie as tie
@@ -16,13 +17,14 @@ use Rattle.guided_expand.proofs.steps.settle.Tie as tie
 abbrev Inv-loop : tie.InvT-loop
 Inv-loop keys₀ via₀ heap₀ pos₀ stack₀ filled₀ width steps first row inner by-stage by-node source s until left₀ m₀ e₀ keys via heap pos stack filled left m e =
     ((x : Opening (walk (read steps inner) first row) (estimates by-stage by-node) source width (progress (work keys₀ via₀ heap₀ pos₀ stack₀) filled₀ left₀))
-    → Walking (x .by) source width (progress (work keys₀ via₀ heap₀ pos₀ stack₀) filled₀ left₀) (progress (work keys via heap pos stack) filled left) (m .0) e)
+    → Walking (x .by) source width (progress (work keys₀ via₀ heap₀ pos₀ stack₀) filled₀ left₀) (progress (work keys via heap pos stack) filled left) (m .node .0) e)
     × (e ≤ until)
     × (length keys ≡ length keys₀)
     × (length via ≡ length via₀)
     × (length heap ≡ length heap₀)
     × (length pos ≡ length pos₀)
     × (length stack ≡ length stack₀)
+    × Tests (read steps inner .inner .step) m
 
 abbrev μ-loop : tie.MeasureT-loop
 μ-loop keys₀ via₀ heap₀ pos₀ stack₀ filled₀ width steps first row inner by-stage by-node source s until left₀ m₀ e₀ keys via heap pos stack filled left m e = until - e
@@ -49,6 +51,11 @@ element-copy-out-until c =
     let start : tie.Start Inv-loop μ-loop = search in
     omega (arith, settles-stage (start .pre))
 
+lowered-at-requires : tie.Need-lowered-at-requires Inv-loop μ-loop
+lowered-at-requires c κs =
+    let start : tie.Start Inv-loop μ-loop = search in
+    settles-node (start .pre)
+
 mul-e : tie.Need-mul-e Inv-loop μ-loop
 mul-e c =
     let start : tie.Start Inv-loop μ-loop = search in
@@ -61,15 +68,18 @@ element-copy-out-e c =
 
 loop-holds : tie.Need-loop-holds Inv-loop μ-loop
 loop-holds c =
+    let begun : tie.After-lowered-at Inv-loop μ-loop = search in
     let start : tie.Start Inv-loop μ-loop = search in
-    (walk-start, settles-order (start .pre), refl, refl, refl, refl, refl)
+    let at = begun .lowered-at .ensures in
+    ((λ x. walk-start x (at .0)), settles-order (start .pre), refl, refl, refl, refl, refl, at .1)
 
 descend-to-requires : tie.Need-descend-to-requires Inv-loop μ-loop
 descend-to-requires c κs =
     let turn : tie.In-loop Inv-loop μ-loop = search in
     let head : tie.At-loop Inv-loop μ-loop = search in
     let start : tie.Start Inv-loop μ-loop = search in
-    walk-falls (head .loop .inv .0 (start .pre)) (turn .loop-test .taken)
+    let w = walk-falls (head .loop .inv .0 (start .pre)) (turn .loop-test .taken) in
+    (w .0, w .1, w .2, head .loop .inv .7)
 
 same-length : tie.Need-same-length Inv-loop μ-loop
 same-length c =
@@ -101,15 +111,16 @@ returns c =
     let low : tie.After-descend-to Inv-loop μ-loop = search in
     let turn : tie.In-loop Inv-loop μ-loop = search in
     let head : tie.At-loop Inv-loop μ-loop = search in
-    λ x. walk-dead (head .loop .inv .0 x) (turn .loop-test .taken) (low .descend-to .ensures) (c .if1 .taken)
+    λ x. walk-dead (head .loop .inv .0 x) (turn .loop-test .taken) (low .descend-to .ensures .0) (c .if1 .taken)
 
 branch-requires : tie.Need-branch-requires Inv-loop μ-loop
 branch-requires c κs =
     let low : tie.After-descend-to Inv-loop μ-loop = search in
     let turn : tie.In-loop Inv-loop μ-loop = search in
     let head : tie.At-loop Inv-loop μ-loop = search in
-    let start : tie.Start Inv-loop μ-loop = search in
-    walk-branches (head .loop .inv .0 (start .pre)) (turn .loop-test .taken) (low .descend-to .ensures)
+    let start = start-of head in
+    let w = walk-branches (head .loop .inv .0 (start .pre)) (turn .loop-test .taken) (low .descend-to .ensures .0) in
+    (w .0, w .1, w .2, low .descend-to .ensures .1)
 
 offer-requires : tie.Need-offer-requires Inv-loop μ-loop
 offer-requires c κs =
@@ -118,7 +129,7 @@ offer-requires c κs =
     let turn : tie.In-loop Inv-loop μ-loop = search in
     let head : tie.At-loop Inv-loop μ-loop = search in
     let start = start-of head in
-    walk-leading (head .loop .inv .0 (start .pre)) (turn .loop-test .taken) (low .descend-to .ensures) (led .branch .ensures)
+    walk-leading (head .loop .inv .0 (start .pre)) (turn .loop-test .taken) (low .descend-to .ensures .0) (led .branch .ensures)
 
 add-e : tie.Need-add-e Inv-loop μ-loop
 add-e c =
@@ -140,14 +151,15 @@ loop-again c =
     let w = head .loop .inv .0 in
     let kept = done .offer .kept in (
       (λ x.
-          let led-to = walk-leading (w x) (turn .loop-test .taken) (low .descend-to .ensures) (led .branch .ensures) in
-          walk-more (w x) (turn .loop-test .taken) (low .descend-to .ensures) (led .branch .ensures) (kept .1 .0) (done .offer .ensures led-to)),
+          let led-to = walk-leading (w x) (turn .loop-test .taken) (low .descend-to .ensures .0) (led .branch .ensures) in
+          walk-more (w x) (turn .loop-test .taken) (low .descend-to .ensures .0) (led .branch .ensures) (kept .1 .0) (done .offer .ensures led-to)),
       omega (arith, turn .loop-test .taken),
       omega (arith, head .loop .inv .2, kept .0),
       omega (arith, head .loop .inv .3, kept .1 .0),
       omega (arith, head .loop .inv .4, kept .1 .1 .0),
       omega (arith, head .loop .inv .5, kept .1 .1 .1 .0),
       omega (arith, head .loop .inv .6, kept .1 .1 .1 .1 .0),
+      low .descend-to .ensures .1,
     )
 
 same-length-6 : tie.Need-same-length-6 Inv-loop μ-loop
@@ -190,6 +202,7 @@ settle-spec =
     add-until
     mul-until
     element-copy-out-until
+    lowered-at-requires
     mul-e
     element-copy-out-e
     loop-holds
