@@ -43,7 +43,7 @@ module _ {z : Shape} {on : Walk} {t : Estimates} (by : Guides z on t) (from : So
     pub frontier : Frontier g a (by .h) (seenIn a x) (from .key)
     pub settling : Settling g a (by .h) (sourceStage from) (sourceNode from) (from .cost) (from .key)
 
-  -- those from `first` to before `until` were
+  -- the steps from `first` to before `until` were offered
   pub record Opened (first until : ℕ) (x x′ : Progress) : Type 0 where
     pub expanded : Expanded g a (by .h) (sourceStage from) (sourceNode from) (from .cost) first until (seenIn a x) (seenIn a x′)
     pub kept : Kept (pairsIn z) (from .key) (x .slices) (x′ .slices) (x′ .counts)
