@@ -1,10 +1,10 @@
--- `field_writer::write_node` meets its contract.
+-- `field_writer::write_three` meets its contract.
 use Rattle.buffer.specs.Appends.{append-both}
 use borrow.Author.Needs.{needs}
-use Rattle.field_writer.proofs.write_node.Statement.{statement}
-use Rattle.field_writer.proofs.write_node.Tie as tie
-use Rattle.field_writer.proofs.write_node.Reads as reads
-use Rattle.field_writer.proofs.write_node.Lts as lts
+use Rattle.field_writer.proofs.write_three.Statement.{statement}
+use Rattle.field_writer.proofs.write_three.Tie as tie
+use Rattle.field_writer.proofs.write_three.Reads as reads
+use Rattle.field_writer.proofs.write_three.Lts as lts
 use Rattle.field_bytes.proofs.write_header.Reads as write-header-reads
 use Rattle.field_bytes.proofs.write_u16.Reads as write-u16-reads
 
@@ -31,8 +31,8 @@ returns c =
     let fourth : tie.After-write-u163 = search in
     append-both (search needs) (append-both (search needs) (append-both (search needs) (first .write-header .ensures) (second .write-u16 .ensures)) (third .write-u162 .ensures)) (fourth .write-u163 .ensures)
 
-pub write-node-spec : {M : Type 1} → statement M
-write-node-spec =
+pub write-three-spec : {M : Type 1} → statement M
+write-three-spec =
     tie.close
     (tie.spec
     write-header-requires
