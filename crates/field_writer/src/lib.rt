@@ -1,16 +1,11 @@
-// The fields of charts and diagrams, each written at a place of a lent buffer; and what a call answers that writes a file. A function that writes returns the
-// place behind the field. The caller tests first that all of a file has room.
-ghost use mathlib.Core.Path.{_≡_};
+// The fields of charts and diagrams, each written at a place of a lent buffer. Each function returns the place behind the field. The caller tests first that
+// all of a file has room.
 ghost use mathlib.Core.List.{_++_};
 ghost use Prim.Native.Nat.{_+_, _≤_};
 ghost use lib.ListN.{length};
 ghost use Rattle.definitions.specs.Marked.{st, nd};
 ghost use Rattle.definitions.specs.Bytes.{le2, field, headBytes, stepBytes, rootBytes, nodeBytes};
 ghost use Rattle.buffer.specs.Appending.{Appended};
-ghost use Rattle.field_writer.specs.Files.{fileAnswer};
-use checks::accepted;
-use checks::refusal;
-use definitions::Answer;
 use definitions::Node;
 use definitions::Stage;
 use definitions::Step;
@@ -63,14 +58,4 @@ pub fn write_node(out: &mut [u8], at: usize, step: Step, lo: Node, hi: Node) -> 
     ensures { λ r. ⌜ Appended (now (out .entry)) at (nodeBytes (nd (step .0) (lo .0) (hi .0))) (now (out .exit)) r ⌝ }
 {
     write_three(out, at, 18, step.0, lo.0, hi.0)
-}
-
-// The answer of a call that writes a file of so many bytes into a buffer of `room` bytes: 7 where the buffer is too short.
-pub fn file_answer(bytes: usize, room: usize) -> Answer
-    ensures { λ r. ⌜ r ≡ fileAnswer bytes room ⌝ }
-{
-    if room < bytes {
-        return refusal(7, 0, 0, 0);
-    }
-    accepted(0, bytes, 0)
 }

@@ -1,10 +1,10 @@
--- `field_writer::file_answer` meets its contract.
+-- `file_answers::file_answer` meets its contract.
 use mathlib.Core.Path.{_∙_}
-use Rattle.field_writer.specs.Files.{answer-short, answer-whole}
-use Rattle.field_writer.proofs.file_answer.Statement.{statement}
-use Rattle.field_writer.proofs.file_answer.Tie as tie
-use Rattle.field_writer.proofs.file_answer.Reads as reads
-use Rattle.field_writer.proofs.file_answer.Lts as lts
+use Rattle.file_answers.specs.Files.{answer-short, answer-whole}
+use Rattle.file_answers.proofs.file_answer.Statement.{statement}
+use Rattle.file_answers.proofs.file_answer.Tie as tie
+use Rattle.file_answers.proofs.file_answer.Reads as reads
+use Rattle.file_answers.proofs.file_answer.Lts as lts
 use Rattle.checks.proofs.accepted.Reads as accepted-reads
 use Rattle.checks.proofs.refusal.Reads as refusal-reads
 
