@@ -4,7 +4,7 @@ ghost use mathlib.Core.List.{_++_};
 ghost use Prim.Native.Nat.{_+_, _≤_};
 ghost use lib.ListN.{length};
 ghost use Rattle.definitions.specs.Marked.{st, nd};
-ghost use Rattle.definitions.specs.Bytes.{le2, field, headBytes, stepBytes, rootBytes, nodeBytes};
+ghost use Rattle.definitions.specs.Bytes.{le2, header, field, headBytes, stepBytes, rootBytes, nodeBytes};
 ghost use Rattle.buffer.specs.Appending.{Appended};
 use definitions::Node;
 use definitions::Stage;
@@ -13,14 +13,22 @@ use field_bytes::write_header;
 use field_bytes::write_u16;
 use field_bytes::write_u32;
 
+// A field's header and the first two numbers of its body.
+fn write_start(out: &mut [u8], at: usize, tag: u8, len: u16, a: u16, b: u16) -> usize
+    requires { ⌜ at + 7 ≤ length (now out) ⌝ }
+    ensures { λ r. ⌜ Appended (now (out .entry)) at (header tag len ++ le2 a ++ le2 b) (now (out .exit)) r ⌝ }
+{
+    let at = write_header(out, at, tag, len);
+    let at = write_u16(out, at, a);
+    write_u16(out, at, b)
+}
+
 // A field of three numbers in two bytes each.
 fn write_three(out: &mut [u8], at: usize, tag: u8, a: u16, b: u16, c: u16) -> usize
     requires { ⌜ at + 9 ≤ length (now out) ⌝ }
     ensures { λ r. ⌜ Appended (now (out .entry)) at (field tag (le2 a ++ le2 b ++ le2 c)) (now (out .exit)) r ⌝ }
 {
-    let at = write_header(out, at, tag, 6);
-    let at = write_u16(out, at, a);
-    let at = write_u16(out, at, b);
+    let at = write_start(out, at, tag, 6, a, b);
     write_u16(out, at, c)
 }
 
@@ -37,9 +45,7 @@ pub fn write_step(out: &mut [u8], at: usize, from: Stage, to: Stage, cost: u32) 
     requires { ⌜ at + 11 ≤ length (now out) ⌝ }
     ensures { λ r. ⌜ Appended (now (out .entry)) at (stepBytes (st (from .0) (to .0) cost)) (now (out .exit)) r ⌝ }
 {
-    let at = write_header(out, at, 2, 8);
-    let at = write_u16(out, at, from.0);
-    let at = write_u16(out, at, to.0);
+    let at = write_start(out, at, 2, 8, from.0, to.0);
     write_u32(out, at, cost)
 }
 
