@@ -5,11 +5,8 @@ use mathlib.Core.Path.{_≡_, refl}
 use mathlib.Core.List.{List, [], _∷_, _++_}
 use native.Mathlib.Omega.{arith}
 use lib.ListN.{take, replicate}
-use Rattle.definitions.specs.Answers.{refusal, accepted}
-use Rattle.definitions.specs.Basics.{pick}
 use Rattle.definitions.specs.Marked.{chart, rules}
 use Rattle.definitions.specs.Bytes.{le2, le4, field, chartBytes, diagramBytes}
-use Rattle.field_writer.specs.Files.{fileAnswer, fileBuffer}
 
 low-byte-first : le2 513 ++ le4 67305985 ≡ 1 ∷ 2 ∷ 1 ∷ 2 ∷ 3 ∷ 4 ∷ []
 low-byte-first = refl
@@ -43,19 +40,3 @@ diagram-file : diagramBytes rules
     ∷ 18 ∷ 6 ∷ 0 ∷ 2 ∷ 0 ∷ 0 ∷ 0 ∷ 1 ∷ 0
     ∷ 18 ∷ 6 ∷ 0 ∷ 0 ∷ 0 ∷ 1 ∷ 0 ∷ 2 ∷ 0 ∷ []
 diagram-file = refl
-
--- a file of three bytes in a buffer of four, of three and of two
-buffers : List (List ℕ)
-buffers =
-    fileBuffer (1 ∷ 2 ∷ 3 ∷ []) (9 ∷ 8 ∷ 7 ∷ 6 ∷ [])
-    ∷ fileBuffer (1 ∷ 2 ∷ 3 ∷ []) (9 ∷ 8 ∷ 7 ∷ [])
-    ∷ fileBuffer (1 ∷ 2 ∷ 3 ∷ []) (9 ∷ 8 ∷ [])
-    ∷ []
-
-buffers-hold : buffers ≡ (1 ∷ 2 ∷ 3 ∷ 6 ∷ []) ∷ (1 ∷ 2 ∷ 3 ∷ []) ∷ (9 ∷ 8 ∷ []) ∷ []
-unfolding buffers fileBuffer pick
-buffers-hold = refl
-
-answers-hold : fileAnswer 3 4 ∷ fileAnswer 3 3 ∷ fileAnswer 3 2 ∷ [] ≡ accepted 0 3 0 ∷ accepted 0 3 0 ∷ refusal 7 0 0 0 ∷ []
-unfolding fileAnswer pick
-answers-hold = refl

@@ -1,4 +1,3 @@
-pub mod Files
 pub mod Scanned
 pub mod RoundTrip
 pub mod Sizes

@@ -5,18 +5,11 @@ use Rattle.field_writer.proofs.write_step.Statement.{statement}
 use Rattle.field_writer.proofs.write_step.Tie as tie
 use Rattle.field_writer.proofs.write_step.Reads as reads
 use Rattle.field_writer.proofs.write_step.Lts as lts
-use Rattle.field_bytes.proofs.write_header.Reads as write-header-reads
-use Rattle.field_bytes.proofs.write_u16.Reads as write-u16-reads
+use Rattle.field_writer.proofs.write_start.Reads as write-start-reads
 use Rattle.field_bytes.proofs.write_u32.Reads as write-u32-reads
 
-write-header-requires : tie.Need-write-header-requires
-write-header-requires c κs = search needs
-
-write-u16-requires : tie.Need-write-u16-requires
-write-u16-requires c κs = search needs
-
-write-u16-requires-2 : tie.Need-write-u16-requires-2
-write-u16-requires-2 c κs = search needs
+write-start-requires : tie.Need-write-start-requires
+write-start-requires c κs = search needs
 
 write-u32-requires : tie.Need-write-u32-requires
 write-u32-requires c κs = search needs
@@ -26,19 +19,9 @@ same-length c = search needs
 
 returns : tie.Need-returns
 returns c =
-    let first : tie.After-write-header = search in
-    let second : tie.After-write-u16 = search in
-    let third : tie.After-write-u162 = search in
-    let fourth : tie.After-write-u32 = search in
-    append-both (search needs) (append-both (search needs) (append-both (search needs) (first .write-header .ensures) (second .write-u16 .ensures)) (third .write-u162 .ensures)) (fourth .write-u32 .ensures)
+    let first : tie.After-write-start = search in
+    let second : tie.After-write-u32 = search in
+    append-both (search needs) (first .write-start .ensures) (second .write-u32 .ensures)
 
 pub write-step-spec : {M : Type 1} → statement M
-write-step-spec =
-    tie.close
-    (tie.spec
-    write-header-requires
-    write-u16-requires
-    write-u16-requires-2
-    write-u32-requires
-    same-length
-    returns)
+write-step-spec = tie.close (tie.spec write-start-requires write-u32-requires same-length returns)
