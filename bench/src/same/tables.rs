@@ -25,13 +25,13 @@ pub const BY_STAGE: usize = STAGES;
 /// One entry for each node reference.
 pub const BY_NODE: usize = NODES;
 
-/// An inner node in one number: nine bits for each child, the step above them.
+/// An inner node in one number: nine bits for each child, lo lowest, the step above them.
 #[derive(Clone, Copy, Default)]
 pub struct Inner(u32);
 
 impl Inner {
     fn new(step: u16, lo: u16, hi: u16) -> Inner {
-        Inner((u32::from(step) << NODE_BITS | u32::from(lo)) << NODE_BITS | u32::from(hi))
+        Inner((u32::from(step) << NODE_BITS | u32::from(hi)) << NODE_BITS | u32::from(lo))
     }
 
     pub fn step(self) -> usize {
@@ -39,11 +39,11 @@ impl Inner {
     }
 
     pub fn lo(self) -> usize {
-        via_node(self.0 >> NODE_BITS)
+        via_node(self.0)
     }
 
     pub fn hi(self) -> usize {
-        via_node(self.0)
+        via_node(self.0 >> NODE_BITS)
     }
 }
 

@@ -8,12 +8,12 @@ ghost use Rattle.diagram.specs.Files.{nodesIn};
 // In place of a step at nodes 0 and 1: no step has it.
 pub const MARK: u16 = 16383;
 
-// An inner node in one number. (A step that does not fit is cut; no chart has one.)
+// An inner node in one number, its lo lowest, since walks go along lo. (A step that does not fit is cut; no chart has one.)
 pub fn word(step: u16, lo: u16, hi: u16) -> u32
     requires { ⌜ (lo < 512) × (hi < 512) ⌝ }
     ensures { λ r. ⌜ r ≡ wordOf (record { step = step; lo = lo; hi = hi }) ⌝ }
 {
-    (step as u32 % 16384 * 512 + lo as u32) * 512 + hi as u32
+    (step as u32 % 16384 * 512 + hi as u32) * 512 + lo as u32
 }
 
 // The step in such a number.
@@ -27,14 +27,14 @@ fn step_of(w: u32) -> u16
 fn lo_of(w: u32) -> u16
     ensures { λ r. ⌜ r ≡ loOf w ⌝ }
 {
-    (w / 512 % 512) as u16
+    (w % 512) as u16
 }
 
 // The hi in such a number.
 fn hi_of(w: u32) -> u16
     ensures { λ r. ⌜ r ≡ hiOf w ⌝ }
 {
-    (w % 512) as u16
+    (w / 512 % 512) as u16
 }
 
 // A node's step, by the table.
