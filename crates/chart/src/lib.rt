@@ -1,4 +1,4 @@
-// The chart file read into tables.
+// The chart file read into a table.
 mod ends;
 mod reader;
 

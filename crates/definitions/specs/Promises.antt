@@ -44,7 +44,7 @@ Scratch (ready c d) work work′ = (length work′ ≡ length work) × (drop (wo
 
 -- ---- the sweep (dynamic programming in topological order)
 
--- what the cost slice holds at a pair: the least cost if it is reached, else NONE
+-- what the cost slice holds at a pair: the least cost if it is reached, else NONE (4,294,967,295)
 abbrev pub shown : Option ℕ → ℕ
 shown none = NONE
 shown (some m) = m

@@ -21,7 +21,8 @@ pub struct Shape {
     pub nodes: usize,
 }
 
-// The cost of a pair that is not reached, and the estimate where there is none: above every cost.
+// The cost of a pair that is not reached, the key of one that was never opened, and the estimate where there is none: above
+// every cost.
 pub const NONE: u32 = 4294967295;
 
 // What stands at a place of a file where a field of some tag and length is due.

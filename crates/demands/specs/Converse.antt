@@ -1,4 +1,4 @@
--- The promises of both calls follow from the demands, so with `Demanded` the two say the same, and a clause of the demands that is lost or weakened is found here.
+-- The promises of both calls follow from the demands, so with `Demanded` the two say the same, and a clause of the demands that is lost or weakened is found here, or in `Concluded` where it follows from the others.
 -- Assumes nothing.
 use Prim.Native.Nat.{ℕ}
 use mathlib.Core.Path.{_≡_, refl, subst}

@@ -1,6 +1,6 @@
 -- The three demands on both searches, for every pair of files, sound or broken, and for lent slices of every length. Read it from top to bottom.
 -- Of the definitions it uses what the readers give (`readChart`, `readDiagram`), legal plans and their cost (`Legal`, `wayCost`), the node at which a way
--- stands (`stands`), `advance`, `finish` and `estimate`. `Demanded` proves it from what the calls promise (`SweepCall`, `GuidedCall`),
+-- stands (`stands`), `advance`, `finish` and `estimate`, and the number NONE. `Demanded` proves it from what the calls promise (`SweepCall`, `GuidedCall`),
 -- and `Converse` these from it.
 -- Assumes nothing.
 use Prim.Native.Nat.{ℕ, suc, _+_, _-_, _*_, _/_, _%_, _≤_, _<_}
@@ -178,7 +178,7 @@ module _ (c : Chart) (d : Diagram) where
     pub reached : Reached p cost
     pub least : Reached q (cost + graph c .cost step)
 
-  -- the sweep: its cost slice has at each pair the least cost if it is reached, else NONE; its count is the number of reached pairs
+  -- the sweep: its cost slice has at each pair the least cost if it is reached, else NONE (4,294,967,295); its count is the number of reached pairs
   pub record Sweeps (cost′ : List ℕ) (r : Answer) : Type 0 where
     pub least : (p m : ℕ) → Reached p m → getD cost′ p 0 ≡ m
     pub unreached : (p : ℕ) → p < need c d → ((m : ℕ) → Reached p m → ⊥) → getD cost′ p 0 ≡ NONE

@@ -28,7 +28,7 @@ pub record Marked (step : List ℕ) : Type 0 where
   pub at-no : getD step 0 0 ≡ MARK
   pub at-yes : getD step 1 0 ≡ MARK
 
--- an ordered diagram stands in the tables
+-- an ordered diagram stands in the lists
 pub record Held (d : Diagram) (step lo hi : List ℕ) : Type 0 where
   pub ordered : Ordered d
   pub few : length (d .nodes) ≤ 510

@@ -21,8 +21,6 @@ use Rattle.theory.specs.Pairs.{Lawful}
 use Rattle.theory.specs.Product.{Edge, startPair, estimateAt}
 use Rattle.trace.specs.Trails.{packed}
 
--- the key of a pair that was never opened
-
 -- what a search rests on: the graph and the automaton are within their limits; the estimate is consistent (`base` where a way may end), none at node 0, and small
 pub record Guide (g : Graph) (a : Automaton) (h : Estimate) : Type 0 where
   pub valid : Valid g

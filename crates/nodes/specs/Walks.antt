@@ -1,4 +1,4 @@
--- What the walks over the tables give, for each diagram that stands in them.
+-- What the walks over the table give, for each diagram that stands in it.
 -- Assumes nothing.
 use Prim.Native.Nat.{ℕ, _≤_, _<_}
 use mathlib.Core.Path.{_≡_}

@@ -1,4 +1,4 @@
-// The nodes of a rule diagram that stands in tables: how they are advanced and finished, and their estimates.
+// The nodes of a rule diagram that stands in a table: how they are advanced and finished, and their estimates.
 mod estimates;
 mod walks;
 

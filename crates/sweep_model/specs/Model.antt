@@ -10,9 +10,7 @@ use Rattle.definitions.specs.Ways.{Graph}
 use Rattle.definitions.specs.Pairs.{Automaton, pair}
 use Rattle.trace.specs.Trails.{packed}
 
--- the mark of a pair that is not reached
-
--- by pair: its cost, and the step and node by which it got it; by row: the reached nodes, in the order in which they were; by stage: how many they are
+-- by pair: its cost, and the step and node by which it got it; by row: the reached nodes, in the order in which they were; by stage: how many they are. A pair that is not reached has the cost NONE
 pub record Rows : Type 0 where
   pub cost : List ℕ
   pub via : List ℕ
@@ -81,6 +79,6 @@ module _ (g : Graph) (a : Automaton) where
       pick (eqb (a .root) 0) r
       (rows (set (r .cost) (pair a (g .start) (a .root)) 0) (r .via) (set (r .nodes) (pair a (g .start) 0) (a .root)) (set (r .counts) (g .start) 1))
 
-  -- the whole sweep, from tables whose costs are unreached and whose counts are 0
+  -- the whole sweep, from tables whose costs are NONE and whose counts are 0
   unfoldable pub swept : (ℕ → ℕ) → Rows → Rows
   swept first r = relaxRows first (g .start) (g .stages - g .start) (begun r)
