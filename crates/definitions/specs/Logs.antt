@@ -9,7 +9,7 @@ use mathlib.Core.Option.{Option, none, some}
 use native.Mathlib.Omega.{arith}
 use lib.Dec.{eqb}
 use lib.ListN.{getD}
-use Rattle.definitions.specs.Basics.{pick, smaller, larger, sumOf, upto}
+use Rattle.definitions.specs.Basics.{NONE, pick, smaller, larger, sumOf, upto}
 use Rattle.definitions.specs.Diagrams.{descend, descendIn, advance, finish}
 use Rattle.definitions.specs.Ways.{Graph, waysIn, ways, leastWay}
 use Rattle.definitions.specs.Pairs.{Automaton, Estimate, stands, leastCost, reached, goal, reachedPairs, toEnd, sum}
@@ -53,9 +53,6 @@ unfolding costs pick smaller descend descendIn advance waysIn ways leastWay stan
 costs-hold = refl
 
 -- the sweep's cost slice at each pair, and in the cases (g) and (h)
-abbrev NONE : ℕ
-NONE = 4294967295
-
 pub cost-slices : List (List ℕ)
 cost-slices = leastCosts g a ∷ leastCosts (graph single) (automaton single (leaf 1)) ∷ leastCosts (graph single) (automaton single (leaf 0)) ∷ []
 

@@ -16,7 +16,7 @@ use Rattle.theory.specs.Basics.{either, lt-or-le, rest-kept}
 use Rattle.fields.specs.Positions.{only-gives, body-less}
 use Rattle.fields.specs.Scans.{leftOf, left-less, reading-start, reading-done, reading-faulty, reading-bad, reading-step}
 use Rattle.diagram.specs.Tables.{heldNodes}
-use Rattle.diagram.specs.Words.{wordOf, stepOf, nodeOf, node-word}
+use Rattle.diagram.specs.Words.{wordOf, stepOf, unpacked, node-word}
 use Rattle.diagram.specs.Held.{step-at, held-grown}
 use Rattle.diagram.specs.Files.{nodesIn, nodesHeld, Filled}
 use Rattle.diagram.specs.Turns.{Halfway, SoFar, Stands, Takes}
@@ -41,7 +41,7 @@ step-kept : (words : List ℕ) (n w i : ℕ) → (i ≡ n → ⊥) → getD (nod
 step-kept words n w i other = step-at (set words n w) i ∙ ap stepOf (getD-set-other words n i w 0 other) ∙ sym (step-at words i)
 
 -- the table of nodes holds it
-filled-grown : (before : List InnerNode) (x : InnerNode) (w count : ℕ) (words₀ words : List ℕ) → nodeOf w ≡ x → length before ≡ count → count < 510
+filled-grown : (before : List InnerNode) (x : InnerNode) (w count : ℕ) (words₀ words : List ℕ) → unpacked w ≡ x → length before ≡ count → count < 510
     → Filled before words₀ words → Filled (before ++ x ∷ []) words₀ (set words (count + 2) w)
 filled-grown before x w count words₀ words is counted below sofar =
     let long : length (before ++ x ∷ []) ≡ count + 1 = omega (arith, length-append before (x ∷ [])) in
@@ -93,7 +93,7 @@ module _ (v steps count : ℕ) (stepAt : ℕ → ℕ) (b : List ℕ) (judged : v
   pub node-hi-below : two b 4 < 512
   node-hi-below = omega (arith, node-room .few, node-room .hi .below)
 
-  node-is : steps ≤ 1024 → nodeOf (wordOf (innerNodeOf b)) ≡ innerNodeOf b
+  node-is : steps ≤ 1024 → unpacked (wordOf (innerNodeOf b)) ≡ innerNodeOf b
   node-is few = node-word (innerNodeOf b) (omega (arith, node-room .exists)) node-lo-below node-hi-below
 
 -- the ways out of a turn from t

@@ -10,7 +10,7 @@ use Rattle.definitions.specs.Diagrams.{Diagram, InnerNode, noNode, size, inner}
 use Rattle.theory.specs.Limits.{Ordered}
 use Rattle.theory.specs.Basics.{length-map-run, getD-map-upto, upto-grown}
 use Rattle.diagram.specs.Tables.{heldNode, heldNodes, heldDiagram, Marked, Held}
-use Rattle.diagram.specs.Words.{stepOf, loOf, hiOf, nodeOf}
+use Rattle.diagram.specs.Words.{stepOf, loOf, hiOf, unpacked}
 use Rattle.diagram.specs.Files.{nodesIn, nodesHeld}
 
 module _ (count : ℕ) (step lo hi : List ℕ) where
@@ -43,11 +43,11 @@ module _ (words : List ℕ) (n : ℕ) where
   pub hi-at : getD (nodesIn words .hi) n 0 ≡ hiOf (getD words n 0)
   hi-at = List·getD-map hiOf words n 0
 
-  node-at : heldNode (nodesIn words .step) (nodesIn words .lo) (nodesIn words .hi) n ≡ nodeOf (getD words n 0)
+  node-at : heldNode (nodesIn words .step) (nodesIn words .lo) (nodesIn words .hi) n ≡ unpacked (getD words n 0)
   node-at = rw (step-at, lo-at, hi-at)
 
 -- one more node stored
-module _ (count : ℕ) (words : List ℕ) (x : InnerNode) (w : ℕ) (is : nodeOf w ≡ x) (long : length words ≡ 512) (below : count < 510) where
+module _ (count : ℕ) (words : List ℕ) (x : InnerNode) (w : ℕ) (is : unpacked w ≡ x) (long : length words ≡ 512) (below : count < 510) where
   abbrev nodeIn : List ℕ → ℕ → InnerNode
   nodeIn l n = heldNode (nodesIn l .step) (nodesIn l .lo) (nodesIn l .hi) n
 
@@ -56,10 +56,10 @@ module _ (count : ℕ) (words : List ℕ) (x : InnerNode) (w : ℕ) (is : nodeOf
 
   stored-before : (i : ℕ) → i < count → nodeIn stored (i + 2) ≡ nodeIn words (i + 2)
   stored-before i l =
-      node-at stored (i + 2) ∙ ap nodeOf (getD-set-other words (count + 2) (i + 2) w 0 (λ q. omega arith)) ∙ sym (node-at words (i + 2))
+      node-at stored (i + 2) ∙ ap unpacked (getD-set-other words (count + 2) (i + 2) w 0 (λ q. omega arith)) ∙ sym (node-at words (i + 2))
 
   stored-here : nodeIn stored (count + 2) ≡ x
-  stored-here = node-at stored (count + 2) ∙ ap nodeOf (getD-set-same words (count + 2) w 0 (omega arith)) ∙ is
+  stored-here = node-at stored (count + 2) ∙ ap unpacked (getD-set-same words (count + 2) w 0 (omega arith)) ∙ is
 
   pub held-grown : nodesHeld (count + 1) stored ≡ nodesHeld count words ++ x ∷ []
   unfolding heldNodes

@@ -20,11 +20,11 @@ loOf w = w % 512
 abbrev pub hiOf : ℕ → ℕ
 hiOf w = w / 512 % 512
 
-abbrev pub nodeOf : ℕ → InnerNode
-nodeOf w = record { step = stepOf w; lo = loOf w; hi = hiOf w }
+abbrev pub unpacked : ℕ → InnerNode
+unpacked w = record { step = stepOf w; lo = loOf w; hi = hiOf w }
 
 -- a node that fits is what is taken out
-pub node-word : (x : InnerNode) → x .step < 16384 → x .lo < 512 → x .hi < 512 → nodeOf (wordOf x) ≡ x
+pub node-word : (x : InnerNode) → x .step < 16384 → x .lo < 512 → x .hi < 512 → unpacked (wordOf x) ≡ x
 node-word x s l h =
     let upper = pack 512 (x .step % 16384) (x .hi) in
     let first = first-packed 512 upper (x .lo) (wordOf x) refl l in
