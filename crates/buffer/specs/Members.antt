@@ -1,13 +1,12 @@
 -- The members of a list, written one behind the other: what a loop keeps that writes one in each turn.
 -- Assumes nothing.
 use Prim.Native.Nat.{ℕ, _+_, _≤_, _<_}
-use mathlib.Core.Path.{_≡_, refl, sym, _∙_, ap, subst}
-use mathlib.Core.List.{List, [], _∷_, _++_, map, append-assoc, append-nil}
+use mathlib.Core.Path.{_≡_, sym, _∙_, ap, subst}
+use mathlib.Core.List.{List, [], _∷_, _++_, append-assoc, append-nil}
 use native.Mathlib.Numerals.{add-one}
 use lib.ListN.{length, getD, take}
 use lib.Seq.{take-suc, take-all}
-use Rattle.definitions.specs.Basics.{each, upto}
-use Rattle.theory.specs.Basics.{upto-grown}
+use Rattle.definitions.specs.Basics.{each}
 use Rattle.buffer.specs.Appending.{Appended}
 use Rattle.buffer.specs.Appends.{append-both}
 
@@ -21,11 +20,6 @@ module _ {A : Type 0} (f : A → List ℕ) where
       → Appended out at (each f xs) o r → Appended o r (f y) o′ r′ → Appended out at (each f ys) o′ r′
   append-more xs ys y {out} {at} {o} {r} {o′} {r′} h e p q =
       subst (λ (l : List ℕ). Appended out at l o′ r′) (sym (ap (each f) e ∙ each-snoc xs y)) (append-both h p q)
-
-  -- of a list that is given by its entries
-  pub append-entry : (g : ℕ → A) (k : ℕ) {out : List ℕ} {at : ℕ} {o : List ℕ} {r : ℕ} {o′ : List ℕ} {r′ : ℕ} → at ≤ length out
-      → Appended out at (each f (map g (upto k))) o r → Appended o r (f (g k)) o′ r′ → Appended out at (each f (map g (upto (k + 1)))) o′ r′
-  append-entry g k h p q = append-more (map g (upto k)) (map g (upto (k + 1))) (g k) h (upto-grown g g k (g k) (λ j h. refl) refl) p q
 
   -- of a list that stands in a slice, and all of it
   pub append-next : (xs : List A) (k : ℕ) (d : A) {out : List ℕ} {at : ℕ} {o : List ℕ} {r : ℕ} {o′ : List ℕ} {r′ : ℕ} → at ≤ length out → k < length xs

@@ -1,6 +1,6 @@
 -- A chart and a diagram that stand in tables, and what the checks say of them.
 -- Assumes nothing.
-use Prim.Native.Nat.{ℕ}
+use Prim.Native.Nat.{ℕ, _+_, _*_}
 use mathlib.Core.Path.{_≡_}
 use mathlib.Core.List.{List}
 use Rattle.definitions.specs.Charts.{Chart}
@@ -28,6 +28,10 @@ chartIn z t = chart.chartIn z (t .steps)
 
 abbrev pub diagramIn : Shape → Read → Diagram
 diagramIn z t = diagram.heldDiagram (z .root .0) (z .nodes) (t .inner .step) (t .inner .lo) (t .inner .hi)
+
+-- how many pairs there are, by the sizes
+abbrev pub pairsIn : Shape → ℕ
+pairsIn z = z .stages * (z .nodes + 2)
 
 -- each table has as many entries as its type says. (Behind a reference to an array a proof does not know the length.)
 pub record Room (steps : List (List ℕ)) (inner : List ℕ) : Type 0 where

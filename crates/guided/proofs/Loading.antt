@@ -12,10 +12,9 @@ use Rattle.definitions.specs.Promises.{Guided, Scratch, GuidedSlices, guidedLoa
 use Rattle.definitions.specs.declared.Answer.{Answer}
 use Rattle.definitions.specs.declared.Shape.{Shape}
 use Rattle.checks.specs.declared.Loaded.{Loaded}
-use Rattle.checks.specs.Tables.{Read, chartIn, diagramIn, Tables, LoadsAs}
+use Rattle.checks.specs.Tables.{Read, chartIn, diagramIn, Tables, LoadsAs, pairsIn}
 use Rattle.checks.specs.Ready.{width-is}
 use Rattle.checks.specs.Outcome.{shortest, load-shortest, ready-space}
-use Rattle.guided_expand.specs.Guides.{pairsIn}
 use Rattle.guided.specs.Runs.{Room, Runs}
 
 -- the shortest of six work slices, found by five comparisons

@@ -19,7 +19,7 @@ use Rattle.definitions.specs.declared.Shape.{Shape}
 use Rattle.theory.specs.Ways.{step-cheap}
 use Rattle.trace.specs.Trails.{packed}
 use Rattle.chart.specs.Tables.{Steps}
-use Rattle.checks.specs.Tables.{Tables}
+use Rattle.checks.specs.Tables.{Tables, pairsIn}
 use Rattle.checks.specs.Ready.{Walk, walk, graphIn, automatonIn, count-is, width-is, few-stages, few-nodes, few-steps, to-at, cost-at}
 use Rattle.guided_model.specs.Bounds.{stage-is, estimate-none, estimate-some}
 use Rattle.guided_model.specs.Moves.{Offerable, offerable, step-none, step-relaxed}
@@ -28,7 +28,7 @@ use Rattle.guided_expand.specs.Estimates.{Estimates, paired}
 use Rattle.guided_rows.specs.Fills.{RowOpened, opened-past}
 use Rattle.guided_rows.specs.Seen.{seen-row, offerable-seen, relaxed-seen, filled-keys, opened-seen}
 use Rattle.guided_expand.specs.Work.{Work, work, Progress, progress, queueOf, marksIn, seenIn, kept-same, Offering, Relaxes}
-use Rattle.guided_expand.specs.Guides.{pairsIn, row-begins, row-ends}
+use Rattle.guided_expand.specs.Guides.{row-begins, row-ends}
 use Rattle.guided_expand.specs.Opening.{sourceStage, sourceNode, Opened, opens-on, tablesOf, Leading}
 use Rattle.guided_expand.specs.declared.steps.Source.{Source}
 

@@ -5,15 +5,12 @@ use mathlib.Core.Path.{_≡_, sym, _∙_, ap}
 use native.Mathlib.Omega.{arith}
 use native.Mathlib.Nat.{mul-le-mul-right}
 use lib.ListN.{getD}
+use Rattle.checks.specs.Tables.{pairsIn}
 use Rattle.definitions.specs.Pairs.{Estimate}
 use Rattle.definitions.specs.declared.Shape.{Shape}
 use Rattle.checks.specs.Ready.{Walk, Ready, graphIn, automatonIn, width-is, row-start}
 use Rattle.guided_model.specs.State.{Guide}
 use Rattle.guided_expand.specs.Estimates.{Estimates, Holds}
-
--- how many pairs there are
-abbrev pub pairsIn : Shape → ℕ
-pairsIn z = z .stages * (z .nodes + 2)
 
 pub record Guides (z : Shape) (on : Walk) (t : Estimates) : Type 0 where
   pub ready : Ready z on

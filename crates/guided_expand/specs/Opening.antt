@@ -11,13 +11,13 @@ use Rattle.definitions.specs.Pairs.{Automaton}
 use Rattle.definitions.specs.declared.Shape.{Shape}
 use Rattle.chart.specs.Tables.{Steps}
 use Rattle.diagram.specs.Files.{Nodes}
-use Rattle.checks.specs.Tables.{Read}
+use Rattle.checks.specs.Tables.{Read, pairsIn}
 use Rattle.checks.specs.Ready.{Walk, walk, graphIn, automatonIn}
 use Rattle.guided_model.specs.Moves.{Frontier, frontier-moved, Expanded, expanded-more}
 use Rattle.guided_model.specs.Settling.{Settling}
 use Rattle.guided_expand.specs.Estimates.{Estimates}
 use Rattle.guided_expand.specs.Work.{Progress, queueOf, seenIn, Kept, kept-more}
-use Rattle.guided_expand.specs.Guides.{pairsIn, Guides}
+use Rattle.guided_expand.specs.Guides.{Guides}
 use Rattle.guided_expand.specs.declared.steps.Source.{Source}
 
 -- the stage and the node of the settled pair

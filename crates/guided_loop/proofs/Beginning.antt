@@ -19,7 +19,7 @@ use Rattle.theory.specs.Product.{startPair}
 use Rattle.queue.specs.declared.Counts.{Counts}
 use Rattle.queue.specs.Queue.{state, Contains, Queue, Empty, Inserting, Inserted}
 use Rattle.queue.proofs.Facts.{queue-empty, contains-none}
-use Rattle.checks.specs.Tables.{chartIn, diagramIn, Tables}
+use Rattle.checks.specs.Tables.{chartIn, diagramIn, Tables, pairsIn}
 use Rattle.checks.specs.Ready.{Walk, graphIn, automatonIn, width-is, sound-in, few-stages, few-nodes, row-start}
 use Rattle.guided_model.specs.State.{Openable}
 use Rattle.guided_model.specs.Bounds.{stage-is}
@@ -28,7 +28,7 @@ use Rattle.guided_expand.specs.Estimates.{Estimates}
 use Rattle.guided_rows.specs.Fills.{RowOpened, opened-past}
 use Rattle.guided_rows.specs.Seen.{seen, seen-long, seen-fresh, seen-set, opened-seen}
 use Rattle.guided_expand.specs.Work.{Work, work, Progress, progress, queueIn, queueOf, seenIn, Past, past-same, past-more}
-use Rattle.guided_expand.specs.Guides.{Guides, pairsIn, row-begins, row-ends}
+use Rattle.guided_expand.specs.Guides.{Guides, row-begins, row-ends}
 use Rattle.guided_loop.specs.Search.{Start, Begun, Searched}
 use Rattle.guided_loop.specs.declared.turns.Ended.{Ended}
 

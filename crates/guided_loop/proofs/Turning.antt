@@ -20,7 +20,7 @@ use Rattle.trace.specs.Trails.{stepIn}
 use Rattle.queue.specs.declared.Counts.{Counts}
 use Rattle.queue.specs.Queue.{state, Contains, Queue, Taken}
 use Rattle.queue.proofs.Facts.{contains-none, contains-pair, keys-fit}
-use Rattle.checks.specs.Tables.{chartIn, diagramIn}
+use Rattle.checks.specs.Tables.{chartIn, diagramIn, pairsIn}
 use Rattle.checks.specs.Ready.{Walk, count-is, few-stages, from-at, to-at, first-all, row-start}
 use Rattle.guided_model.specs.State.{Smallest, Without, costSoFar}
 use Rattle.guided_model.specs.Moves.{Frontier}
@@ -30,7 +30,7 @@ use Rattle.guided_model.specs.Charts.{Running, running-room, running-turn, runn
 use Rattle.guided_expand.specs.Estimates.{Estimates, paired}
 use Rattle.guided_rows.specs.Seen.{seen, seen-filled, seen-row}
 use Rattle.guided_expand.specs.Work.{Work, work, Progress, progress, queueOf, seenIn, Past, past-more}
-use Rattle.guided_expand.specs.Guides.{Guides, pairsIn}
+use Rattle.guided_expand.specs.Guides.{Guides}
 use Rattle.guided_expand.specs.declared.steps.Pair.{Pair}
 use Rattle.guided_expand.specs.declared.steps.Source.{Source}
 use Rattle.guided_expand.specs.Opening.{Opens, Opened, Opening}

@@ -10,12 +10,12 @@ use Rattle.definitions.specs.Diagrams.{size}
 use Rattle.definitions.specs.declared.Shape.{Shape}
 use Rattle.theory.specs.Product.{startPair}
 use Rattle.queue.specs.Queue.{Queue}
-use Rattle.checks.specs.Tables.{chartIn, diagramIn}
+use Rattle.checks.specs.Tables.{chartIn, diagramIn, pairsIn}
 use Rattle.checks.specs.Ready.{Walk, graphIn, automatonIn}
 use Rattle.guided_model.specs.Charts.{Running, GoalSettled, NoneSettled}
 use Rattle.guided_expand.specs.Estimates.{Estimates}
 use Rattle.guided_expand.specs.Work.{Work, Progress, queueOf, seenIn, Past}
-use Rattle.guided_expand.specs.Guides.{Guides, pairsIn}
+use Rattle.guided_expand.specs.Guides.{Guides}
 use Rattle.guided_loop.specs.declared.turns.Ended.{Ended}
 
 -- all tables of the search

@@ -19,7 +19,7 @@ use Rattle.definitions.specs.declared.Answer.{Answer}
 use Rattle.theory.specs.Basics.{pick-true, pick-false}
 use Rattle.checks.specs.Outcome.{load-numbered}
 use Rattle.report.specs.Text.{report, planText, refusedText}
-use Rattle.report.specs.Appending.{Appended}
+use Rattle.buffer.specs.Appending.{Appended}
 use Rattle.program.specs.Written.{programLoad, Written}
 
 -- ---- the text of an answer

@@ -9,7 +9,7 @@ use Rattle.definitions.specs.Promises.{SweepSlices, sweepLoad, GuidedSlices, gu
 use Rattle.planner.specs.Both.{BothCall}
 use Rattle.planner.specs.declared.Answers.{Answers}
 use Rattle.report.specs.Text.{report}
-use Rattle.report.specs.Appending.{Appended}
+use Rattle.buffer.specs.Appending.{Appended}
 
 -- the checks of both files, with 4,096 work entries and 255 plan entries
 abbrev pub programLoad : List ℕ → List ℕ → Load

@@ -2,7 +2,7 @@
 ghost use Prim.Native.Nat.{_+_, _*_, _≤_};
 ghost use lib.ListN.{length};
 ghost use Rattle.report.specs.Text.{report as textOf};
-ghost use Rattle.report.specs.Appending.{Appended};
+ghost use Rattle.buffer.specs.Appending.{Appended};
 ghost use Rattle.program.specs.Written.{Written};
 use planner::Answers;
 

@@ -6,6 +6,7 @@ use mathlib.Core.List.{List}
 use native.Mathlib.Omega.{arith}
 use lib.Dec.{eqb}
 use lib.ListN.{length, getD, set, drop, replicate, length-append, length-replicate, length-drop, getD-replicate, List·getD-append}
+use Rattle.checks.specs.Tables.{pairsIn}
 use Rattle.definitions.specs.Basics.{NONE, pick}
 use Rattle.definitions.specs.Ways.{Graph}
 use Rattle.definitions.specs.Pairs.{Automaton, pair, pairs}
@@ -18,7 +19,7 @@ use Rattle.checks.specs.Ready.{Walk, Ready, graphIn, automatonIn, width-is, law
 use Rattle.sweep_rows.specs.Standing.{Row, at}
 use Rattle.sweep_rows.specs.Leaving.{first-steps}
 use Rattle.sweep_ends.specs.Begin.{begunAt}
-use Rattle.sweep.specs.Runs.{pairsIn, Blank, clearedCosts, cleared}
+use Rattle.sweep.specs.Runs.{Blank, clearedCosts, cleared}
 
 module _ {z : Shape} {on : Walk} (y : Ready z on) where
   abbrev g : Graph

@@ -24,12 +24,12 @@ use Rattle.sweep_model.specs.Rows.{Past}
 use Rattle.sweep_model.specs.Result.{Fresh, Finished, finished, final-past, final-costs}
 use Rattle.sweep_model.specs.Sweeps.{FirstSteps}
 use Rattle.checks.specs.Outcome.{load-shortest, ready-space}
-use Rattle.checks.specs.Tables.{Read, Tables, LoadsAs, chartIn, diagramIn}
+use Rattle.checks.specs.Tables.{Read, Tables, LoadsAs, chartIn, diagramIn, pairsIn}
 use Rattle.checks.specs.Ready.{walk, Ready, graphIn, automatonIn, lawful-in, few-stages, few-nodes}
 use Rattle.checks.specs.declared.Loaded.{Loaded}
 use Rattle.sweep_rows.specs.Standing.{at}
 use Rattle.sweep_rows.specs.Leaving.{first-steps}
-use Rattle.sweep.specs.Runs.{pairsIn, Space, Blank, clearedCosts, cleared, Final, Concludes, Promised}
+use Rattle.sweep.specs.Runs.{Space, Blank, clearedCosts, cleared, Final, Concludes, Promised}
 use Rattle.sweep.proofs.Beginning.{pairs-is, cleared-fresh}
 
 -- the space that the pairs need

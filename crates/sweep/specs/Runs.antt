@@ -14,12 +14,8 @@ use Rattle.definitions.specs.declared.Shape.{Shape}
 use Rattle.rows.specs.Rows.{rowStarts}
 use Rattle.sweep_model.specs.Model.{Rows, rows}
 use Rattle.sweep_model.specs.Result.{Finished}
-use Rattle.checks.specs.Tables.{Read, Tables, chartIn, diagramIn}
+use Rattle.checks.specs.Tables.{Read, Tables, chartIn, diagramIn, pairsIn}
 use Rattle.checks.specs.Ready.{graphIn, automatonIn}
-
--- how many pairs there are
-abbrev pub pairsIn : Shape → ℕ
-pairsIn z = z .stages * (z .nodes + 2)
 
 -- each work slice has an entry for each pair, the plan slice one for each step of a plan
 pub record Space (z : Shape) (x : SweepSlices) : Type 0 where

@@ -5,11 +5,10 @@ use Prim.Native.Nat.{_-_, _≤_}
 use native.Mathlib.Omega.{arith}
 use borrow.Author.Needs.{needs}
 use lib.ListN.{length, length-set}
-use Rattle.checks.specs.Tables.{read}
+use Rattle.checks.specs.Tables.{read, pairsIn}
 use Rattle.checks.specs.Ready.{walk}
 use Rattle.guided_expand.specs.Estimates.{estimates}
 use Rattle.guided_expand.specs.Work.{work, progress}
-use Rattle.guided_expand.specs.Guides.{pairsIn}
 use Rattle.guided_loop.specs.Search.{Turning, Begun}
 use Rattle.guided_loop.proofs.Beginning.{narrow, start-small, begin-row, begin-asks, begin-begun, begin-searched}
 use Rattle.guided_loop.proofs.Turning.{turn-takes, turn-none, turn-room, turn-fits, turn-small, turn-placed, turn-inside, turn-estimate, turn-asks, turn-goal, turn-more}
