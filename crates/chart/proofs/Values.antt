@@ -7,7 +7,7 @@ use Rattle.definitions.specs.Basics.{pick}
 use Rattle.definitions.specs.Fields.{two, four}
 use Rattle.definitions.specs.Charts.{headFault, stepFault}
 use Rattle.chart.specs.Tables.{headBody, stepBody}
-use Rattle.fields.specs.Choices.{tests}
+use Rattle.theory.specs.Choices.{tests}
 
 module _ (b : List ℕ) (n : ℕ) (en : n ≡ two b 0) where
   pub head-none : n ≡ 0 → 4 ≡ headFault b

@@ -8,7 +8,7 @@ use lib.ListN.{getD, set}
 use Rattle.definitions.specs.Basics.{pick}
 use Rattle.definitions.specs.Fields.{two}
 use Rattle.definitions.specs.Diagrams.{childFits, nodeFault, innerNodeOf}
-use Rattle.fields.specs.Choices.{tests}
+use Rattle.theory.specs.Choices.{tests}
 use Rattle.diagram.specs.Words.{wordOf}
 
 module _ (stepAt : ℕ → ℕ) (own key child : ℕ) where

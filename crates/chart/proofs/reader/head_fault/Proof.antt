@@ -4,7 +4,7 @@ use Rattle.chart.proofs.reader.head_fault.Statement.{statement}
 use Rattle.chart.proofs.reader.head_fault.Tie as tie
 use Rattle.chart.proofs.reader.head_fault.Reads as reads
 use Rattle.chart.proofs.reader.head_fault.Lts as lts
-use Rattle.fields.proofs.read_u16.Reads as read-u16-reads
+use Rattle.field_numbers.proofs.read_u16.Reads as read-u16-reads
 
 read-u16-requires : tie.Need-read-u16-requires
 read-u16-requires c κs = search needs

@@ -4,8 +4,8 @@ use Rattle.chart.proofs.reader.step_fault.Statement.{statement}
 use Rattle.chart.proofs.reader.step_fault.Tie as tie
 use Rattle.chart.proofs.reader.step_fault.Reads as reads
 use Rattle.chart.proofs.reader.step_fault.Lts as lts
-use Rattle.fields.proofs.read_u16.Reads as read-u16-reads
-use Rattle.fields.proofs.read_u32.Reads as read-u32-reads
+use Rattle.field_numbers.proofs.read_u16.Reads as read-u16-reads
+use Rattle.field_numbers.proofs.read_u32.Reads as read-u32-reads
 
 returns : tie.Need-returns
 returns c = search step-laws

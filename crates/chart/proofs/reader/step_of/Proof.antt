@@ -4,8 +4,8 @@ use Rattle.chart.proofs.reader.step_of.Statement.{statement}
 use Rattle.chart.proofs.reader.step_of.Tie as tie
 use Rattle.chart.proofs.reader.step_of.Reads as reads
 use Rattle.chart.proofs.reader.step_of.Lts as lts
-use Rattle.fields.proofs.read_u16.Reads as read-u16-reads
-use Rattle.fields.proofs.read_u32.Reads as read-u32-reads
+use Rattle.field_numbers.proofs.read_u16.Reads as read-u16-reads
+use Rattle.field_numbers.proofs.read_u32.Reads as read-u32-reads
 
 read-u16-requires : tie.Need-read-u16-requires
 read-u16-requires c κs = search needs

@@ -9,7 +9,7 @@ use native.Mathlib.Omega.{arith}
 use native.Mathlib.Decide.{decLt}
 use Rattle.definitions.specs.Basics.{pick}
 use Rattle.definitions.specs.Fields.{two, part, fieldBytes, refusedField}
-use Rattle.fields.specs.Choices.{tests}
+use Rattle.theory.specs.Choices.{tests}
 
 -- as many of the entries as there are
 take-min : (n : ℕ) (l : List ℕ) → take (min n (length l)) l ≡ take n l

@@ -1,12 +1,12 @@
--- `fields::refused_field` meets its contract.
-use Rattle.fields.specs.Lies.{lies-chart, lies-past-chart, lies-rules, lies-past-rules, lies-none}
+-- `refused_field::refused_field` meets its contract.
+use Rattle.refused_field.specs.Lies.{lies-chart, lies-past-chart, lies-rules, lies-past-rules, lies-none}
 use borrow.Author.Needs.{needs}
-use Rattle.fields.specs.Refused.{refused-laws}
-use Rattle.fields.proofs.refused_field.Statement.{statement}
-use Rattle.fields.proofs.refused_field.Tie as tie
-use Rattle.fields.proofs.refused_field.Reads as reads
-use Rattle.fields.proofs.refused_field.Lts as lts
-use Rattle.fields.proofs.field_end.Reads as field-end-reads
+use Rattle.refused_field.specs.Refused.{refused-laws}
+use Rattle.refused_field.proofs.refused_field.Statement.{statement}
+use Rattle.refused_field.proofs.refused_field.Tie as tie
+use Rattle.refused_field.proofs.refused_field.Reads as reads
+use Rattle.refused_field.proofs.refused_field.Lts as lts
+use Rattle.refused_field.proofs.field_end.Reads as field-end-reads
 
 field-end-requires : tie.Need-field-end-requires
 field-end-requires c κs = search needs

@@ -6,7 +6,7 @@ use mathlib.Core.List.{List}
 use lib.Dec.{ltb, eqb}
 use lib.ListN.{length}
 use Rattle.definitions.specs.Basics.{pick}
-use Rattle.fields.specs.Choices.{tests}
+use Rattle.theory.specs.Choices.{tests}
 
 -- the place i of a slice, by the slice's pointer: a block of memory and an offset in it
 abbrev pub placeIn : ℕ × ℕ → ℕ → ℕ × ℕ
