@@ -15,11 +15,12 @@ use Rattle.definitions.specs.declared.Field.{Field}
 use Rattle.definitions.specs.declared.Field.the-variants.{Absent, Faulty, Whole}
 use Rattle.fields.specs.Positions.{only-gives, body-less}
 use Rattle.fields.specs.Scans.{leftOf, left-less, reading-start, reading-done, reading-faulty, reading-bad, reading-step}
-use Rattle.chart.specs.Ends.{endsOf}
-use Rattle.chart.specs.Tables.{stepsIn, heldSteps, Filled, stepBody}
+use Rattle.chart_fields.specs.Bodies.{stepBody}
+use Rattle.chart_fields.specs.Ends.{endsOf}
+use Rattle.chart_fields.specs.declared.bodies.StepBody.{StepBody}
+use Rattle.chart.specs.Tables.{stepsIn, heldSteps, Filled}
 use Rattle.chart.specs.Held.{stored, stored-room, held-grown, ends-kept, costs-kept, nothing-filled}
 use Rattle.chart.specs.Limits.{step-fits}
-use Rattle.chart.specs.declared.reader.StepBody.{StepBody}
 use Rattle.chart.specs.Turns.{SoFar, Stands, Takes}
 use Rattle.chart.specs.declared.reader.StepsRead.{StepsRead}
 

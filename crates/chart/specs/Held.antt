@@ -9,7 +9,7 @@ use native.Mathlib.Omega.{arith}
 use Rattle.definitions.specs.Charts.{ChartStep, noStep}
 use Rattle.theory.specs.Packing.{first-packed, second-packed}
 use Rattle.theory.specs.Basics.{length-map-run, getD-map-upto, upto-grown, rest-kept}
-use Rattle.chart.specs.Ends.{endsOf, fromOf, toOf, froms, tos, froms-at, tos-at}
+use Rattle.chart_fields.specs.Ends.{endsOf, fromOf, toOf, froms, tos, froms-at, tos-at}
 use Rattle.chart.specs.Tables.{endsIn, costsIn, Steps, stepsIn, heldStep, heldSteps, Room, Filled}
 
 module _ (count : ℕ) (t : Steps) where

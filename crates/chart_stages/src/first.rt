@@ -2,9 +2,9 @@
 ghost use mathlib.Core.Path.{_≡_};
 ghost use Prim.Native.Nat.{_≤_, _<_};
 ghost use lib.ListN.{length};
-ghost use Rattle.chart.specs.Ends.{froms};
+ghost use Rattle.chart_fields.specs.Ends.{froms};
 ghost use Rattle.chart_stages.specs.FirstSteps.{SortedTable, FirstTable, Walked};
-use chart::from_at;
+use chart_fields::from_at;
 use definitions::Stage;
 
 // The first step from `start` on that leaves stage `s` or a later one; `count` where there is none.

@@ -2,7 +2,7 @@
 use Prim.Native.Nat.{_+_, _-_, _≤_}
 use mathlib.Core.Path.{_≡_}
 use lib.ListN.{length}
-use Rattle.chart.specs.Ends.{froms}
+use Rattle.chart_fields.specs.Ends.{froms}
 use Rattle.chart_stages.proofs.Firsts.{FirstsBefore, firsts-laws}
 use borrow.Author.Needs.{needs}
 use Rattle.chart_stages.proofs.first.fill_first_steps.Statement.{statement}

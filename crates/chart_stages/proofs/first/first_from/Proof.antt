@@ -1,5 +1,5 @@
 use Prim.Native.Nat.{_-_, _≤_}
-use Rattle.chart.specs.Ends.{froms}
+use Rattle.chart_fields.specs.Ends.{froms}
 use Rattle.chart_stages.proofs.Firsts.{Below, walk-on, walk-laws}
 use native.Mathlib.Omega.{arith}
 use borrow.Author.Needs.{needs}

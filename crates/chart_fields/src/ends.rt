@@ -3,8 +3,13 @@
 ghost use mathlib.Core.Path.{_≡_};
 ghost use Prim.Native.Nat.{_<_};
 ghost use lib.ListN.{getD};
-ghost use Rattle.chart.specs.Ends.{endsOf, fromOf, toOf, froms, tos};
+ghost use Rattle.chart_fields.specs.Ends.{endsOf, fromOf, toOf, froms, tos};
 use definitions::Stage;
+
+// The columns of the table of steps: both stages of each in one number, and its cost.
+pub const ENDS: usize = 0;
+
+pub const COST: usize = 1;
 
 // Both stages in one number.
 pub fn ends_of(from: Stage, to: Stage) -> u32

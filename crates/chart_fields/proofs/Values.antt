@@ -6,7 +6,7 @@ use mathlib.Core.List.{List}
 use Rattle.definitions.specs.Basics.{pick}
 use Rattle.definitions.specs.Fields.{two, four}
 use Rattle.definitions.specs.Charts.{headFault, stepFault}
-use Rattle.chart.specs.Tables.{headBody, stepBody}
+use Rattle.chart_fields.specs.Bodies.{headBody, stepBody}
 use Rattle.theory.specs.Choices.{tests}
 
 module _ (b : List ℕ) (n : ℕ) (en : n ≡ two b 0) where

@@ -1,9 +1,9 @@
--- `chart::to_at` meets its contract.
+-- `chart_fields::to_at` meets its contract.
 use mathlib.Core.Path.{sym, _∙_}
 use borrow.Author.Needs.{needs}
-use Rattle.chart.specs.Ends.{tos-at}
-use Rattle.chart.proofs.ends.to_at.Statement.{statement}
-use Rattle.chart.proofs.ends.to_at.Tie as tie
+use Rattle.chart_fields.specs.Ends.{tos-at}
+use Rattle.chart_fields.proofs.ends.to_at.Statement.{statement}
+use Rattle.chart_fields.proofs.ends.to_at.Tie as tie
 
 mul-to-of : tie.Need-mul-to-of
 mul-to-of c = search needs

@@ -1,9 +1,9 @@
--- `chart::from_at` meets its contract.
+-- `chart_fields::from_at` meets its contract.
 use mathlib.Core.Path.{sym, _∙_}
 use borrow.Author.Needs.{needs}
-use Rattle.chart.specs.Ends.{froms-at}
-use Rattle.chart.proofs.ends.from_at.Statement.{statement}
-use Rattle.chart.proofs.ends.from_at.Tie as tie
+use Rattle.chart_fields.specs.Ends.{froms-at}
+use Rattle.chart_fields.proofs.ends.from_at.Statement.{statement}
+use Rattle.chart_fields.proofs.ends.from_at.Tie as tie
 
 mul-from-of : tie.Need-mul-from-of
 mul-from-of c = search needs

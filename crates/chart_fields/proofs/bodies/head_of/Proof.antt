@@ -1,9 +1,9 @@
-use Rattle.chart.proofs.Values.{head-read}
+use Rattle.chart_fields.proofs.Values.{head-read}
 use borrow.Author.Needs.{needs}
-use Rattle.chart.proofs.reader.head_of.Statement.{statement}
-use Rattle.chart.proofs.reader.head_of.Tie as tie
-use Rattle.chart.proofs.reader.head_of.Reads as reads
-use Rattle.chart.proofs.reader.head_of.Lts as lts
+use Rattle.chart_fields.proofs.bodies.head_of.Statement.{statement}
+use Rattle.chart_fields.proofs.bodies.head_of.Tie as tie
+use Rattle.chart_fields.proofs.bodies.head_of.Reads as reads
+use Rattle.chart_fields.proofs.bodies.head_of.Lts as lts
 use Rattle.field_numbers.proofs.read_u16.Reads as read-u16-reads
 
 read-u16-requires : tie.Need-read-u16-requires
