@@ -9,7 +9,7 @@ use Rattle.definitions.specs.Basics.{pick}
 use Rattle.definitions.specs.Fields.{two}
 use Rattle.definitions.specs.Diagrams.{childFits, nodeFault, innerNodeOf}
 use Rattle.theory.specs.Choices.{tests}
-use Rattle.diagram.specs.Words.{wordOf}
+use Rattle.diagram_fields.specs.Words.{wordOf}
 
 module _ (stepAt : ℕ → ℕ) (own key child : ℕ) where
   pub child-past : own ≤ child → false ≡ childFits stepAt own key child

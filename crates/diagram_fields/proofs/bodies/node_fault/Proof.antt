@@ -1,8 +1,8 @@
--- `diagram::node_fault` meets its contract.
+-- `diagram_fields::node_fault` meets its contract.
 use borrow.Author.Needs.{needs}
-use Rattle.diagram.proofs.Values.{node-value-laws}
-use Rattle.diagram.proofs.reader.node_fault.Statement.{statement}
-use Rattle.diagram.proofs.reader.node_fault.Tie as tie
+use Rattle.diagram_fields.proofs.Values.{node-value-laws}
+use Rattle.diagram_fields.proofs.bodies.node_fault.Statement.{statement}
+use Rattle.diagram_fields.proofs.bodies.node_fault.Tie as tie
 
 returns : tie.Need-returns
 returns c = search node-value-laws

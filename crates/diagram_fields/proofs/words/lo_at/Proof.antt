@@ -1,9 +1,9 @@
--- `diagram::lo_at` meets its contract.
+-- `diagram_fields::lo_at` meets its contract.
 use mathlib.Core.Path.{_≡_, sym, _∙_}
-use Rattle.diagram.specs.Held.{lo-at}
+use Rattle.diagram_fields.specs.Words.{lo-at}
 use borrow.Author.Needs.{needs}
-use Rattle.diagram.proofs.words.lo_at.Statement.{statement}
-use Rattle.diagram.proofs.words.lo_at.Tie as tie
+use Rattle.diagram_fields.proofs.words.lo_at.Statement.{statement}
+use Rattle.diagram_fields.proofs.words.lo_at.Tie as tie
 
 mul-lo-of : tie.Need-mul-lo-of
 mul-lo-of c = search needs

@@ -1,8 +1,8 @@
--- `diagram::store_node` meets its contract.
-use Rattle.diagram.proofs.Values.{storing}
+-- `diagram_fields::store_node` meets its contract.
+use Rattle.diagram_fields.proofs.Values.{storing}
 use borrow.Author.Needs.{needs}
-use Rattle.diagram.proofs.reader.store_node.Statement.{statement}
-use Rattle.diagram.proofs.reader.store_node.Tie as tie
+use Rattle.diagram_fields.proofs.bodies.store_node.Statement.{statement}
+use Rattle.diagram_fields.proofs.bodies.store_node.Tie as tie
 
 read-u16-requires : tie.Need-read-u16-requires
 read-u16-requires c κs = search needs

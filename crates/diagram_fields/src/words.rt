@@ -2,11 +2,10 @@
 ghost use mathlib.Core.Path.{_≡_};
 ghost use Prim.Native.Nat.{_<_};
 ghost use lib.ListN.{getD};
-ghost use Rattle.diagram.specs.Words.{wordOf, stepOf, loOf, hiOf};
-ghost use Rattle.diagram.specs.Files.{nodesIn};
+ghost use Rattle.diagram_fields.specs.Words.{wordOf, leaf, stepOf, loOf, hiOf, nodesIn};
 
 // In place of a step at nodes 0 and 1: no step has it.
-pub const MARK: u16 = 16383;
+const MARK: u16 = 16383;
 
 // An inner node in one number, its lo lowest, since walks go along lo. (A step that does not fit is cut; no chart has one.)
 pub fn word(step: u16, lo: u16, hi: u16) -> u32
@@ -14,6 +13,13 @@ pub fn word(step: u16, lo: u16, hi: u16) -> u32
     ensures { λ r. ⌜ r ≡ wordOf (record { step = step; lo = lo; hi = hi }) ⌝ }
 {
     (step as u32 % 16384 * 512 + hi as u32) * 512 + lo as u32
+}
+
+// What stands at nodes 0 and 1.
+pub fn leaf_word() -> u32
+    ensures { λ r. ⌜ r ≡ wordOf leaf ⌝ }
+{
+    word(MARK, 0, 0)
 }
 
 // The step in such a number.

@@ -1,9 +1,9 @@
--- `diagram::step_at` meets its contract.
+-- `diagram_fields::step_at` meets its contract.
 use mathlib.Core.Path.{_≡_, sym, _∙_}
-use Rattle.diagram.specs.Held.{step-at}
+use Rattle.diagram_fields.specs.Words.{step-at}
 use borrow.Author.Needs.{needs}
-use Rattle.diagram.proofs.words.step_at.Statement.{statement}
-use Rattle.diagram.proofs.words.step_at.Tie as tie
+use Rattle.diagram_fields.proofs.words.step_at.Statement.{statement}
+use Rattle.diagram_fields.proofs.words.step_at.Tie as tie
 
 mul-step-of : tie.Need-mul-step-of
 mul-step-of c = search needs

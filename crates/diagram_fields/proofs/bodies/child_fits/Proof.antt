@@ -1,8 +1,8 @@
--- `diagram::child_fits` meets its contract.
+-- `diagram_fields::child_fits` meets its contract.
 use borrow.Author.Needs.{needs}
-use Rattle.diagram.proofs.Values.{child-value-laws}
-use Rattle.diagram.proofs.reader.child_fits.Statement.{statement}
-use Rattle.diagram.proofs.reader.child_fits.Tie as tie
+use Rattle.diagram_fields.proofs.Values.{child-value-laws}
+use Rattle.diagram_fields.proofs.bodies.child_fits.Statement.{statement}
+use Rattle.diagram_fields.proofs.bodies.child_fits.Tie as tie
 
 returns : tie.Need-returns
 returns c = search child-value-laws

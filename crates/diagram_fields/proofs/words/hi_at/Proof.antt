@@ -1,9 +1,9 @@
--- `diagram::hi_at` meets its contract.
+-- `diagram_fields::hi_at` meets its contract.
 use mathlib.Core.Path.{_≡_, sym, _∙_}
-use Rattle.diagram.specs.Held.{hi-at}
+use Rattle.diagram_fields.specs.Words.{hi-at}
 use borrow.Author.Needs.{needs}
-use Rattle.diagram.proofs.words.hi_at.Statement.{statement}
-use Rattle.diagram.proofs.words.hi_at.Tie as tie
+use Rattle.diagram_fields.proofs.words.hi_at.Statement.{statement}
+use Rattle.diagram_fields.proofs.words.hi_at.Tie as tie
 
 mul-hi-of : tie.Need-mul-hi-of
 mul-hi-of c = search needs
