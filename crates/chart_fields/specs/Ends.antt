@@ -7,13 +7,13 @@ use lib.ListN.{getD, List·getD-map}
 use Rattle.theory.specs.Packing.{pack}
 
 abbrev pub endsOf : ℕ → ℕ → ℕ
-endsOf from to = pack 65536 from to
+endsOf from to = pack 65536 to from
 
 abbrev pub fromOf : ℕ → ℕ
-fromOf ends = ends / 65536
+fromOf ends = ends % 65536
 
 abbrev pub toOf : ℕ → ℕ
-toOf ends = ends % 65536
+toOf ends = ends / 65536
 
 -- the stages that steps leave, and those that they lead to
 unfoldable pub froms : List ℕ → List ℕ

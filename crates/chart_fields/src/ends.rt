@@ -1,5 +1,5 @@
-// The two stages of a step in one number, the stage that it leaves times 65,536 and the stage that it leads to: an entry
-// of a column of the table of steps. Each has 16 bits, so both are taken out again whatever they are.
+// The two stages of a step in one number, as they stand in the file: the stage that it leaves and, times 65,536, the stage that
+// it leads to. An entry of a column of the table of steps. Each has 16 bits, so both are taken out again whatever they are.
 ghost use mathlib.Core.Path.{_≡_};
 ghost use Prim.Native.Nat.{_<_};
 ghost use lib.ListN.{getD};
@@ -15,21 +15,21 @@ pub const COST: usize = 1;
 pub fn ends_of(from: Stage, to: Stage) -> u32
     ensures { λ r. ⌜ r ≡ endsOf (from .0) (to .0) ⌝ }
 {
-    from.0 as u32 * 65536 + to.0 as u32
+    to.0 as u32 * 65536 + from.0 as u32
 }
 
 // The stage that is left, of such a number.
 fn from_of(ends: u32) -> Stage
     ensures { λ r. ⌜ r .0 ≡ fromOf ends ⌝ }
 {
-    Stage((ends / 65536) as u16)
+    Stage((ends % 65536) as u16)
 }
 
 // The stage that is led to.
 fn to_of(ends: u32) -> Stage
     ensures { λ r. ⌜ r .0 ≡ toOf ends ⌝ }
 {
-    Stage((ends % 65536) as u16)
+    Stage((ends / 65536) as u16)
 }
 
 // The stage that step e leaves.
