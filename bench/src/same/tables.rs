@@ -14,7 +14,7 @@ const STEP_FIELD: usize = 11;
 const RULES_HEAD: usize = 5;
 const NODE_FIELD: usize = 9;
 
-/// The stage that a step leads to takes sixteen bits; the one that it leaves stands above it.
+/// The stage that a step leaves takes sixteen bits; the one that it leads to stands above it.
 const STAGE_BITS: u32 = 16;
 
 /// The step of nodes 0 and 1: above every step, so that no walk goes past them.
@@ -53,7 +53,7 @@ pub struct Tables {
     pub start: usize,
     pub end: usize,
     steps: usize,
-    /// By step: the stage that it leaves, and below it the one that it leads to.
+    /// By step: the stage that it leaves, and above it the one that it leads to.
     ends: [u32; STEPS],
     pub cost: [u32; STEPS],
     /// By stage: its first leaving step; one entry more than there are stages.
@@ -113,7 +113,7 @@ impl Tables {
         if at >= STEPS || from >= to || usize::from(to) >= self.stages || cost > MAX_COST || falls {
             return Err(5);
         }
-        self.ends[at] = u32::from(from) << STAGE_BITS | u32::from(to);
+        self.ends[at] = u32::from(to) << STAGE_BITS | u32::from(from);
         self.cost[at] = cost;
         Ok(from)
     }
@@ -220,11 +220,11 @@ impl Tables {
 }
 
 fn from_of(ends: u32) -> usize {
-    (ends >> STAGE_BITS) as usize
+    (ends & ((1 << STAGE_BITS) - 1)) as usize
 }
 
 fn to_of(ends: u32) -> usize {
-    (ends & ((1 << STAGE_BITS) - 1)) as usize
+    (ends >> STAGE_BITS) as usize
 }
 
 fn number(low: u8, high: u8) -> usize {

@@ -1,3 +1,2 @@
-pub mod Values
-pub mod Steps
-pub mod Whole
+mod Steps
+mod Whole

@@ -15,11 +15,12 @@ use Rattle.definitions.specs.declared.Field.{Field}
 use Rattle.definitions.specs.declared.Field.the-variants.{Absent, Faulty, Whole}
 use Rattle.fields.specs.Positions.{only-gives, body-less}
 use Rattle.fields.specs.Scans.{leftOf, left-less, reading-start, reading-done, reading-faulty, reading-bad, reading-step}
-use Rattle.chart.specs.Ends.{endsOf}
-use Rattle.chart.specs.Tables.{stepsIn, heldSteps, Filled, stepBody}
+use Rattle.chart_fields.specs.Bodies.{stepBody}
+use Rattle.chart_fields.specs.Ends.{endsOf}
+use Rattle.chart_fields.specs.declared.bodies.StepBody.{StepBody}
+use Rattle.chart.specs.Tables.{stepsIn, heldSteps, Filled}
 use Rattle.chart.specs.Held.{stored, stored-room, held-grown, ends-kept, costs-kept, nothing-filled}
 use Rattle.chart.specs.Limits.{step-fits}
-use Rattle.chart.specs.declared.reader.StepBody.{StepBody}
 use Rattle.chart.specs.Turns.{SoFar, Stands, Takes}
 use Rattle.chart.specs.declared.reader.StepsRead.{StepsRead}
 
@@ -40,7 +41,7 @@ last-grown before x =
     let e : length (before ++ x ∷ []) - 1 ≡ length before = omega (arith, length-append before (x ∷ [])) in
     rw (lastFrom, e) (ap (λ (y : ChartStep). y .from) (getD-append-seam before x [] noStep))
 
-filled-grown : (before : List ChartStep) (x : ChartStep) (ends count : ℕ) (packed₀ packed : List (List ℕ)) → ends ≡ endsOf (x .from) (x .to) → x .to < 65536
+filled-grown : (before : List ChartStep) (x : ChartStep) (ends count : ℕ) (packed₀ packed : List (List ℕ)) → ends ≡ endsOf (x .from) (x .to) → x .from < 65536
     → length before ≡ count → count < 1024 → Filled before packed₀ packed → Filled (before ++ x ∷ []) packed₀ (stored packed count ends (x .cost))
 filled-grown before x ends count packed₀ packed packs small counted below sofar =
     let long : length (before ++ x ∷ []) ≡ count + 1 = omega (arith, length-append before (x ∷ [])) in
@@ -100,7 +101,7 @@ module _ (s : List ℕ) (stages : ℕ) (t : StepsRead) (packed : List (List ℕ)
         stops v (t .place) x q (λ first packed₀ sofar.
         reading-bad s (stepGrammar stages) first (t .place) (sofar .before) (sofar .reading) f given a e found (only-gives 2 8 (getD s (t .place) 0)) v (same-fault first packed₀ sofar) fails)
 
-    pub take-step : v ≡ 0 → (x : StepBody) → x ≡ stepBody (part s a e) → (ends : ℕ) → ends ≡ endsOf (x .from) (x .to) → x .to < 65536
+    pub take-step : v ≡ 0 → (x : StepBody) → x ≡ stepBody (part s a e) → (ends : ℕ) → ends ≡ endsOf (x .from) (x .to) → x .from < 65536
         → Takes s stages t packed (stored packed (t .steps) ends (x .cost)) (record { number = 0; place = e; steps = t .steps + 1; last = x .from; going = true })
     take-step passes x read ends packs small = rw read (record {
       nearer = λ g. body-less s (t .place) 2 8 a e f given found;
@@ -113,7 +114,7 @@ module _ (s : List ℕ) (stages : ℕ) (t : StepsRead) (packed : List (List ℕ)
           filled =
               λ room.
               filled-grown (sofar .before) (stepOf (part s a e)) ends (t .steps) packed₀ packed (packs ∙ ap (λ (y : StepBody). endsOf (y .from) (y .to)) read)
-              (subst (λ (y : StepBody). y .to < 65536) read small) (sofar .counted) (step-below v stages (t .last) (t .steps) (part s a e) judged passes) (sofar .filled room);
+              (subst (λ (y : StepBody). y .from < 65536) read small) (sofar .counted) (step-below v stages (t .last) (t .steps) (part s a e) judged passes) (sofar .filled room);
         };
         over = λ g. absurd (true-false g);
       };

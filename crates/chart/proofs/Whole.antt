@@ -9,11 +9,12 @@ use Rattle.definitions.specs.Fields.{part, only, fieldAt, onField}
 use Rattle.definitions.specs.Charts.{headFault, badHead, withSteps, scanSteps, readChart}
 use Rattle.definitions.specs.declared.Field.{Field}
 use Rattle.definitions.specs.declared.Field.the-variants.{Absent, Faulty, Whole}
+use Rattle.chart_fields.specs.Bodies.{headBody}
+use Rattle.chart_fields.specs.declared.bodies.HeadBody.{HeadBody}
 use Rattle.chart.specs.Held.{nothing-filled}
-use Rattle.chart.specs.Tables.{Room, Filled, headBody, chartAnswer}
+use Rattle.chart.specs.Tables.{Room, Filled, chartAnswer}
 use Rattle.chart.specs.Turns.{Over}
 use Rattle.chart.specs.declared.reader.ChartRead.{ChartRead}
-use Rattle.chart.specs.declared.reader.HeadBody.{HeadBody}
 use Rattle.chart.specs.declared.reader.StepsRead.{StepsRead}
 
 -- no step passed, and the tables stay

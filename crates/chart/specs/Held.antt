@@ -9,7 +9,7 @@ use native.Mathlib.Omega.{arith}
 use Rattle.definitions.specs.Charts.{ChartStep, noStep}
 use Rattle.theory.specs.Packing.{first-packed, second-packed}
 use Rattle.theory.specs.Basics.{length-map-run, getD-map-upto, upto-grown, rest-kept}
-use Rattle.chart.specs.Ends.{endsOf, fromOf, toOf, froms, tos, froms-at, tos-at}
+use Rattle.chart_fields.specs.Ends.{endsOf, fromOf, toOf, froms, tos, froms-at, tos-at}
 use Rattle.chart.specs.Tables.{endsIn, costsIn, Steps, stepsIn, heldStep, heldSteps, Room, Filled}
 
 module _ (count : ℕ) (t : Steps) where
@@ -51,7 +51,7 @@ stored-columns : (packed : List (List ℕ)) (e ends cost : ℕ) → length (stor
 stored-columns packed e ends cost = simp length-set
 
 -- step x stored: its stages in one number, and its cost
-module _ (count : ℕ) (packed : List (List ℕ)) (x : ChartStep) (ends : ℕ) (packs : ends ≡ endsOf (x .from) (x .to)) (small : x .to < 65536) (room : Room packed)
+module _ (count : ℕ) (packed : List (List ℕ)) (x : ChartStep) (ends : ℕ) (packs : ends ≡ endsOf (x .from) (x .to)) (small : x .from < 65536) (room : Room packed)
     (below : count < 1024) where
   abbrev after : List (List ℕ)
   after = stored packed count ends (x .cost)
@@ -91,10 +91,10 @@ module _ (count : ℕ) (packed : List (List ℕ)) (x : ChartStep) (ends : ℕ) (
   costs-here = ap (λ (l : List ℕ). getD l count 0) new-costs ∙ getD-set-same (costsIn packed) count (x .cost) 0 (omega (arith, room))
 
   from-here : getD (froms (endsIn after)) count 0 ≡ x .from
-  from-here = froms-at (endsIn after) count ∙ ap fromOf ends-here ∙ first-packed 65536 (x .from) (x .to) ends packs small
+  from-here = froms-at (endsIn after) count ∙ ap fromOf ends-here ∙ second-packed 65536 (x .to) (x .from) ends packs small
 
   to-here : getD (tos (endsIn after)) count 0 ≡ x .to
-  to-here = tos-at (endsIn after) count ∙ ap toOf ends-here ∙ second-packed 65536 (x .from) (x .to) ends packs small
+  to-here = tos-at (endsIn after) count ∙ ap toOf ends-here ∙ first-packed 65536 (x .to) (x .from) ends packs small
 
   stored-here : heldStep t′ count ≡ x
   stored-here = rw (from-here, to-here, costs-here)

@@ -1,4 +1,3 @@
-pub mod Ends
 pub mod Tables
 pub mod Held
 pub mod Limits

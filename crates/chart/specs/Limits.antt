@@ -9,7 +9,7 @@ use native.Mathlib.Omega.{arith}
 use borrow.Author.Tests.{leb-true, leb-false, ltb-false, eqb-false, not-false}
 use Rattle.definitions.specs.Fields.{two, four}
 use Rattle.definitions.specs.Charts.{headFault, stepFault}
-use Rattle.fields.specs.Choices.{past}
+use Rattle.theory.specs.Choices.{past}
 
 pub record HeadFits (b : List ℕ) : Type 0 where
   pub some-stages : 1 ≤ two b 0

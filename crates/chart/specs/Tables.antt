@@ -6,13 +6,11 @@ use mathlib.Core.Bool.{false}
 use mathlib.Core.List.{List, [], map}
 use lib.ListN.{length, getD, drop}
 use Rattle.definitions.specs.Basics.{upto}
-use Rattle.definitions.specs.Fields.{two, four, Scan}
+use Rattle.definitions.specs.Fields.{Scan}
 use Rattle.definitions.specs.Charts.{ChartStep, Chart}
 use Rattle.definitions.specs.Charts as charts
 use Rattle.definitions.specs.declared.Shape.{Shape}
-use Rattle.chart.specs.Ends.{froms, tos}
-use Rattle.chart.specs.declared.reader.HeadBody.{HeadBody}
-use Rattle.chart.specs.declared.reader.StepBody.{StepBody}
+use Rattle.chart_fields.specs.Ends.{froms, tos}
 use Rattle.chart.specs.declared.reader.StepsRead.{StepsRead}
 use Rattle.chart.specs.declared.reader.ChartRead.{ChartRead}
 
@@ -58,12 +56,6 @@ pub record Filled (passed : List ChartStep) (packed packed′ : List (List ℕ))
   pub room : Room packed′
 
 -- ---- the readers' answers, from what the definitions give
-
-abbrev pub headBody : List ℕ → HeadBody
-headBody b = record { stages = two b 0; start = two b 2; end = two b 4 }
-
-abbrev pub stepBody : List ℕ → StepBody
-stepBody b = record { from = two b 0; to = two b 2; cost = four b 4 }
 
 abbrev pub stepsAnswer : Scan ChartStep → StepsRead
 stepsAnswer x = record { number = x .number; place = x .place; steps = length (x .passed); last = 0; going = false }

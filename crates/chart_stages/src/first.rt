@@ -2,9 +2,9 @@
 ghost use mathlib.Core.Path.{_≡_};
 ghost use Prim.Native.Nat.{_≤_, max};
 ghost use lib.ListN.{replicate};
-ghost use Rattle.chart.specs.Ends.{froms};
+ghost use Rattle.chart_fields.specs.Ends.{froms};
 ghost use Rattle.chart_stages.specs.FirstSteps.{SortedTable, EndTable, FirstTable};
-use chart::from_at;
+use chart_fields::from_at;
 
 // The larger of two numbers.
 fn larger(a: u16, b: u16) -> u16

@@ -9,6 +9,7 @@ use Rattle.definitions.specs.Plans.{graph}
 use Rattle.theory.specs.Limits.{Small, Valid, Sound}
 use Rattle.definitions.specs.Answers.{Load, ready, refused}
 use Rattle.chart.specs.Tables as chart
+use Rattle.diagram_fields.specs.Words.{Nodes, nodesIn}
 use Rattle.diagram.specs.Tables as diagram
 use Rattle.diagram.specs.Files as files
 use Rattle.definitions.specs.declared.Shape.{Shape}
@@ -17,10 +18,10 @@ use Rattle.checks.specs.declared.Loaded.{Loaded}
 -- what the two files are read into: the table of steps and the table of inner nodes
 pub record Read : Type 0 where
   pub steps : chart.Steps
-  pub inner : files.Nodes
+  pub inner : Nodes
 
 abbrev pub read : List (List ℕ) → List ℕ → Read
-read steps inner = record { steps = chart.stepsIn steps; inner = files.nodesIn inner }
+read steps inner = record { steps = chart.stepsIn steps; inner = nodesIn inner }
 
 -- the chart and the diagram of some sizes that stand in tables
 abbrev pub chartIn : Shape → Read → Chart

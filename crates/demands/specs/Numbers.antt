@@ -12,7 +12,7 @@ use Rattle.definitions.specs.Charts.{ChartRead, headFault, stepFault, lastFrom,
 use Rattle.definitions.specs.Diagrams.{InnerNode, noNode, nodeFault, DiagramRead, diagramRead, withNodes, nodeGrammar, scanNodes, readDiagram}
 use Rattle.definitions.specs.declared.Field.{Field}
 use Rattle.definitions.specs.declared.Field.the-variants.{Absent, Faulty, Whole}
-use Rattle.fields.specs.Choices.{both}
+use Rattle.theory.specs.Choices.{both}
 
 -- a number of a refused file, or 0
 abbrev Few : ℕ → Type 0

@@ -1,3 +1,2 @@
-pub mod Values
-pub mod Nodes
-pub mod Whole
+mod Nodes
+mod Whole

@@ -15,10 +15,10 @@ use Rattle.definitions.specs.declared.Field.the-variants.{Absent, Faulty, Whole
 use Rattle.theory.specs.Basics.{either, lt-or-le, rest-kept}
 use Rattle.fields.specs.Positions.{only-gives, body-less}
 use Rattle.fields.specs.Scans.{leftOf, left-less, reading-start, reading-done, reading-faulty, reading-bad, reading-step}
+use Rattle.diagram_fields.specs.Words.{wordOf, stepOf, unpacked, node-word, nodesIn, step-at}
 use Rattle.diagram.specs.Tables.{heldNodes}
-use Rattle.diagram.specs.Words.{wordOf, stepOf, unpacked, node-word}
-use Rattle.diagram.specs.Held.{step-at, held-grown}
-use Rattle.diagram.specs.Files.{nodesIn, nodesHeld, Filled}
+use Rattle.diagram.specs.Held.{held-grown}
+use Rattle.diagram.specs.Files.{nodesHeld, Filled}
 use Rattle.diagram.specs.Turns.{Halfway, SoFar, Stands, Takes}
 use Rattle.diagram.specs.declared.reader.NodesRead.{NodesRead}
 use Rattle.diagram.specs.Limits.{NodeFits, node-fits, nodeFault-same}

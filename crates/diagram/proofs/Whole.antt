@@ -12,10 +12,9 @@ use Rattle.definitions.specs.Diagrams.{InnerNode, diagramRead, withNodes, scanN
 use Rattle.definitions.specs.declared.Field.{Field}
 use Rattle.definitions.specs.declared.Field.the-variants.{Absent, Faulty, Whole}
 use Rattle.fields.specs.Positions.{body-length}
-use Rattle.diagram.specs.Tables.{heldNodes, MARK, Marked}
-use Rattle.diagram.specs.Words.{wordOf, stepOf, node-word}
-use Rattle.diagram.specs.Files.{nodesIn, Room, Filled, nodesAnswer, diagramAnswer, Reads}
-use Rattle.diagram.specs.Held.{step-at}
+use Rattle.diagram_fields.specs.Words.{wordOf, stepOf, node-word, MARK, leaf, nodesIn, step-at, Marked}
+use Rattle.diagram.specs.Tables.{heldNodes}
+use Rattle.diagram.specs.Files.{Room, Filled, nodesAnswer, diagramAnswer, Reads}
 use Rattle.diagram.specs.Turns.{Over}
 use Rattle.diagram.specs.declared.reader.NodesRead.{NodesRead}
 use Rattle.diagram.specs.declared.reader.DiagramRead.{DiagramRead}
@@ -23,9 +22,6 @@ use Rattle.diagram.specs.declared.reader.DiagramRead.{DiagramRead}
 -- the table with its entries 0 and 1 marked
 abbrev marks : List ℕ → ℕ → List ℕ
 marks words w = set (set words 0 w) 1 w
-
-abbrev leaf : InnerNode
-leaf = record { step = MARK; lo = 0; hi = 0 }
 
 module _ (words : List ℕ) (w : ℕ) (is : w ≡ wordOf leaf) (room : Room words) where
   marks-room : Room (marks words w)

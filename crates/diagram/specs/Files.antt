@@ -3,24 +3,15 @@
 use Prim.Native.Nat.{ℕ, _+_, _≤_}
 use mathlib.Core.Path.{_≡_}
 use mathlib.Core.Bool.{false}
-use mathlib.Core.List.{List, map}
+use mathlib.Core.List.{List}
 use lib.ListN.{length, drop}
 use Rattle.definitions.specs.Fields.{Scan}
 use Rattle.definitions.specs.Diagrams.{InnerNode, readDiagram}
 use Rattle.definitions.specs.Diagrams as diagrams
-use Rattle.diagram.specs.Tables.{heldNodes, Marked}
-use Rattle.diagram.specs.Words.{stepOf, loOf, hiOf}
+use Rattle.diagram_fields.specs.Words.{nodesIn, Marked}
+use Rattle.diagram.specs.Tables.{heldNodes}
 use Rattle.diagram.specs.declared.reader.NodesRead.{NodesRead}
 use Rattle.diagram.specs.declared.reader.DiagramRead.{DiagramRead}
-
--- the table of inner nodes: the steps, the los and the his
-pub record Nodes : Type 0 where
-  pub step : List ℕ
-  pub lo : List ℕ
-  pub hi : List ℕ
-
-abbrev pub nodesIn : List ℕ → Nodes
-nodesIn words = record { step = map stepOf words; lo = map loOf words; hi = map hiOf words }
 
 -- the first `count` inner nodes
 abbrev pub nodesHeld : ℕ → List ℕ → List InnerNode

@@ -3,15 +3,15 @@
 use Prim.Native.Nat.{ℕ, _+_, _-_, _≤_, _<_}
 use mathlib.Core.Path.{_≡_, sym, _∙_, ap}
 use mathlib.Core.List.{List, [], _∷_, _++_}
-use lib.ListN.{length, getD, set, List·getD-map}
+use lib.ListN.{length, getD, set}
 use lib.Seq.{getD-set-same, getD-set-other}
 use native.Mathlib.Omega.{arith}
 use Rattle.definitions.specs.Diagrams.{Diagram, InnerNode, noNode, size, inner}
 use Rattle.theory.specs.Limits.{Ordered}
 use Rattle.theory.specs.Basics.{length-map-run, getD-map-upto, upto-grown}
-use Rattle.diagram.specs.Tables.{heldNode, heldNodes, heldDiagram, Marked, Held}
-use Rattle.diagram.specs.Words.{stepOf, loOf, hiOf, unpacked}
-use Rattle.diagram.specs.Files.{nodesIn, nodesHeld}
+use Rattle.diagram_fields.specs.Words.{unpacked, nodesIn, Marked, step-at, lo-at, hi-at}
+use Rattle.diagram.specs.Tables.{heldNode, heldNodes, heldDiagram, Held}
+use Rattle.diagram.specs.Files.{nodesHeld}
 
 module _ (count : ℕ) (step lo hi : List ℕ) where
   pub length-held : length (heldNodes count step lo hi) ≡ count
@@ -32,17 +32,8 @@ module _ (count : ℕ) (step lo hi : List ℕ) where
     marked = m;
   }
 
--- what stands at a number, out of the entry there
+-- the node that stands at a number, out of the entry there
 module _ (words : List ℕ) (n : ℕ) where
-  pub step-at : getD (nodesIn words .step) n 0 ≡ stepOf (getD words n 0)
-  step-at = List·getD-map stepOf words n 0
-
-  pub lo-at : getD (nodesIn words .lo) n 0 ≡ loOf (getD words n 0)
-  lo-at = List·getD-map loOf words n 0
-
-  pub hi-at : getD (nodesIn words .hi) n 0 ≡ hiOf (getD words n 0)
-  hi-at = List·getD-map hiOf words n 0
-
   node-at : heldNode (nodesIn words .step) (nodesIn words .lo) (nodesIn words .hi) n ≡ unpacked (getD words n 0)
   node-at = rw (step-at, lo-at, hi-at)
 

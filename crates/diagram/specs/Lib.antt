@@ -1,5 +1,4 @@
 pub mod Tables
-pub mod Words
 pub mod Files
 pub mod Held
 pub mod Turns

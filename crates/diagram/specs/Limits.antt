@@ -9,7 +9,7 @@ use native.Mathlib.Omega.{arith}
 use borrow.Author.Tests.{leb-false, ltb-true, not-false, le-ltb, lt-ltb}
 use Rattle.definitions.specs.Fields.{two}
 use Rattle.definitions.specs.Diagrams.{childFits, nodeFault}
-use Rattle.fields.specs.Choices.{past}
+use Rattle.theory.specs.Choices.{past}
 use Rattle.theory.specs.Basics.{either, lt-or-le, both}
 
 -- ---- only the steps of the inner nodes before it matter

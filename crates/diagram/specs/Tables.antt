@@ -7,6 +7,7 @@ use lib.ListN.{length, getD}
 use Rattle.definitions.specs.Basics.{upto}
 use Rattle.definitions.specs.Diagrams.{Diagram, InnerNode}
 use Rattle.theory.specs.Limits.{Ordered}
+use Rattle.diagram_fields.specs.Words.{Marked}
 
 -- the node that stands at a number
 abbrev pub heldNode : List ℕ → List ℕ → List ℕ → ℕ → InnerNode
@@ -18,15 +19,6 @@ heldNodes count step lo hi = map (λ i. heldNode step lo hi (i + 2)) (upto count
 
 abbrev pub heldDiagram : ℕ → ℕ → List ℕ → List ℕ → List ℕ → Diagram
 heldDiagram root count step lo hi = record { root = root; nodes = heldNodes count step lo hi }
-
--- the largest number that a step's part can hold; no step has it
-abbrev pub MARK : ℕ
-MARK = 16383
-
--- entries 0 and 1 of the steps are no step's number, so that a walk that stops where the step is not below a given one stops at 0 and at 1
-pub record Marked (step : List ℕ) : Type 0 where
-  pub at-no : getD step 0 0 ≡ MARK
-  pub at-yes : getD step 1 0 ≡ MARK
 
 -- an ordered diagram stands in the lists
 pub record Held (d : Diagram) (step lo hi : List ℕ) : Type 0 where

@@ -7,8 +7,8 @@ use mathlib.Core.List.{List}
 use lib.ListN.{length, getD}
 use Rattle.definitions.specs.Diagrams.{InnerNode, noNode, nodeGrammar, scanNodes}
 use Rattle.fields.specs.Scans.{Reading}
-use Rattle.diagram.specs.Tables.{Marked}
-use Rattle.diagram.specs.Files.{nodesIn, Room, Filled, nodesAnswer}
+use Rattle.diagram_fields.specs.Words.{nodesIn, Marked}
+use Rattle.diagram.specs.Files.{Room, Filled, nodesAnswer}
 use Rattle.diagram.specs.declared.reader.NodesRead.{NodesRead}
 
 -- What is read so far, and that the rest of the walk is still to come. Two tables are filled: `step` has the step of each node before, for the checks

@@ -17,7 +17,7 @@ use Rattle.definitions.specs.Marked.{st, nd}
 use Rattle.definitions.specs.Plans.{graph}
 use Rattle.definitions.specs.declared.Field.the-variants.{Whole}
 use Rattle.theory.specs.Basics.{either, lt-or-le}
-use Rattle.fields.specs.Choices.{tests}
+use Rattle.theory.specs.Choices.{tests}
 use Rattle.definitions.specs.Bytes.{le2, le4, bodyOfHead, bodyOfStep, stepBytes, chartBytes, headBytes, bodyOfNode, nodeBytes, rootBytes, diagramBytes}
 use Rattle.field_writer.specs.Sizes.{AllBytes, append-bytes, le2-bytes, le4-bytes, field-bytes, each-bytes}
 use Rattle.field_writer.specs.Scanned.{fieldAt-written, Reads, scan-written}

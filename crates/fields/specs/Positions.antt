@@ -13,7 +13,7 @@ use Rattle.definitions.specs.Basics.{pick}
 use Rattle.definitions.specs.Fields.{two, part, Kind, foreign, exactly, isForeign, isPassedOver, lengthFits, only, fieldAt}
 use Rattle.definitions.specs.declared.Field.{Field}
 use Rattle.definitions.specs.declared.Field.the-variants.{Absent, Faulty, Whole}
-use Rattle.fields.specs.Choices.{tests, past, both}
+use Rattle.theory.specs.Choices.{tests, past, both}
 
 -- ---- fields of any kind
 

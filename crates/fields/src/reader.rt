@@ -6,9 +6,9 @@ ghost use Prim.Native.Nat.{_+_, _*_, _<_};
 ghost use lib.ListN.{length, getD};
 ghost use Rattle.definitions.specs.Fields.{two, only, fieldAt};
 ghost use Rattle.fields.specs.Positions.{HasField, Tells};
-use crate::read_u16;
-use crate::wide;
 use definitions::Field;
+use field_numbers::read_u16;
+use field_numbers::wide;
 
 // A file, and the place of its next field.
 pub struct Reader<'a> {

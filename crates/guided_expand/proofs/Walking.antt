@@ -8,8 +8,7 @@ use Rattle.definitions.specs.Ways.{Graph}
 use Rattle.definitions.specs.Pairs.{Automaton}
 use Rattle.definitions.specs.declared.Shape.{Shape}
 use Rattle.theory.specs.Variables.{next-is}
-use Rattle.diagram.specs.Files.{Nodes}
-use Rattle.diagram.specs.Tables.{MARK, Marked}
+use Rattle.diagram_fields.specs.Words.{MARK, Nodes, Marked}
 use Rattle.nodes.specs.Walks.{Falls, Lowers, BranchesTo}
 use Rattle.nodes.specs.Falling.{lo-falls}
 use Rattle.nodes.specs.Advancing.{lowers-zero, lowers-on, advancing-dead}

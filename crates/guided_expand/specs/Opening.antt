@@ -10,7 +10,7 @@ use Rattle.definitions.specs.Ways.{Graph}
 use Rattle.definitions.specs.Pairs.{Automaton}
 use Rattle.definitions.specs.declared.Shape.{Shape}
 use Rattle.chart.specs.Tables.{Steps}
-use Rattle.diagram.specs.Files.{Nodes}
+use Rattle.diagram_fields.specs.Words.{Nodes}
 use Rattle.checks.specs.Tables.{Read, pairsIn}
 use Rattle.checks.specs.Ready.{Walk, walk, graphIn, automatonIn}
 use Rattle.guided_model.specs.Moves.{Frontier, frontier-moved, Expanded, expanded-more}

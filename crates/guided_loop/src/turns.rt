@@ -6,7 +6,7 @@ ghost use Rattle.guided_expand.specs.Work.{work};
 ghost use Rattle.guided_loop.specs.Search.{Start, Searched};
 use crate::places::is_goal;
 use crate::places::pair_of;
-use chart::ENDS;
+use chart_fields::ENDS;
 use definitions::Node;
 use definitions::Shape;
 use guided_expand::Source;

@@ -6,7 +6,8 @@ use lib.ListN.{getD}
 use native.Mathlib.Omega.{arith}
 use Rattle.definitions.specs.Diagrams.{Diagram, size}
 use Rattle.theory.specs.Basics.{either, lt-or-le}
-use Rattle.diagram.specs.Tables.{MARK, Marked, Held}
+use Rattle.diagram_fields.specs.Words.{MARK, Marked}
+use Rattle.diagram.specs.Tables.{Held}
 use Rattle.diagram.specs.Held.{held-step, held-lo}
 use Rattle.nodes.specs.Walks.{Falls, lowered, Lowers}
 use Rattle.nodes.specs.Lowered.{lowered-leaf, lowered-below, lowered-stop}

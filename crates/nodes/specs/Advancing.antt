@@ -7,7 +7,7 @@ use lib.ListN.{getD}
 use native.Mathlib.Omega.{arith}
 use Rattle.definitions.specs.Diagrams.{inner, advance}
 use Rattle.theory.specs.Diagrams.{advance-leaf}
-use Rattle.diagram.specs.Tables.{MARK, Marked}
+use Rattle.diagram_fields.specs.Words.{MARK, Marked}
 use Rattle.diagram.specs.Held.{held-step, held-hi}
 use Rattle.nodes.specs.Walks.{lowered, Lowers, Advances}
 use Rattle.nodes.specs.Lowered.{lowered-zero, lowered-lowered, advance-lowered, advance-hi, advance-stays}

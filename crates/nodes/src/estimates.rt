@@ -2,16 +2,16 @@
 ghost use mathlib.Core.Path.{_≡_};
 ghost use Prim.Native.Nat.{_+_, _<_};
 ghost use lib.ListN.{length, getD};
-ghost use Rattle.diagram.specs.Files.{nodesIn};
+ghost use Rattle.diagram_fields.specs.Words.{nodesIn};
 ghost use Rattle.nodes.specs.Walks.{Falls};
 ghost use Rattle.nodes.specs.Estimates.{Priced, Joins, Estimated};
 use definitions::NONE;
 use definitions::Node;
 use definitions::Shape;
 use definitions::Step;
-use diagram::hi_at;
-use diagram::lo_at;
-use diagram::step_at;
+use diagram_fields::hi_at;
+use diagram_fields::lo_at;
+use diagram_fields::step_at;
 
 // The smaller of two estimates, one of them with a cost added. A sum that is no number below NONE counts as none.
 fn join(low: u32, high: u32, cost: u32) -> u32

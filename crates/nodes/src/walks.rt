@@ -2,14 +2,13 @@
 ghost use mathlib.Core.Path.{_≡_};
 ghost use Prim.Native.Nat.{_+_, _≤_, _<_};
 ghost use lib.ListN.{length};
-ghost use Rattle.diagram.specs.Tables.{MARK, Marked};
-ghost use Rattle.diagram.specs.Files.{nodesIn};
+ghost use Rattle.diagram_fields.specs.Words.{MARK, Marked, nodesIn};
 ghost use Rattle.nodes.specs.Walks.{Falls, Tests, Lowers, BranchesTo, Finishing};
 use definitions::Node;
 use definitions::Step;
-use diagram::hi_at;
-use diagram::lo_at;
-use diagram::step_at;
+use diagram_fields::hi_at;
+use diagram_fields::lo_at;
+use diagram_fields::step_at;
 
 // A node of a diagram, and the step that it tests: the mark where it is none of the inner ones.
 pub struct Lowered {

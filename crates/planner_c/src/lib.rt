@@ -144,6 +144,6 @@ pub extern "C" fn planner_refused_field<'a>(
         × Appended (now (field .entry)) 0 bytes (now (field .exit)) (min r (length (now (field .entry)))))
         ⌝ }
 {
-    let bytes = fields::refused_field(chart, rules, file, place);
+    let bytes = refused_field::refused_field(chart, rules, file, place);
     store_field(bytes, field)
 }

@@ -4,7 +4,7 @@ ghost use lib.ListN.{length};
 ghost use Rattle.sweep_model.specs.Model.{rows};
 ghost use Rattle.checks.specs.Tables.{read};
 ghost use Rattle.sweep.specs.Runs.{Final, Concludes};
-use chart::ENDS;
+use chart_fields::ENDS;
 use checks::accepted;
 use checks::refusal;
 use convert::wide;

@@ -8,7 +8,7 @@ ghost use Rattle.checks.specs.Ready.{walk, Ready, graphIn, automatonIn};
 ghost use Rattle.sweep_rows.specs.Standing.{at};
 ghost use Rattle.sweep.specs.Runs.{Space, Blank, cleared, Promised};
 use crate::conclude::conclude;
-use chart::ENDS;
+use chart_fields::ENDS;
 use chart_stages::fill_first_steps;
 use checks::load;
 use checks::refusal;

@@ -16,7 +16,7 @@ use Rattle.theory.specs.Basics.{pick-true, either}
 use Rattle.theory.specs.Diagrams.{advance-leaf}
 use Rattle.theory.specs.Variables.{next-is}
 use Rattle.trace.specs.Trails.{packed}
-use Rattle.diagram.specs.Tables.{Marked}
+use Rattle.diagram_fields.specs.Words.{Marked}
 use Rattle.nodes.specs.Falling.{lo-falls}
 use Rattle.nodes.specs.Walks.{lowered, Falls, Lowers, BranchesTo}
 use Rattle.nodes.specs.Lowered.{advance-lowered}

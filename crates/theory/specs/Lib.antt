@@ -1,5 +1,6 @@
 pub mod Limits
 pub mod Basics
+pub mod Choices
 pub mod Packing
 pub mod Diagrams
 pub mod Least

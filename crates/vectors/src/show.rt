@@ -51,7 +51,7 @@ pub fn show_diagram(file: &[u8], steps: usize) {
 
 // The refused field of a file mark and a place: how many bytes, and each in hexadecimal.
 pub fn show_field<'a>(chart: &'a [u8], rules: &'a [u8], mark: u32, place: usize) {
-    let bytes = fields::refused_field(chart, rules, mark, place);
+    let bytes = refused_field::refused_field(chart, rules, mark, place);
     named(b" bytes ", bytes.len() as u64);
     hexadecimal(bytes);
 }

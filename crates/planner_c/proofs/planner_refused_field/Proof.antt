@@ -9,7 +9,7 @@ use Rattle.planner_c.proofs.planner_refused_field.Statement.{statement}
 use Rattle.planner_c.proofs.planner_refused_field.Tie as tie
 use Rattle.planner_c.proofs.planner_refused_field.Reads as reads
 use Rattle.planner_c.proofs.planner_refused_field.Lts as lts
-use Rattle.fields.proofs.refused_field.Reads as refused-field-reads
+use Rattle.refused_field.proofs.refused_field.Reads as refused-field-reads
 use Rattle.answer_arrays.proofs.store_field.Reads as store-field-reads
 
 refused-field-requires : tie.Need-refused-field-requires

@@ -5,7 +5,7 @@ use mathlib.Core.List.{List, [], _∷_, _++_, reverse, reverse-cons}
 use native.Mathlib.Omega.{arith}
 use lib.ListN.{length, drop, length-reverse}
 use borrow.Author.Needs.{needs}
-use Rattle.chart.specs.Ends.{froms}
+use Rattle.chart_fields.specs.Ends.{froms}
 use Rattle.trace.specs.Trails.{Traceable}
 use Rattle.trace.proofs.Steps.{Follows, follow-start, follow-stage, follow-fits, follow-packed, follow-less, follow-more, follow-done, put-on}
 use Rattle.trace.proofs.trace_back.Statement.{statement}

@@ -3,13 +3,6 @@ use Rattle.chart.proofs.Whole.{chart-laws}
 use borrow.Author.Needs.{needs}
 use Rattle.chart.proofs.reader.read_chart.Statement.{statement}
 use Rattle.chart.proofs.reader.read_chart.Tie as tie
-use Rattle.chart.proofs.reader.read_chart.Reads as reads
-use Rattle.chart.proofs.reader.read_chart.Lts as lts
-use Rattle.chart.proofs.reader.bad_head.Reads as bad-head-reads
-use Rattle.chart.proofs.reader.head_fault.Reads as head-fault-reads
-use Rattle.chart.proofs.reader.head_of.Reads as head-of-reads
-use Rattle.chart.proofs.reader.read_steps.Reads as read-steps-reads
-use Rattle.fields.proofs.field_at.Reads as field-at-reads
 
 field-at-requires : tie.Need-field-at-requires
 field-at-requires c κs = search needs

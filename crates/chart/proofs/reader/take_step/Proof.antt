@@ -6,9 +6,6 @@ use native.Mathlib.Omega.{arith}
 use borrow.Author.Needs.{needs}
 use Rattle.chart.proofs.reader.take_step.Statement.{statement}
 use Rattle.chart.proofs.reader.take_step.Tie as tie
-use Rattle.chart.proofs.reader.stopped.Reads as stopped-reads
-use Rattle.chart.proofs.reader.step_fault.Reads as step-fault-reads
-use Rattle.chart.proofs.reader.step_of.Reads as step-of-reads
 
 -- the places on the way: the step has passed, its values are there, its stages are in one number
 abbrev passed : tie.After-step-of → tie.Else1

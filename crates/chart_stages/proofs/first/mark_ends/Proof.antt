@@ -4,7 +4,7 @@ use mathlib.Core.Path.{_≡_}
 use lib.ListN.{length}
 use native.Mathlib.Omega.{arith}
 use borrow.Author.Needs.{needs}
-use Rattle.chart.specs.Ends.{froms}
+use Rattle.chart_fields.specs.Ends.{froms}
 use Rattle.chart_stages.specs.FirstSteps.{EndTable}
 use Rattle.chart_stages.proofs.Firsts.{ends-none, ends-more, ends-all}
 use Rattle.chart_stages.proofs.first.mark_ends.Statement.{statement}

@@ -5,8 +5,8 @@ use borrow.Author.Needs.{needs}
 use Rattle.diagram.proofs.reader.read_diagram.Statement.{statement}
 use Rattle.diagram.proofs.reader.read_diagram.Tie as tie
 
-word-requires : tie.Need-word-requires
-word-requires c κs = search needs
+leaf-word-requires : tie.Need-leaf-word-requires
+leaf-word-requires c κs = search needs
 
 element-write-inner : tie.Need-element-write-inner
 element-write-inner c = search needs
@@ -72,7 +72,7 @@ pub read-diagram-spec : {M : Type 1} → statement M
 read-diagram-spec =
     tie.close
     (tie.spec
-    word-requires
+    leaf-word-requires
     element-write-inner
     element-write-inner-2
     field-at-requires

@@ -3,7 +3,7 @@ use borrow.Author.Needs.{needs}
 use Prim.Native.Nat.{_+_, _-_, _<_}
 use mathlib.Core.Path.{_≡_}
 use native.Mathlib.Omega.{arith}
-use Rattle.diagram.specs.Files.{nodesIn}
+use Rattle.diagram_fields.specs.Words.{nodesIn}
 use Rattle.nodes.proofs.Children.{child-inside}
 use Rattle.nodes.proofs.Estimating.{Estimating, estimating-step, estimating-laws}
 use Rattle.nodes.proofs.estimates.fill_diagram_estimates.Statement.{statement}

@@ -3,7 +3,7 @@ use mathlib.Core.Path.{_≡_}
 use native.Mathlib.Omega.{arith}
 use lib.ListN.{getD}
 use borrow.Author.Needs.{needs}
-use Rattle.diagram.specs.Files.{nodesIn}
+use Rattle.diagram_fields.specs.Words.{nodesIn}
 use Rattle.nodes.proofs.Lowering.{Lowering, lowering-start, lowering-less, lowering-next, lowering-done}
 use Rattle.nodes.proofs.walks.descend_to.Statement.{statement}
 use Rattle.nodes.proofs.walks.descend_to.Tie as tie

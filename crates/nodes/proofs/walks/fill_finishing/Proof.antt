@@ -1,7 +1,7 @@
 -- `nodes::fill_finishing` meets its contract.
 use borrow.Author.Needs.{needs}
 use Prim.Native.Nat.{_+_, _-_}
-use Rattle.diagram.specs.Files.{nodesIn}
+use Rattle.diagram_fields.specs.Words.{nodesIn}
 use Rattle.nodes.proofs.Children.{child-laws}
 use Rattle.nodes.proofs.Finished.{Passed, passed-laws}
 use Rattle.nodes.proofs.walks.fill_finishing.Statement.{statement}

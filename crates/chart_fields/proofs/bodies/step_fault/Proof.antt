@@ -1,0 +1,49 @@
+use borrow.Author.Needs.{needs}
+use Rattle.chart_fields.proofs.Values.{step-laws}
+use Rattle.chart_fields.proofs.bodies.step_fault.Statement.{statement}
+use Rattle.chart_fields.proofs.bodies.step_fault.Tie as tie
+use Rattle.chart_fields.proofs.bodies.step_fault.Reads as reads
+use Rattle.chart_fields.proofs.bodies.step_fault.Lts as lts
+use Rattle.field_numbers.proofs.read_u16.Reads as read-u16-reads
+use Rattle.field_numbers.proofs.read_u32.Reads as read-u32-reads
+
+returns : tie.Need-returns
+returns c = search step-laws
+
+read-u16-requires : tie.Need-read-u16-requires
+read-u16-requires c κs = search needs
+
+read-u16-requires-2 : tie.Need-read-u16-requires-2
+read-u16-requires-2 c κs = search needs
+
+returns-2 : tie.Need-returns-2
+returns-2 c = search step-laws
+
+returns-3 : tie.Need-returns-3
+returns-3 c = search step-laws
+
+returns-4 : tie.Need-returns-4
+returns-4 c = search step-laws
+
+read-u32-requires : tie.Need-read-u32-requires
+read-u32-requires c κs = search needs
+
+returns-5 : tie.Need-returns-5
+returns-5 c = search step-laws
+
+returns-6 : tie.Need-returns-6
+returns-6 c = search step-laws
+
+pub step-fault-spec : {M : Type 1} → statement M
+step-fault-spec =
+    tie.close
+    (tie.spec
+    returns
+    read-u16-requires
+    read-u16-requires-2
+    returns-2
+    returns-3
+    returns-4
+    read-u32-requires
+    returns-5
+    returns-6)

@@ -1,0 +1,23 @@
+use borrow.Author.Needs.{needs}
+use Rattle.chart_fields.proofs.Values.{step-read}
+use Rattle.chart_fields.proofs.bodies.step_of.Statement.{statement}
+use Rattle.chart_fields.proofs.bodies.step_of.Tie as tie
+use Rattle.chart_fields.proofs.bodies.step_of.Reads as reads
+use Rattle.chart_fields.proofs.bodies.step_of.Lts as lts
+use Rattle.field_numbers.proofs.read_u16.Reads as read-u16-reads
+use Rattle.field_numbers.proofs.read_u32.Reads as read-u32-reads
+
+read-u16-requires : tie.Need-read-u16-requires
+read-u16-requires c κs = search needs
+
+read-u16-requires-2 : tie.Need-read-u16-requires-2
+read-u16-requires-2 c κs = search needs
+
+read-u32-requires : tie.Need-read-u32-requires
+read-u32-requires c κs = search needs
+
+returns : tie.Need-returns
+returns c = search step-read
+
+pub step-of-spec : {M : Type 1} → statement M
+step-of-spec = tie.close (tie.spec read-u16-requires read-u16-requires-2 read-u32-requires returns)

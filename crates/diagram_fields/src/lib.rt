@@ -1,0 +1,10 @@
+// The single fields of a diagram file: an inner node's body, and its entry in the table of inner nodes.
+mod bodies;
+mod words;
+
+pub use bodies::node_fault;
+pub use bodies::store_node;
+pub use words::hi_at;
+pub use words::leaf_word;
+pub use words::lo_at;
+pub use words::step_at;
