@@ -16,10 +16,6 @@ use Rattle.chart_stages.specs.FirstSteps.{SortedTable, EndTable}
 use Rattle.chart_stages.proofs.Firsts.{FirstsBefore, firsts-start, firsts-turn, firsts-done}
 use Rattle.chart_stages.proofs.first.fill_first_steps.Statement.{statement}
 use Rattle.chart_stages.proofs.first.fill_first_steps.Tie as tie
-use Rattle.chart_stages.proofs.first.fill_first_steps.Reads as reads
-use Rattle.chart_stages.proofs.first.fill_first_steps.Lts as lts
-use Rattle.chart_stages.proofs.first.larger.Reads as larger-reads
-use Rattle.chart_stages.proofs.first.mark_ends.Reads as mark-ends-reads
 
 abbrev Inv-loop : tie.InvT-loop
 Inv-loop first₀ ends count stages last most₀ s₀ first most s =

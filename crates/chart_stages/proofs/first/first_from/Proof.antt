@@ -5,8 +5,6 @@ use native.Mathlib.Omega.{arith}
 use borrow.Author.Needs.{needs}
 use Rattle.chart_stages.proofs.first.first_from.Statement.{statement}
 use Rattle.chart_stages.proofs.first.first_from.Tie as tie
-use Rattle.chart_stages.proofs.first.first_from.Reads as reads
-use Rattle.chart_stages.proofs.first.first_from.Lts as lts
 
 abbrev Inv-loop : tie.InvT-loop
 Inv-loop ends count start s e₀ e = (start ≤ e) × (e ≤ count) × Below (froms ends) start (s .0) e

@@ -9,9 +9,6 @@ use Rattle.chart_stages.specs.FirstSteps.{EndTable}
 use Rattle.chart_stages.proofs.Firsts.{ends-none, ends-more, ends-all}
 use Rattle.chart_stages.proofs.first.mark_ends.Statement.{statement}
 use Rattle.chart_stages.proofs.first.mark_ends.Tie as tie
-use Rattle.chart_stages.proofs.first.mark_ends.Reads as reads
-use Rattle.chart_stages.proofs.first.mark_ends.Lts as lts
-use Rattle.chart.proofs.from_at.Reads as from-at-reads
 
 abbrev Inv-loop : tie.InvT-loop
 Inv-loop first₀ ends count e₀ first e = (e ≤ count) × (length first ≡ 257) × EndTable e (froms ends) first
