@@ -1,15 +1,8 @@
 -- `chart_stages::fill_first_steps` meets its contract: the entries of the stages below s are right.
 use Prim.Native.Nat.{_+_, _-_, _≤_}
-<<<<<<< HEAD
 use mathlib.Core.Path.{_≡_, _∙_}
 use lib.ListN.{length, length-set}
 use native.Mathlib.Omega.{arith}
-=======
-use mathlib.Core.Path.{_≡_}
-use lib.ListN.{length}
-use Rattle.chart_fields.specs.Ends.{froms}
-use Rattle.chart_stages.proofs.Firsts.{FirstsBefore, firsts-laws}
->>>>>>> reader
 use borrow.Author.Needs.{needs}
 use Rattle.chart_fields.specs.Ends.{froms}
 use Rattle.chart_stages.specs.FirstSteps.{SortedTable, EndTable}
