@@ -4,6 +4,5 @@ mod relax;
 mod steps;
 
 pub use estimate::pair_estimate;
-pub use steps::Pair;
 pub use steps::Source;
 pub use steps::settle;

@@ -14,8 +14,8 @@ use chart::ENDS;
 use chart::to_at;
 use definitions::NONE;
 use definitions::Node;
-use definitions::Stage;
 use definitions::Step;
+use guided_places::Pair;
 use guided_rows::open_row;
 use nodes::branch;
 use nodes::descend_to;
@@ -23,12 +23,6 @@ use nodes::lowered_at;
 use queue::Counts;
 use trace::packed;
 use trace::pair_at;
-
-// A pair of a stage and a node.
-pub struct Pair {
-    pub stage: Stage,
-    pub node: Node,
-}
 
 // A pair that is settled, its cost, and its key (cost plus estimate), which is the one last taken from the queue.
 pub struct Source {

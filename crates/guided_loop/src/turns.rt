@@ -4,14 +4,15 @@ ghost use Rattle.checks.specs.Ready.{walk};
 ghost use Rattle.guided_expand.specs.Estimates.{estimates};
 ghost use Rattle.guided_expand.specs.Work.{work};
 ghost use Rattle.guided_loop.specs.Search.{Start, Searched};
-use crate::places::is_goal;
-use crate::places::pair_of;
 use chart::ENDS;
 use definitions::Node;
 use definitions::Shape;
 use guided_expand::Source;
 use guided_expand::pair_estimate;
 use guided_expand::settle;
+use guided_places::is_goal;
+use guided_places::log_pair;
+use guided_places::pair_of;
 use guided_rows::open_row;
 use trace::pair_at;
 
@@ -71,8 +72,7 @@ pub fn search<'a>(
         let next = queue::take(keys, heap, pos, stack, counts, floor);
         let x = next.pair;
         floor = next.key;
-        log[count] = x as u32;
-        count += 1;
+        count = log_pair(log, count, x);
         let at = pair_of(via, &steps[ENDS], row, begin, z.start, x);
         let spent = floor - pair_estimate(by_stage, by_node, at.stage, at.node);
         if is_goal(yes, z.end, at) {

@@ -4,14 +4,14 @@ use mathlib.Core.Bool.{false}
 use Prim.Native.Nat.{_-_, _≤_}
 use native.Mathlib.Omega.{arith}
 use borrow.Author.Needs.{needs}
-use lib.ListN.{length, length-set}
+use lib.ListN.{length}
 use Rattle.checks.specs.Tables.{read, pairsIn}
 use Rattle.checks.specs.Ready.{walk}
 use Rattle.guided_expand.specs.Estimates.{estimates}
 use Rattle.guided_expand.specs.Work.{work, progress}
 use Rattle.guided_loop.specs.Search.{Turning, Begun}
 use Rattle.guided_loop.proofs.Beginning.{narrow, start-small, begin-row, begin-asks, begin-begun, begin-searched}
-use Rattle.guided_loop.proofs.Turning.{turn-takes, turn-none, turn-room, turn-fits, turn-small, turn-placed, turn-inside, turn-estimate, turn-asks, turn-goal, turn-more}
+use Rattle.guided_loop.proofs.Turning.{turn-takes, turn-none, turn-room, turn-logs, turn-placed, turn-inside, turn-estimate, turn-asks, turn-goal, turn-more}
 use Rattle.guided_loop.proofs.turns.search.Statement.{statement}
 use Rattle.guided_loop.proofs.turns.search.Tie as tie
 
@@ -52,8 +52,11 @@ opened-of c = search
 abbrev head-of : tie.After-take Inv-search μ-search → tie.At-search Inv-search μ-search
 head-of c = search
 
-abbrev taken-of : tie.After-pair-of Inv-search μ-search → tie.After-take Inv-search μ-search
+abbrev taken-of : tie.After-log-pair Inv-search μ-search → tie.After-take Inv-search μ-search
 taken-of c = search
+
+abbrev logged-of : tie.After-pair-of Inv-search μ-search → tie.After-log-pair Inv-search μ-search
+logged-of c = search
 
 abbrev pair-of : tie.After-pair-estimate Inv-search μ-search → tie.After-pair-of Inv-search μ-search
 pair-of c = search
@@ -114,37 +117,13 @@ take-requires c κs =
     let w = head .search .inv .1 begun in
     turn-takes (begun .prepared) w (more .if1 .taken)
 
-cast-log : tie.Need-cast-log Inv-search μ-search
-cast-log c =
+log-pair-requires : tie.Need-log-pair-requires Inv-search μ-search
+log-pair-requires c κs =
     let taken : tie.After-take Inv-search μ-search = search in
     let head = head-of taken in
     let begun = head .search .inv .0 in
     let w = head .search .inv .1 begun in
-    omega (arith, turn-small (begun .prepared) w (begun .begins) (taken .take .ensures) .0)
-
-mul-log : tie.Need-mul-log Inv-search μ-search
-mul-log c =
-    let taken : tie.After-take Inv-search μ-search = search in
-    let head = head-of taken in
-    let begun = head .search .inv .0 in
-    let w = head .search .inv .1 begun in
-    omega (arith, turn-small (begun .prepared) w (begun .begins) (taken .take .ensures) .1)
-
-slice-write-log : tie.Need-slice-write-log Inv-search μ-search
-slice-write-log c =
-    let taken : tie.After-take Inv-search μ-search = search in
-    let head = head-of taken in
-    let begun = head .search .inv .0 in
-    let w = head .search .inv .1 begun in
-    turn-fits (begun .prepared) w (begun .begins) (taken .take .ensures)
-
-add-count : tie.Need-add-count Inv-search μ-search
-add-count c =
-    let taken : tie.After-take Inv-search μ-search = search in
-    let head = head-of taken in
-    let begun = head .search .inv .0 in
-    let w = head .search .inv .1 begun in
-    omega (arith, turn-small (begun .prepared) w (begun .begins) (taken .take .ensures) .1)
+    turn-logs (begun .prepared) w (begun .begins) (taken .take .ensures)
 
 index-1-pair-of : tie.Need-index-1-pair-of Inv-search μ-search
 index-1-pair-of c = search needs
@@ -160,7 +139,8 @@ pair-of-requires c κs =
 pair-estimate-requires : tie.Need-pair-estimate-requires Inv-search μ-search
 pair-estimate-requires c κs =
     let at : tie.After-pair-of Inv-search μ-search = search in
-    let taken = taken-of at in
+    let logged = logged-of at in
+    let taken = taken-of logged in
     let head = head-of taken in
     let begun = head .search .inv .0 in
     let w = head .search .inv .1 begun in
@@ -170,7 +150,8 @@ sub-spent : tie.Need-sub-spent Inv-search μ-search
 sub-spent c =
     let rest : tie.After-pair-estimate Inv-search μ-search = search in
     let at = pair-of rest in
-    let taken = taken-of at in
+    let logged = logged-of at in
+    let taken = taken-of logged in
     let head = head-of taken in
     let begun = head .search .inv .0 in
     let w = head .search .inv .1 begun in
@@ -179,7 +160,8 @@ sub-spent c =
 is-goal-requires : tie.Need-is-goal-requires Inv-search μ-search
 is-goal-requires c κs =
     let at : tie.After-pair-of Inv-search μ-search = search in
-    let taken = taken-of at in
+    let logged = logged-of at in
+    let taken = taken-of logged in
     let head = head-of taken in
     let begun = head .search .inv .0 in
     let w = head .search .inv .1 begun in
@@ -189,7 +171,8 @@ settle-requires : tie.Need-settle-requires Inv-search μ-search
 settle-requires c κs =
     let rest : tie.After-pair-estimate Inv-search μ-search = search in
     let at = pair-of rest in
-    let taken = taken-of at in
+    let logged = logged-of at in
+    let taken = taken-of logged in
     let head = head-of taken in
     let begun = head .search .inv .0 in
     let w = head .search .inv .1 begun in
@@ -202,11 +185,12 @@ search-less c =
     let goal = goal-of-no no in
     let rest = rest-of goal in
     let at = pair-of rest in
-    let taken = taken-of at in
+    let logged = logged-of at in
+    let taken = taken-of logged in
     let head = head-of taken in
     let begun = head .search .inv .0 in
     let w = head .search .inv .1 begun in
-    omega (arith, turn-room (begun .prepared) w (begun .begins) (taken .take .ensures))
+    omega (arith, turn-room (begun .prepared) w (begun .begins) (taken .take .ensures), logged .log-pair .ensures .0)
 
 search-again : tie.Need-search-again Inv-search μ-search
 search-again c =
@@ -215,7 +199,8 @@ search-again c =
     let goal = goal-of-no no in
     let rest = rest-of goal in
     let at = pair-of rest in
-    let taken = taken-of at in
+    let logged = logged-of at in
+    let taken = taken-of logged in
     let head = head-of taken in
     let begun = head .search .inv .0 in
     let w = head .search .inv .1 begun in
@@ -224,15 +209,15 @@ search-again c =
       (λ x.
           let asked = turn-asks (x .prepared) (head .search .inv .1 x) (x .begins) (taken .take .ensures) (at .pair-of .result) (at .pair-of .ensures) (rest .pair-estimate .ensures) in
           turn-more (x .prepared) (head .search .inv .1 x) (x .begins) (taken .take .ensures) (at .pair-of .result) (at .pair-of .ensures) (rest .pair-estimate .ensures)
-          (goal .is-goal .ensures) (no .if2 .left) (kept .1 .0) (settled .settle .ensures asked)),
-      omega (arith, turn-room (begun .prepared) w (begun .begins) (taken .take .ensures)),
+          (goal .is-goal .ensures) (logged .log-pair .ensures) (no .if2 .left) (kept .1 .0) (settled .settle .ensures asked)),
+      omega (arith, turn-room (begun .prepared) w (begun .begins) (taken .take .ensures), logged .log-pair .ensures .0),
       head .search .inv .3,
       kept .0 ∙ head .search .inv .4,
       kept .1 .0 ∙ head .search .inv .5,
       kept .1 .1 .0 ∙ taken .take .kept .1 .0 ∙ head .search .inv .6,
       kept .1 .1 .1 .0 ∙ taken .take .kept .1 .1 .0 ∙ head .search .inv .7,
       kept .1 .1 .1 .1 .0 ∙ head .search .inv .8,
-      simp length-set (head .search .inv .9),
+      logged .log-pair .kept .0 ∙ head .search .inv .9,
     )
 
 same-length : tie.Need-same-length Inv-search μ-search
@@ -318,8 +303,9 @@ same-length-11 c =
 
 same-length-12 : tie.Need-same-length-12 Inv-search μ-search
 same-length-12 c =
-    let head : tie.At-search Inv-search μ-search = search in
-    simp length-set (head .search .inv .9)
+    let logged : tie.After-log-pair Inv-search μ-search = search in
+    let head = head-of (taken-of logged) in
+    logged .log-pair .kept .0 ∙ head .search .inv .9
 
 returns-2 : tie.Need-returns-2 Inv-search μ-search
 returns-2 c =
@@ -327,7 +313,8 @@ returns-2 c =
     let goal = goal-of-yes yes in
     let rest = rest-of goal in
     let at = pair-of rest in
-    let taken = taken-of at in
+    let logged = logged-of at in
+    let taken = taken-of logged in
     let head = head-of taken in
     let opened = opened-of head in
     let none = none-of opened in
@@ -337,7 +324,7 @@ returns-2 c =
     let begun = begin-begun x (row .open-row .kept .0) (row .open-row .ensures) (first .pair-at .ensures) (none .empty .ensures) (opened .insert .ensures) in
     begin-searched x (row .open-row .kept .0) (row .open-row .ensures) (first .pair-at .ensures) (none .empty .ensures) (opened .insert .ensures)
     (turn-goal (x .prepared) (head .search .inv .1 begun) (begun .begins) (taken .take .ensures) (at .pair-of .result) (at .pair-of .ensures) (rest .pair-estimate .ensures)
-    (goal .is-goal .ensures) (yes .if2 .taken) refl refl refl refl)
+    (goal .is-goal .ensures) (logged .log-pair .ensures) (yes .if2 .taken) refl refl refl refl)
 
 pub search-spec : {M : Type 1} → statement M
 search-spec =
@@ -352,10 +339,7 @@ search-spec =
     insert-requires
     search-holds
     take-requires
-    cast-log
-    mul-log
-    slice-write-log
-    add-count
+    log-pair-requires
     index-1-pair-of
     pair-of-requires
     pair-estimate-requires

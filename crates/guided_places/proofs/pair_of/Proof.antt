@@ -1,10 +1,10 @@
--- `guided_loop::pair_of` meets its contract.
+-- `guided_places::pair_of` meets its contract.
 use mathlib.Core.Path.{sym, _∙_}
 use native.Mathlib.Omega.{arith}
-use Rattle.guided_loop.proofs.Placing.{at-begin, placed-begin, placed-step, placed-stage}
+use Rattle.guided_places.proofs.Placing.{at-begin, placed-begin, placed-step, placed-stage}
 use borrow.Author.Needs.{needs}
-use Rattle.guided_loop.proofs.places.pair_of.Statement.{statement}
-use Rattle.guided_loop.proofs.places.pair_of.Tie as tie
+use Rattle.guided_places.proofs.pair_of.Statement.{statement}
+use Rattle.guided_places.proofs.pair_of.Tie as tie
 
 pair-in-requires : tie.Need-pair-in-requires
 pair-in-requires c κs =

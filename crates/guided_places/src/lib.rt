@@ -1,17 +1,22 @@
-// Where an opened pair stands, and whether it is a goal pair.
+// One settled pair of the guided search: its stage and its node, whether it is a goal pair, and its entry in the log.
 ghost use mathlib.Core.Path.{_≡_};
 ghost use mathlib.Core.Bool.{false, _&&_};
 ghost use Prim.Native.Nat.{_+_, _≤_, _<_};
 ghost use lib.Dec.{eqb};
-ghost use lib.ListN.{getD};
+ghost use lib.ListN.{length, getD, set};
 ghost use Rattle.chart.specs.Ends.{tos};
-ghost use Rattle.guided_loop.specs.Places.{stageAt, Placed};
+ghost use Rattle.guided_places.specs.Places.{stageAt, Placed};
 use chart::to_at;
 use convert::wide;
 use definitions::Node;
 use definitions::Stage;
-use guided_expand::Pair;
 use trace::step_in;
+
+// A pair of a stage and a node.
+pub struct Pair {
+    pub stage: Stage,
+    pub node: Node,
+}
 
 // The stage and the node of pair x, which stands in the row of stage s.
 fn pair_in(row: &[u32; 256], s: Stage, x: usize) -> Pair
@@ -57,4 +62,14 @@ pub fn is_goal(yes: &[bool; 512], end: Stage, at: Pair) -> bool
         return yes[at.node.0 as usize];
     }
     false
+}
+
+// Writes pair x to the log, of which `count` entries are written, and counts it.
+pub fn log_pair(log: &mut [u32], count: usize, x: usize) -> usize
+    requires { ⌜ (count < length (now log)) × (x < 4294967296) ⌝ }
+    ensures { λ r. ⌜ (r ≡ count + 1) × (now (log .exit) ≡ set (now (log .entry)) count x) ⌝ }
+{
+    let next = count + 1;
+    log[count] = x as u32;
+    next
 }

@@ -1,8 +1,8 @@
--- `guided_loop::is_goal` meets its contract.
-use Rattle.guided_loop.proofs.Placing.{goal-there, goal-elsewhere}
+-- `guided_places::is_goal` meets its contract.
+use Rattle.guided_places.proofs.Placing.{goal-there, goal-elsewhere}
 use borrow.Author.Needs.{needs}
-use Rattle.guided_loop.proofs.places.is_goal.Statement.{statement}
-use Rattle.guided_loop.proofs.places.is_goal.Tie as tie
+use Rattle.guided_places.proofs.is_goal.Statement.{statement}
+use Rattle.guided_places.proofs.is_goal.Tie as tie
 
 cast-result : tie.Need-cast-result
 cast-result c = search needs

@@ -9,7 +9,7 @@ use lib.ListN.{getD}
 use borrow.Author.Tests.{eq-eqb, ne-eqb}
 use Rattle.theory.specs.Basics.{pick-true, pick-false}
 use Rattle.trace.specs.Trails.{stepIn}
-use Rattle.guided_loop.specs.Places.{stageAt, Placed}
+use Rattle.guided_places.specs.Places.{stageAt, Placed}
 
 module _ (via to : List ℕ) (begin start x : ℕ) where
   pub at-begin : x ≡ begin → stageAt via to begin start x ≡ start
