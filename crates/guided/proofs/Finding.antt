@@ -27,8 +27,8 @@ use Rattle.guided_model.specs.Bounds.{estimate-none, estimate-some}
 use Rattle.guided_model.specs.Based.{logged-plain}
 use Rattle.guided_model.specs.Charts.{GoalSettled, NoneSettled, none-begun}
 use Rattle.guided_model.specs.Guides.{estimate-until}
-use Rattle.guided_expand.specs.Estimates.{estimates, paired}
-use Rattle.guided_expand.specs.Work.{Work, past-same}
+use Rattle.guided_offers.specs.Estimates.{estimates, paired}
+use Rattle.guided_offers.specs.Work.{Work, past-same}
 use Rattle.guided_loop.specs.Search.{Start, Searched}
 use Rattle.guided_loop.specs.declared.turns.Ended.{Ended}
 use Rattle.guided.specs.Runs.{estimateIn, workOf, Room, Trails, Ending, Concludes, Runs}

@@ -30,7 +30,7 @@ use Rattle.checks.specs.Tables.{Read, chartIn, diagramIn, Tables}
 use Rattle.checks.specs.Ready.{walk, graphIn, automatonIn, count-is, width-is, sound-in, few-stages, few-nodes, cost-at}
 use Rattle.guided_model.specs.State.{Guide}
 use Rattle.guided_model.specs.Guides.{guide}
-use Rattle.guided_expand.specs.Estimates.{estimates, paired, Holds}
+use Rattle.guided_offers.specs.Estimates.{estimates, paired, Holds}
 use Rattle.guided_loop.specs.Search.{Prepared}
 use Rattle.guided.specs.Runs.{estimateIn}
 

@@ -15,7 +15,7 @@ use Rattle.trace.specs.Trails.{Traceable}
 use Rattle.chart.specs.Tables.{Steps}
 use Rattle.checks.specs.Tables.{Read, chartIn, diagramIn, pairsIn}
 use Rattle.checks.specs.Ready.{graphIn, automatonIn}
-use Rattle.guided_expand.specs.Work.{Work, work, Past}
+use Rattle.guided_offers.specs.Work.{Work, work, Past}
 use Rattle.guided_loop.specs.Search.{Space}
 use Rattle.guided_loop.specs.declared.turns.Ended.{Ended}
 

@@ -24,10 +24,11 @@ use Rattle.checks.specs.Ready.{Walk, walk, graphIn, automatonIn, count-is, widt
 use Rattle.guided_model.specs.Bounds.{stage-is, estimate-none, estimate-some}
 use Rattle.guided_model.specs.Moves.{Offerable, offerable, step-none, step-relaxed}
 use Rattle.guided_model.specs.Settling.{Target, target}
-use Rattle.guided_expand.specs.Estimates.{Estimates, paired}
+use Rattle.guided_offers.specs.Estimates.{Estimates, paired}
 use Rattle.guided_rows.specs.Fills.{RowOpened, opened-past}
 use Rattle.guided_rows.specs.Seen.{seen-row, offerable-seen, relaxed-seen, filled-keys, opened-seen}
-use Rattle.guided_expand.specs.Work.{Work, work, Progress, progress, queueOf, marksIn, seenIn, kept-same, Offering, Relaxes}
+use Rattle.guided_offers.specs.Work.{Work, work, marksIn, kept-same, Offering, Relaxes}
+use Rattle.guided_expand.specs.Progress.{Progress, progress, queueOf, seenIn}
 use Rattle.guided_expand.specs.Guides.{row-begins, row-ends}
 use Rattle.guided_expand.specs.Opening.{sourceStage, sourceNode, Opened, opens-on, tablesOf, Leading}
 use Rattle.guided_expand.specs.declared.steps.Source.{Source}

@@ -17,8 +17,9 @@ use Rattle.checks.specs.Tables.{Tables, chartIn, diagramIn}
 use Rattle.checks.specs.Ready.{Walk, graphIn, automatonIn, width-is, few-stages, few-nodes, few-steps, first-leave, first-order}
 use Rattle.guided_model.specs.Bounds.{dead-steps}
 use Rattle.guided_model.specs.Moves.{expanded-none}
-use Rattle.guided_expand.specs.Estimates.{Estimates}
-use Rattle.guided_expand.specs.Work.{Progress, seenIn, kept-same}
+use Rattle.guided_offers.specs.Estimates.{Estimates}
+use Rattle.guided_offers.specs.Work.{kept-same}
+use Rattle.guided_expand.specs.Progress.{Progress, seenIn}
 use Rattle.guided_expand.specs.Guides.{Guides}
 use Rattle.guided_expand.specs.Opening.{sourceStage, sourceNode, Opens, Opened, opens-on, opened-more, Opening, Leading}
 use Rattle.guided_expand.specs.declared.steps.Source.{Source}

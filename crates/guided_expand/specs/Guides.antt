@@ -10,7 +10,7 @@ use Rattle.definitions.specs.Pairs.{Estimate}
 use Rattle.definitions.specs.declared.Shape.{Shape}
 use Rattle.checks.specs.Ready.{Walk, Ready, graphIn, automatonIn, width-is, row-start}
 use Rattle.guided_model.specs.State.{Guide}
-use Rattle.guided_expand.specs.Estimates.{Estimates, Holds}
+use Rattle.guided_offers.specs.Estimates.{Estimates, Holds}
 
 pub record Guides (z : Shape) (on : Walk) (t : Estimates) : Type 0 where
   pub ready : Ready z on

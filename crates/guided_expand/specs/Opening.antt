@@ -15,8 +15,9 @@ use Rattle.checks.specs.Tables.{Read, pairsIn}
 use Rattle.checks.specs.Ready.{Walk, walk, graphIn, automatonIn}
 use Rattle.guided_model.specs.Moves.{Frontier, frontier-moved, Expanded, expanded-more}
 use Rattle.guided_model.specs.Settling.{Settling}
-use Rattle.guided_expand.specs.Estimates.{Estimates}
-use Rattle.guided_expand.specs.Work.{Progress, queueOf, seenIn, Kept, kept-more}
+use Rattle.guided_offers.specs.Estimates.{Estimates}
+use Rattle.guided_offers.specs.Work.{Kept, kept-more}
+use Rattle.guided_expand.specs.Progress.{Progress, queueOf, seenIn}
 use Rattle.guided_expand.specs.Guides.{Guides}
 use Rattle.guided_expand.specs.declared.steps.Source.{Source}
 

@@ -24,10 +24,11 @@ use Rattle.checks.specs.Ready.{Walk, graphIn, automatonIn, width-is, sound-in, 
 use Rattle.guided_model.specs.State.{Openable}
 use Rattle.guided_model.specs.Bounds.{stage-is}
 use Rattle.guided_model.specs.Charts.{Running, running-start}
-use Rattle.guided_expand.specs.Estimates.{Estimates}
+use Rattle.guided_offers.specs.Estimates.{Estimates}
 use Rattle.guided_rows.specs.Fills.{RowOpened, opened-past}
 use Rattle.guided_rows.specs.Seen.{seen, seen-long, seen-fresh, seen-set, opened-seen}
-use Rattle.guided_expand.specs.Work.{Work, work, Progress, progress, queueIn, queueOf, seenIn, Past, past-same, past-more}
+use Rattle.guided_offers.specs.Work.{Work, work, queueIn, Past, past-same, past-more}
+use Rattle.guided_expand.specs.Progress.{Progress, progress, queueOf, seenIn}
 use Rattle.guided_expand.specs.Guides.{Guides, row-begins, row-ends}
 use Rattle.guided_loop.specs.Search.{Start, Begun, Searched}
 use Rattle.guided_loop.specs.declared.turns.Ended.{Ended}

@@ -27,9 +27,10 @@ use Rattle.guided_model.specs.Moves.{Frontier}
 use Rattle.guided_model.specs.Chosen.{opened-low, chosen-frontier}
 use Rattle.guided_model.specs.Settling.{Located, Settling, located-start, located-via, chosen-settling, no-goal-stage, no-goal-node}
 use Rattle.guided_model.specs.Charts.{Running, GoalSettled, running-room, running-turn, running-goal, running-empty}
-use Rattle.guided_expand.specs.Estimates.{Estimates, paired}
+use Rattle.guided_offers.specs.Estimates.{Estimates, paired}
 use Rattle.guided_rows.specs.Seen.{seen, seen-filled, seen-row}
-use Rattle.guided_expand.specs.Work.{Work, work, Progress, progress, queueOf, seenIn, Past, past-more}
+use Rattle.guided_offers.specs.Work.{Work, work, Past, past-more}
+use Rattle.guided_expand.specs.Progress.{Progress, progress, queueOf, seenIn}
 use Rattle.guided_expand.specs.Guides.{Guides}
 use Rattle.guided_places.specs.declared.Pair.{Pair}
 use Rattle.guided_expand.specs.declared.steps.Source.{Source}

@@ -13,8 +13,9 @@ use Rattle.queue.specs.Queue.{Queue}
 use Rattle.checks.specs.Tables.{chartIn, diagramIn, pairsIn}
 use Rattle.checks.specs.Ready.{Walk, graphIn, automatonIn}
 use Rattle.guided_model.specs.Charts.{Running, GoalSettled, NoneSettled}
-use Rattle.guided_expand.specs.Estimates.{Estimates}
-use Rattle.guided_expand.specs.Work.{Work, Progress, queueOf, seenIn, Past}
+use Rattle.guided_offers.specs.Estimates.{Estimates}
+use Rattle.guided_offers.specs.Work.{Work, Past}
+use Rattle.guided_expand.specs.Progress.{Progress, queueOf, seenIn}
 use Rattle.guided_expand.specs.Guides.{Guides}
 use Rattle.guided_loop.specs.declared.turns.Ended.{Ended}
 

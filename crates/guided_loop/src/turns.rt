@@ -1,15 +1,15 @@
 // The search itself, over tables that are ready.
 ghost use Rattle.checks.specs.Tables.{read};
 ghost use Rattle.checks.specs.Ready.{walk};
-ghost use Rattle.guided_expand.specs.Estimates.{estimates};
-ghost use Rattle.guided_expand.specs.Work.{work};
+ghost use Rattle.guided_offers.specs.Estimates.{estimates};
+ghost use Rattle.guided_offers.specs.Work.{work};
 ghost use Rattle.guided_loop.specs.Search.{Start, Searched};
 use chart::ENDS;
 use definitions::Node;
 use definitions::Shape;
 use guided_expand::Source;
-use guided_expand::pair_estimate;
 use guided_expand::settle;
+use guided_offers::pair_estimate;
 use guided_places::is_goal;
 use guided_places::log_pair;
 use guided_places::pair_of;

@@ -6,8 +6,9 @@ use lib.ListN.{length}
 use Rattle.nodes.specs.Walks.{Tests}
 use Rattle.checks.specs.Tables.{read}
 use Rattle.checks.specs.Ready.{walk}
-use Rattle.guided_expand.specs.Estimates.{estimates}
-use Rattle.guided_expand.specs.Work.{work, progress}
+use Rattle.guided_offers.specs.Estimates.{estimates}
+use Rattle.guided_offers.specs.Work.{work}
+use Rattle.guided_expand.specs.Progress.{progress}
 use Rattle.guided_expand.specs.Opening.{Opening}
 use Rattle.guided_expand.proofs.Walking.{Walking, settles-stage, settles-node, settles-order, walk-start, walk-falls, walk-step, walk-branches, walk-dead, walk-leading, walk-more, walk-done}
 use borrow.Author.Needs.{needs}

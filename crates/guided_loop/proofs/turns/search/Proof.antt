@@ -7,8 +7,9 @@ use borrow.Author.Needs.{needs}
 use lib.ListN.{length}
 use Rattle.checks.specs.Tables.{read, pairsIn}
 use Rattle.checks.specs.Ready.{walk}
-use Rattle.guided_expand.specs.Estimates.{estimates}
-use Rattle.guided_expand.specs.Work.{work, progress}
+use Rattle.guided_offers.specs.Estimates.{estimates}
+use Rattle.guided_offers.specs.Work.{work}
+use Rattle.guided_expand.specs.Progress.{progress}
 use Rattle.guided_loop.specs.Search.{Turning, Begun}
 use Rattle.guided_loop.proofs.Beginning.{narrow, start-small, begin-row, begin-asks, begin-begun, begin-searched}
 use Rattle.guided_loop.proofs.Turning.{turn-takes, turn-none, turn-room, turn-logs, turn-placed, turn-inside, turn-estimate, turn-asks, turn-goal, turn-more}

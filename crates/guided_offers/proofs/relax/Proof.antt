@@ -1,9 +1,9 @@
--- `guided_expand::relax` meets its contract: one law for each way.
+-- `guided_offers::relax` meets its contract: one law for each way.
 use native.Mathlib.Omega.{arith}
-use Rattle.guided_expand.proofs.Relaxing.{relax-none, relax-inserts, relax-decreases, relax-opens, relax-lowers}
+use Rattle.guided_offers.proofs.Relaxing.{relax-none, relax-inserts, relax-decreases, relax-opens, relax-lowers}
 use borrow.Author.Needs.{needs}
-use Rattle.guided_expand.proofs.relax.relax.Statement.{statement}
-use Rattle.guided_expand.proofs.relax.relax.Tie as tie
+use Rattle.guided_offers.proofs.relax.Statement.{statement}
+use Rattle.guided_offers.proofs.relax.Tie as tie
 
 mul-old : tie.Need-mul-old
 mul-old c = search needs

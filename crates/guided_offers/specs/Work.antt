@@ -1,17 +1,14 @@
--- The five work slices of a search, what they hold before and after some pairs were opened or got a lower key, and how far a search has come.
+-- The five work slices of a search, and what they hold before and after some pairs were opened or got a lower key.
 -- Assumes nothing.
 use Prim.Native.Nat.{ℕ, _≤_, _<_}
 use mathlib.Core.Path.{_≡_, refl, _∙_}
-use mathlib.Core.Bool.{Bool}
 use mathlib.Core.List.{List}
 use lib.ListN.{length, drop}
 use Rattle.definitions.specs.Basics.{NONE}
-use Rattle.definitions.specs.Pairs.{Automaton}
 use Rattle.queue.specs.declared.Counts.{Counts}
 use Rattle.queue.specs.Queue.{State, state, Contains, Queue}
 use Rattle.guided_model.specs.State.{Marks, marks}
 use Rattle.guided_model.specs.Moves.{Offerable, Relaxed}
-use Rattle.guided_rows.specs.Seen.{seen}
 
 pub record Work : Type 0 where
   pub keys : List ℕ
@@ -30,22 +27,6 @@ queueIn x c = state (x .keys) (x .heap) (x .pos) (x .stack) c
 -- the keys, by what each pair got its key, and which pairs are open
 abbrev pub marksIn : Work → Counts → Marks
 marksIn x c = marks (x .keys) (x .via) (Contains (queueIn x c))
-
--- how far a search has come: the slices, which rows of keys are filled, and the counts of the queue
-pub record Progress : Type 0 where
-  pub slices : Work
-  pub filled : List Bool
-  pub counts : Counts
-
-abbrev pub progress : Work → List Bool → Counts → Progress
-progress x filled c = record { slices = x; filled = filled; counts = c }
-
-abbrev pub queueOf : Progress → State
-queueOf x = queueIn (x .slices) (x .counts)
-
--- as `marksIn`, where the pairs of rows that are not filled were never opened
-abbrev pub seenIn : Automaton → Progress → Marks
-seenIn a x = marks (seen a (x .filled) (x .slices .keys)) (x .slices .via) (Contains (queueOf x))
 
 -- nothing from p on has changed
 pub record Past (p : ℕ) (x x′ : Work) : Type 0 where

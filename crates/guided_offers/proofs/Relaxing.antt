@@ -11,7 +11,7 @@ use Rattle.queue.specs.declared.Counts.{Counts}
 use Rattle.queue.specs.Queue.{state, Contains, Inserting, Inserted, Decreasing, Decreased}
 use Rattle.queue.proofs.Facts.{keys-fit}
 use Rattle.guided_model.specs.Moves.{relaxed-none, relaxed-falls}
-use Rattle.guided_expand.specs.Work.{Work, work, queueIn, marksIn, kept-same, Offering, Relaxes}
+use Rattle.guided_offers.specs.Work.{Work, work, queueIn, marksIn, kept-same, Offering, Relaxes}
 
 module _ {floor y v : ℕ} {x : Work} {c : Counts} (o : Offering floor y v x c) where
   abbrev p : ℕ
