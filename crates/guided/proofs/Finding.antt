@@ -30,8 +30,9 @@ use Rattle.guided_model.specs.Guides.{estimate-until}
 use Rattle.guided_offers.specs.Estimates.{estimates, paired}
 use Rattle.guided_offers.specs.Work.{Work, past-same}
 use Rattle.guided_loop.specs.Search.{Start, Searched}
-use Rattle.guided_loop.specs.declared.turns.Ended.{Ended}
-use Rattle.guided.specs.Runs.{estimateIn, workOf, Room, Trails, Ending, Concludes, Runs}
+use Rattle.guided_ends.specs.declared.Ended.{Ended}
+use Rattle.guided_ends.specs.Ends.{Trails, Ending, Concludes}
+use Rattle.guided.specs.Runs.{estimateIn, workOf, Room, Runs}
 use Rattle.guided.proofs.Planning.{trail-short, outcome-some, outcome-none}
 use Rattle.guided.proofs.Preparing.{sound, run-narrow, run-guide, run-shown, run-prepared}
 

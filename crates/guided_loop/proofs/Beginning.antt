@@ -31,7 +31,7 @@ use Rattle.guided_offers.specs.Work.{Work, work, queueIn, Past, past-same, past
 use Rattle.guided_expand.specs.Progress.{Progress, progress, queueOf, seenIn}
 use Rattle.guided_expand.specs.Guides.{Guides, row-begins, row-ends}
 use Rattle.guided_loop.specs.Search.{Start, Begun, Searched}
-use Rattle.guided_loop.specs.declared.turns.Ended.{Ended}
+use Rattle.guided_ends.specs.declared.Ended.{Ended}
 
 module _ {z : Shape} {on : Walk} {t : Estimates} (by : Guides z on t) where
   abbrev pub g : Graph

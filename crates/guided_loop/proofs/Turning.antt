@@ -37,7 +37,7 @@ use Rattle.guided_expand.specs.declared.steps.Source.{Source}
 use Rattle.guided_expand.specs.Opening.{Opens, Opened, Opening}
 use Rattle.guided_places.specs.Places.{stageAt, Placed}
 use Rattle.guided_loop.specs.Search.{Prepared, Turning, Searched}
-use Rattle.guided_loop.specs.declared.turns.Ended.{Ended}
+use Rattle.guided_ends.specs.declared.Ended.{Ended}
 use Rattle.guided_places.proofs.Placing.{at-begin, at-step}
 use Rattle.guided_loop.proofs.Beginning.{g, a, tables, sound, width, narrow, pairs-are, few-pairs}
 

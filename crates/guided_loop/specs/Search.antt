@@ -17,7 +17,7 @@ use Rattle.guided_offers.specs.Estimates.{Estimates}
 use Rattle.guided_offers.specs.Work.{Work, Past}
 use Rattle.guided_expand.specs.Progress.{Progress, queueOf, seenIn}
 use Rattle.guided_expand.specs.Guides.{Guides}
-use Rattle.guided_loop.specs.declared.turns.Ended.{Ended}
+use Rattle.guided_ends.specs.declared.Ended.{Ended}
 
 -- all tables of the search
 pub record Prepared (z : Shape) (on : Walk) (t : Estimates) (yes-at : List Bool) : Type 0 where

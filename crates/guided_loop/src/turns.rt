@@ -7,6 +7,7 @@ ghost use Rattle.guided_loop.specs.Search.{Start, Searched};
 use chart::ENDS;
 use definitions::Node;
 use definitions::Shape;
+use guided_ends::Ended;
 use guided_expand::Source;
 use guided_expand::settle;
 use guided_offers::pair_estimate;
@@ -15,14 +16,6 @@ use guided_places::log_pair;
 use guided_places::pair_of;
 use guided_rows::open_row;
 use trace::pair_at;
-
-// Whether a goal pair was settled, its node and its cost; and how many pairs were settled.
-pub struct Ended {
-    pub found: bool,
-    pub node: Node,
-    pub cost: u32,
-    pub count: usize,
-}
 
 // Opens the pair of start and root, whose estimate is `rest`. Then settles open pairs in turn and writes each to the log, until a
 // goal pair is settled or none is open. Each row of keys is filled when its first pair is opened.

@@ -1,8 +1,8 @@
--- `guided::conclude` meets its contract.
-use Rattle.guided.proofs.Planning.{concludes-found, concludes-none}
+-- `guided_ends::conclude` meets its contract.
+use Rattle.guided_ends.proofs.Concluding.{concludes-found, concludes-none}
 use borrow.Author.Needs.{needs}
-use Rattle.guided.proofs.run.conclude.Statement.{statement}
-use Rattle.guided.proofs.run.conclude.Tie as tie
+use Rattle.guided_ends.proofs.conclude.Statement.{statement}
+use Rattle.guided_ends.proofs.conclude.Tie as tie
 
 index-1-write-plan : tie.Need-index-1-write-plan
 index-1-write-plan c = search needs
