@@ -18,7 +18,7 @@ use Rattle.definitions.specs.declared.Shape.{Shape}
 use Rattle.chart_stages.specs.FirstSteps.{FirstTable}
 use Rattle.chart_stages.specs.Estimates.{EstimateTable}
 use Rattle.nodes.specs.Walks.{Finishing}
-use Rattle.nodes.specs.Estimates.{Estimated}
+use Rattle.node_estimates.specs.Estimates.{Estimated}
 use Rattle.rows.specs.Rows.{rowStarts}
 use Rattle.trace.specs.Trails.{Trail}
 use Rattle.checks.specs.Tables.{Read, chartIn, diagramIn, Tables}

@@ -23,8 +23,8 @@ use Rattle.chart_stages.specs.Estimates.{EstimateTable}
 use Rattle.chart_stages.specs.Leaving.{Staged}
 use Rattle.nodes.specs.Walks.{Falls, Finishing}
 use Rattle.nodes.specs.Falling.{lo-falls, hi-falls}
-use Rattle.nodes.specs.Estimates.{Priced, Costs, Estimated}
-use Rattle.nodes.specs.Prices.{costs-of, priced}
+use Rattle.node_estimates.specs.Estimates.{Priced, Costs, Estimated}
+use Rattle.node_estimates.specs.Prices.{costs-of, priced}
 use Rattle.rows.specs.Rows.{rowStarts}
 use Rattle.checks.specs.Tables.{Read, chartIn, diagramIn, Tables}
 use Rattle.checks.specs.Ready.{walk, graphIn, automatonIn, count-is, width-is, sound-in, few-stages, few-nodes, cost-at}

@@ -15,7 +15,7 @@ use definitions::Shape;
 use guided_ends::conclude;
 use guided_loop::search;
 use guided_offers::pair_estimate;
-use nodes::fill_diagram_estimates;
+use node_estimates::fill_diagram_estimates;
 use nodes::fill_finishing;
 use rows::fill_row_starts;
 

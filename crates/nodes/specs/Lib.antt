@@ -2,5 +2,3 @@ pub mod Walks
 pub mod Falling
 pub mod Lowered
 pub mod Advancing
-pub mod Estimates
-pub mod Prices

@@ -17,10 +17,10 @@ use Rattle.definitions.specs.Promises.{shown}
 use Rattle.theory.specs.Basics.{either, lt-or-le}
 use Rattle.theory.specs.Estimates.{diagramEstimate-leaf, diagramEstimate-inner}
 use Rattle.diagram.specs.Tables.{Held}
 use Rattle.nodes.specs.Walks.{Falls}
 use Rattle.diagram.specs.Held.{held-step, held-lo, held-hi}
-use Rattle.nodes.specs.Estimates.{Priced, Joins, Costs, Estimated}
+use Rattle.node_estimates.specs.Estimates.{Priced, Joins, Costs, Estimated}
 use Rattle.nodes.proofs.Children.{child-below}
 
 -- each inner node below adds at most one step's cost, so that an estimate of node n is at most 1,000,000 × n, far below the mark
 abbrev Small : ℕ → ℕ → Type 0

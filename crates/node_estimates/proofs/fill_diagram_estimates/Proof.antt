@@ -1,13 +1,13 @@
--- `nodes::fill_diagram_estimates` meets its contract.
+-- `node_estimates::fill_diagram_estimates` meets its contract.
 use borrow.Author.Needs.{needs}
 use Prim.Native.Nat.{_+_, _-_, _<_}
 use mathlib.Core.Path.{_≡_}
 use native.Mathlib.Omega.{arith}
 use Rattle.diagram.specs.Files.{nodesIn}
 use Rattle.nodes.proofs.Children.{child-inside}
-use Rattle.nodes.proofs.Estimating.{Estimating, estimating-step, estimating-laws}
-use Rattle.nodes.proofs.estimates.fill_diagram_estimates.Statement.{statement}
-use Rattle.nodes.proofs.estimates.fill_diagram_estimates.Tie as tie
+use Rattle.node_estimates.proofs.Estimating.{Estimating, estimating-step, estimating-laws}
+use Rattle.node_estimates.proofs.fill_diagram_estimates.Statement.{statement}
+use Rattle.node_estimates.proofs.fill_diagram_estimates.Tie as tie
 
 abbrev Inv-loop : tie.InvT-loop
 Inv-loop estimates₀ inner cost count n₀ n-end estimates n =

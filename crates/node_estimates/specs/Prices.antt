@@ -13,7 +13,7 @@ use Rattle.definitions.specs.Plans.{graph}
 use Rattle.diagram.specs.Tables.{Held}
 use Rattle.diagram.specs.Held.{held-step}
 use Rattle.theory.specs.Variables.{variableCost-is, variableCost-cheap}
-use Rattle.nodes.specs.Estimates.{Priced, Costs}
+use Rattle.node_estimates.specs.Estimates.{Priced, Costs}
 
 -- a table of what the steps cost
 pub costs-of : (c : Chart) (cost : List ℕ) → ((k : ℕ) → k < length (c .steps) → getD cost k 0 ≡ graph c .cost k) → Costs c cost

@@ -1,10 +1,10 @@
-// The diagram estimates of the nodes.
+// The diagram estimates of the nodes of a rule diagram that stands in a table.
 ghost use mathlib.Core.Path.{_≡_};
 ghost use Prim.Native.Nat.{_+_, _<_};
 ghost use lib.ListN.{length, getD};
 ghost use Rattle.diagram.specs.Files.{nodesIn};
 ghost use Rattle.nodes.specs.Walks.{Falls};
-ghost use Rattle.nodes.specs.Estimates.{Priced, Joins, Estimated};
+ghost use Rattle.node_estimates.specs.Estimates.{Priced, Joins, Estimated};
 use definitions::NONE;
 use definitions::Node;
 use definitions::Shape;
