@@ -4,6 +4,11 @@ use super::queue::Queue;
 use super::{pack_via, prepare, trace_back, via_step, Tables, BY_NODE, BY_STAGE, NONE, NO_VIA};
 use crate::planner::Answer;
 
+/// Keys are cleared in blocks of so many.
+const BLOCK: usize = 128;
+/// As many blocks as there can be.
+const BLOCKS: usize = BY_STAGE * BY_NODE / BLOCK;
+
 /// Settles pairs in the order of their sums until the first goal pair.
 #[allow(clippy::too_many_arguments)]
 pub fn guided(
@@ -36,7 +41,7 @@ pub fn guided(
         keys: &mut keys[..pairs],
         via: &mut via[..pairs],
         queue: Queue::new(&mut heap[..pairs], &mut pos[..pairs], &mut stack[..pairs]),
-        cleared: [false; BY_STAGE],
+        cleared: [false; BLOCKS],
     };
     let (goal, count) = search.run(first_key, &mut log[..pairs]);
     match goal {
@@ -69,12 +74,12 @@ impl Estimates {
 struct Search<'a> {
     tables: &'a Tables,
     estimates: &'a Estimates,
-    /// By pair of a cleared row: least cost so far plus estimate, or never opened.
+    /// By pair of a cleared block: least cost so far plus estimate, or never opened.
     keys: &'a mut [u32],
     via: &'a mut [u32],
     queue: Queue<'a>,
-    /// By stage: whether its row of keys is cleared. It is when its first pair is opened.
-    cleared: [bool; BY_STAGE],
+    /// Whether each block of keys is cleared. It is when its first pair is opened.
+    cleared: [bool; BLOCKS],
 }
 
 impl Search<'_> {
@@ -83,8 +88,8 @@ impl Search<'_> {
         let tables = self.tables;
         let mut finishes = [false; BY_NODE];
         tables.mark_finishing(&mut finishes);
-        self.clear(tables.start);
         let start = tables.row(tables.start) + tables.root;
+        self.clear(start);
         self.keys[start] = first_key;
         self.via[start] = NO_VIA;
         self.queue.push(self.keys, first_key, start);
@@ -102,11 +107,14 @@ impl Search<'_> {
         (None, count)
     }
 
-    /// Clears a stage's row of keys if it isn't.
-    fn clear(&mut self, stage: usize) {
-        if !self.cleared[stage] {
-            self.cleared[stage] = true;
-            self.keys[self.tables.row(stage)..][..self.tables.references].fill(NONE);
+    /// Clears the block of keys that a pair's key stands in, if it isn't.
+    fn clear(&mut self, pair: usize) {
+        let block = pair / BLOCK;
+        if !self.cleared[block] {
+            self.cleared[block] = true;
+            let first = block * BLOCK;
+            let until = (first + BLOCK).min(self.keys.len());
+            self.keys[first..until].fill(NONE);
         }
     }
 
@@ -138,8 +146,8 @@ impl Search<'_> {
             let next = if inner.step() == step { inner.hi() } else { at };
             let to = tables.to(step);
             let Some(rest) = self.estimates.of(to, next) else { continue };
-            self.clear(to);
             let follower = tables.row(to) + next;
+            self.clear(follower);
             let key = cost + tables.cost[step] + rest;
             let known = self.keys[follower];
             if key < known {

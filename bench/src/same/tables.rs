@@ -120,14 +120,14 @@ impl Tables {
 
     /// First steps by stage, for the searches: steps stand in the order of their first stages.
     pub fn fill_first(&mut self) {
-        let mut stage = 0;
         for (at, ends) in self.ends[..self.steps].iter().enumerate() {
-            while stage <= from_of(*ends) {
-                self.first[stage] = at as u16;
-                stage += 1;
-            }
+            self.first[from_of(*ends) + 1] = at as u16 + 1;
         }
-        self.first[stage..].fill(self.steps as u16);
+        let mut most = 0;
+        for first in &mut self.first[1..=self.stages] {
+            most = most.max(*first);
+            *first = most;
+        }
     }
 
     /// Fills the diagram's tables; the chart's are filled already.

@@ -1,6 +1,6 @@
 -- The first step of each stage: how many steps leave stages below it. Steps are sorted by the stage that they leave, so those of one stage follow each other.
 -- Assumes nothing.
-use Prim.Native.Nat.{ℕ, zero, suc, _+_, _≤_, _<_}
+use Prim.Native.Nat.{ℕ, zero, suc, _+_, _-_, _≤_, _<_}
 use mathlib.Core.Path.{_≡_}
 use mathlib.Core.List.{List}
 use lib.Dec.{ltb}
@@ -25,7 +25,14 @@ firstStep g s = leavingBelow (g .count) (g .from) s
 -- the table of the stages that steps leave, sorted
 pub record SortedTable (count : ℕ) (from : List ℕ) : Type 0 where
   pub few : count ≤ 1024
+  pub inside : (e : ℕ) → e < count → getD from e 0 < 256
   pub sorted : (e f : ℕ) → e ≤ f → f < count → getD from e 0 ≤ getD from f 0
+
+-- at the stage behind each one that steps leave, the number behind the last of these; 0 at all others
+pub record EndTable (count : ℕ) (from ends : List ℕ) : Type 0 where
+  pub long : length ends ≡ 257
+  pub behind : (e : ℕ) → e < count → e < getD ends (getD from e 0 + 1) 0
+  pub real : (t : ℕ) → t ≤ 256 → 0 < getD ends t 0 → (getD ends t 0 ≤ count) × (getD from (getD ends t 0 - 1) 0 + 1 ≡ t)
 
 -- the table of first steps: for each stage, and for the stage count
 pub record FirstTable (count stages : ℕ) (from first : List ℕ) : Type 0 where
@@ -34,13 +41,6 @@ pub record FirstTable (count stages : ℕ) (from first : List ℕ) : Type 0 wher
 -- the same of a graph: the first step of each stage, and the step count at the stage count
 pub record Firsts (g : Graph) (first : List ℕ) : Type 0 where
   pub at : (s : ℕ) → s ≤ g .stages → getD first s 0 ≡ firstStep g s
-
--- from `start` on, k is the first step that leaves stage s or a later one
-pub record Walked (count : ℕ) (from : List ℕ) (start s k : ℕ) : Type 0 where
-  pub later : start ≤ k
-  pub inside : k ≤ count
-  pub below : (e : ℕ) → start ≤ e → e < k → getD from e 0 < s
-  pub stops : k < count → s ≤ getD from k 0
 
 -- ---- k splits the steps: those before it leave stages below s, the others don't
 

@@ -1,6 +1,6 @@
 -- The graph of a chart that stands in tables: its steps in order, and the first step of each stage.
 -- Assumes nothing.
-use Prim.Native.Nat.{ℕ}
+use Prim.Native.Nat.{ℕ, _<_}
 use mathlib.Core.Path.{_≡_, sym, _∙_}
 use mathlib.Core.List.{List}
 use lib.ListN.{length, getD}
@@ -21,6 +21,9 @@ module _ (z : Shape) (t : Steps) (v : Valid (graph (chartIn z t))) where
   pub held-sorted : SortedTable count (t .from)
   held-sorted = record {
     few = omega (arith, v .few, held-count count t);
+    inside = λ e l.
+        let i : e < length (heldSteps count t) = omega (arith, held-count count t) in
+        omega (arith, v .forward e i, v .inside e i, v .few-stages, held-from count t e l);
     sorted = λ e f h l. omega (arith, v .sorted e f h (omega (arith, held-count count t)), held-from count t e (omega arith), held-from count t f l);
   }
 

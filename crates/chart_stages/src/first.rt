@@ -1,39 +1,48 @@
 // The first step of each stage. Steps are sorted by the stage they leave, so those of one stage follow each other.
 ghost use mathlib.Core.Path.{_≡_};
-ghost use Prim.Native.Nat.{_≤_, _<_};
-ghost use lib.ListN.{length};
+ghost use Prim.Native.Nat.{_≤_, max};
+ghost use lib.ListN.{replicate};
 ghost use Rattle.chart.specs.Ends.{froms};
-ghost use Rattle.chart_stages.specs.FirstSteps.{SortedTable, FirstTable, Walked};
+ghost use Rattle.chart_stages.specs.FirstSteps.{SortedTable, EndTable, FirstTable};
 use chart::from_at;
-use definitions::Stage;
 
-// The first step from `start` on that leaves stage `s` or a later one; `count` where there is none.
-fn first_from(ends: &[u32; 1024], count: usize, start: usize, s: Stage) -> usize
-    requires { ⌜ (start ≤ count) × (count ≤ 1024) ⌝ }
-    ensures { λ r. ⌜ Walked count (froms (now (ends .entry))) start (s .0) r ⌝ }
+// The larger of two numbers.
+fn larger(a: u16, b: u16) -> u16
+    ensures { λ r. ⌜ r ≡ max a b ⌝ }
 {
-    let mut e = start;
-    while e < count {
-        let left = from_at(ends, e);
-        if s.0 <= left.0 {
-            return e;
-        }
-        e += 1;
+    if a < b {
+        return b;
     }
-    e
+    a
 }
 
-// Fills the table: for each stage, and for the stage count, how many steps leave stages below it, which is the number of
-// its first step.
-pub fn fill_first_steps(first: &mut [u16; 257], ends: &[u32; 1024], count: usize, stages: u16)
-    requires { ⌜ SortedTable count (froms (now ends)) × (stages ≤ 256) × (length (now first) ≡ 257) ⌝ }
-    ensures { λ _. ⌜ FirstTable count stages (froms (now (ends .entry))) (now (first .exit)) ⌝ }
+// Each step in turn leaves the number behind its own at the stage behind the one that it leaves, so that of a stage's
+// steps the last one's stays.
+fn mark_ends(first: &mut [u16; 257], ends: &[u32; 1024], count: usize)
+    requires { ⌜ (now first ≡ replicate 257 0) × SortedTable count (froms (now ends)) ⌝ }
+    ensures { λ _. ⌜ EndTable count (froms (now (ends .entry))) (now (first .exit)) ⌝ }
 {
     let mut e: usize = 0;
-    let mut s: u16 = 0;
-    while s <= stages {
-        e = first_from(ends, count, e, Stage(s));
-        first[s as usize] = e as u16;
+    while e < count {
+        let s = from_at(ends, e).0 as usize;
+        first[s + 1] = (e + 1) as u16;
+        e += 1;
+    }
+}
+
+// Fills a blank table: for each stage, and for the stage count, how many steps leave stages below it, which is the number of
+// its first step. Where a stage has no steps, that of the stage before goes on; no branch depends on how many it has.
+pub fn fill_first_steps(first: &mut [u16; 257], ends: &[u32; 1024], count: usize, stages: u16)
+    requires { ⌜ (now first ≡ replicate 257 0) × SortedTable count (froms (now ends)) × (stages ≤ 256) ⌝ }
+    ensures { λ _. ⌜ FirstTable count stages (froms (now (ends .entry))) (now (first .exit)) ⌝ }
+{
+    mark_ends(first, ends, count);
+    let last = stages as usize;
+    let mut most: u16 = 0;
+    let mut s: usize = 1;
+    while s <= last {
+        most = larger(most, first[s]);
+        first[s] = most;
         s += 1;
     }
 }

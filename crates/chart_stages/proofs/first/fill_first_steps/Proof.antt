@@ -1,30 +1,43 @@
 -- `chart_stages::fill_first_steps` meets its contract: the entries of the stages below s are right.
 use Prim.Native.Nat.{_+_, _-_, _≤_}
-use mathlib.Core.Path.{_≡_}
-use lib.ListN.{length}
-use Rattle.chart.specs.Ends.{froms}
-use Rattle.chart_stages.proofs.Firsts.{FirstsBefore, firsts-laws}
+use mathlib.Core.Path.{_≡_, _∙_}
+use lib.ListN.{length, length-set}
+use native.Mathlib.Omega.{arith}
 use borrow.Author.Needs.{needs}
+use Rattle.chart.specs.Ends.{froms}
+use Rattle.chart_stages.specs.FirstSteps.{SortedTable, EndTable}
+use Rattle.chart_stages.proofs.Firsts.{FirstsBefore, firsts-start, firsts-turn, firsts-done}
 use Rattle.chart_stages.proofs.first.fill_first_steps.Statement.{statement}
 use Rattle.chart_stages.proofs.first.fill_first_steps.Tie as tie
+use Rattle.chart_stages.proofs.first.fill_first_steps.Reads as reads
+use Rattle.chart_stages.proofs.first.fill_first_steps.Lts as lts
+use Rattle.chart_stages.proofs.first.larger.Reads as larger-reads
+use Rattle.chart_stages.proofs.first.mark_ends.Reads as mark-ends-reads
 
 abbrev Inv-loop : tie.InvT-loop
-Inv-loop first₀ ends count stages e₀ s₀ first e s = (s ≤ stages + 1) × (e ≤ count) × (length first ≡ 257) × FirstsBefore count (froms ends) first e s
+Inv-loop first₀ ends count stages last most₀ s₀ first most s =
+    (1 ≤ s) × (s ≤ stages + 1) × (length first ≡ 257) × (last ≡ stages)
+    × ((sorted : SortedTable count (froms ends)) (m : EndTable count (froms ends) first₀) → FirstsBefore sorted m s most first)
 
 abbrev μ-loop : tie.MeasureT-loop
-μ-loop first₀ ends count stages e₀ s₀ first e s = stages + 1 - s
+μ-loop first₀ ends count stages last most₀ s₀ first most s = stages + 1 - s
+
+mark-ends-requires : tie.Need-mark-ends-requires Inv-loop μ-loop
+mark-ends-requires c κs = search needs
 
 loop-holds : tie.Need-loop-holds Inv-loop μ-loop
-loop-holds c = search (firsts-laws, needs)
+loop-holds c =
+    let marked : tie.After-mark-ends Inv-loop μ-loop = search in
+    (search needs, search needs, marked .mark-ends .ensures .long, search needs, λ sorted m. firsts-start sorted m)
 
-first-from-requires : tie.Need-first-from-requires Inv-loop μ-loop
-first-from-requires c κs = search needs
+mul-larger : tie.Need-mul-larger Inv-loop μ-loop
+mul-larger c = search needs
 
-cast-first : tie.Need-cast-first Inv-loop μ-loop
-cast-first c = search needs
+element-copy-out-larger : tie.Need-element-copy-out-larger Inv-loop μ-loop
+element-copy-out-larger c = search needs
 
-cast-first-2 : tie.Need-cast-first-2 Inv-loop μ-loop
-cast-first-2 c = search needs
+larger-requires : tie.Need-larger-requires Inv-loop μ-loop
+larger-requires c κs = search needs
 
 mul-first : tie.Need-mul-first Inv-loop μ-loop
 mul-first c = search needs
@@ -39,10 +52,21 @@ loop-less : tie.Need-loop-less Inv-loop μ-loop
 loop-less c = search needs
 
 loop-again : tie.Need-loop-again Inv-loop μ-loop
-loop-again c = search (firsts-laws, needs)
+loop-again c =
+    let head : tie.At-loop Inv-loop μ-loop = search in (
+      search needs,
+      search needs,
+      length-set (head .loop .first) (head .loop .s) (c .larger .result) ∙ head .loop .inv .2,
+      search needs,
+      λ sorted m. firsts-turn sorted m (head .loop .inv .4 sorted m) (search needs) (search needs) (c .larger .ensures),
+    )
 
 returns : tie.Need-returns Inv-loop μ-loop
-returns c = search (firsts-laws, needs)
+returns c =
+    let head : tie.At-loop Inv-loop μ-loop = search in
+    let marked : tie.After-mark-ends Inv-loop μ-loop = search in
+    let start : tie.Start Inv-loop μ-loop = search in
+    firsts-done (start .pre .1) (marked .mark-ends .ensures) (head .loop .inv .4 (start .pre .1) (marked .mark-ends .ensures)) (search needs)
 
 pub fill-first-steps-spec : {M : Type 1} → statement M
 fill-first-steps-spec =
@@ -50,10 +74,11 @@ fill-first-steps-spec =
     (tie.spec
     Inv-loop
     μ-loop
+    mark-ends-requires
     loop-holds
-    first-from-requires
-    cast-first
-    cast-first-2
+    mul-larger
+    element-copy-out-larger
+    larger-requires
     mul-first
     element-write-first
     add-s

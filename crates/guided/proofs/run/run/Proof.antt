@@ -42,7 +42,7 @@ fill-first-steps-requires : tie.Need-fill-first-steps-requires
 fill-first-steps-requires c κs =
     let start : tie.Start = search in
     let sorted = run-sorted (start .pre .0) in
-    (sorted .0, sorted .1, search needs)
+    (refl, sorted .0, sorted .1)
 
 chart-estimates-requires : tie.Need-chart-estimates-requires
 chart-estimates-requires c κs =

@@ -26,7 +26,7 @@ fill-first-steps-requires : tie.Need-fill-first-steps-requires
 fill-first-steps-requires c κs =
     let start : tie.Start = search in
     let sorted = run-sorted (start .pre .0) in
-    (sorted .0, sorted .1, search needs)
+    (refl, sorted .0, sorted .1)
 
 cast-fill-row-starts : tie.Need-cast-fill-row-starts
 cast-fill-row-starts c = search needs
