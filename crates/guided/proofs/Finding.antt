@@ -20,7 +20,7 @@ use Rattle.chart_stages.specs.Estimates.{EstimateTable}
 use Rattle.nodes.specs.Walks.{Finishing}
 use Rattle.node_estimates.specs.Estimates.{Estimated}
 use Rattle.rows.specs.Rows.{rowStarts}
-use Rattle.trace.specs.Trails.{Trail}
+use Rattle.trace.specs.Trails.{Trail, trail-short}
 use Rattle.checks.specs.Tables.{Read, chartIn, diagramIn, Tables}
 use Rattle.checks.specs.Ready.{Walk, walk, Ready, graphIn, automatonIn, width-is}
 use Rattle.guided_model.specs.Bounds.{estimate-none, estimate-some}
@@ -33,7 +33,7 @@ use Rattle.guided_loop.specs.Search.{Start, Searched}
 use Rattle.guided_ends.specs.declared.Ended.{Ended}
 use Rattle.guided_ends.specs.Ends.{Trails, Ending, Concludes}
 use Rattle.guided.specs.Runs.{estimateIn, workOf, Room, Runs}
-use Rattle.guided.proofs.Planning.{trail-short, outcome-some, outcome-none}
+use Rattle.guided.proofs.Planning.{outcome-some, outcome-none}
 use Rattle.guided.proofs.Preparing.{sound, run-narrow, run-guide, run-shown, run-prepared}
 
 module _ {z : Shape} {t : Read} (in-tables : Tables z t) {byStage byNode : List ℕ} (es : EstimateTable (chartIn z t) byStage)

@@ -1,11 +1,10 @@
--- From the trail of a settled goal pair to the answer with its plan.
+-- The answer with a plan, and without one.
 -- Assumes nothing.
-use Prim.Native.Nat.{ℕ, _+_, _≤_}
+use Prim.Native.Nat.{ℕ, _≤_}
 use mathlib.Core.Path.{_≡_, refl, sym, _∙_, ap, subst}
-use mathlib.Core.List.{List, [], _∷_, _++_}
+use mathlib.Core.List.{List, _++_}
 use mathlib.Core.Option.{Option, none, some}
-use native.Mathlib.Omega.{arith}
-use lib.ListN.{length, take, drop, length-append}
+use lib.ListN.{length, take, drop}
 use lib.Seq.{take-append-seam, drop-append-seam}
 use Rattle.definitions.specs.Charts.{Chart}
 use Rattle.definitions.specs.Diagrams.{Diagram}
@@ -14,14 +13,7 @@ use Rattle.definitions.specs.Plans.{graph, Legal, cheapest}
 use Rattle.definitions.specs.Answers.{refusal, accepted}
 use Rattle.definitions.specs.Promises.{Outcome}
 use Rattle.definitions.specs.declared.Answer.{Answer}
-use Rattle.trace.specs.Trails.{Trail, begin, more}
 
--- a trail climbs from stage to stage
-pub trail-short : {via from : List ℕ} {width start s n : ℕ} {w : List ℕ} → Trail via from width start s n w → start + length w ≤ s
-trail-short begin = omega arith
-trail-short (more {s} {n} {e} {m} {w} a b c d f t) = omega (arith, trail-short t, length-append w (e ∷ []))
-
--- the answer with a plan, and without one
 module _ (c : Chart) (d : Diagram) (count : ℕ) (plan : List ℕ) where
   pub outcome-some : (m : ℕ) (w plan′ : List ℕ) (r : Answer) → cheapest c d ≡ some m → Legal c d w → wayCost (graph c) w ≡ m → length w ≤ length plan
       → r ≡ accepted m (length w) count → plan′ ≡ w ++ drop (length w) plan → length plan′ ≡ length plan → Outcome (cheapest c d) c d (r .count) plan plan′ r

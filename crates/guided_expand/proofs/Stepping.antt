@@ -17,7 +17,7 @@ use Rattle.definitions.specs.Pairs.{Automaton, Estimate, pair, stageOf}
 use Rattle.definitions.specs.Promises.{shown}
 use Rattle.definitions.specs.declared.Shape.{Shape}
 use Rattle.theory.specs.Ways.{step-cheap}
-use Rattle.trace.specs.Trails.{packed}
+use Rattle.via_marks.specs.Marks.{packed}
 use Rattle.chart.specs.Tables.{Steps}
 use Rattle.checks.specs.Tables.{Tables, pairsIn}
 use Rattle.checks.specs.Ready.{Walk, walk, graphIn, automatonIn, count-is, width-is, few-stages, few-nodes, few-steps, to-at, cost-at}

@@ -22,8 +22,8 @@ use nodes::branch;
 use nodes::descend_to;
 use nodes::lowered_at;
 use queue::Counts;
-use trace::packed;
 use trace::pair_at;
+use via_marks::packed;
 
 // A pair that is settled, its cost, and its key (cost plus estimate), which is the one last taken from the queue.
 pub struct Source {

@@ -16,7 +16,7 @@ use Rattle.definitions.specs.Promises.{goalAt}
 use Rattle.definitions.specs.declared.Shape.{Shape}
 use Rattle.theory.specs.Basics.{either, same-or-not, both, true-not-false}
 use Rattle.theory.specs.Product.{startPair}
-use Rattle.trace.specs.Trails.{stepIn}
+use Rattle.via_marks.specs.Marks.{stepIn}
 use Rattle.queue.specs.declared.Counts.{Counts}
 use Rattle.queue.specs.Queue.{state, Contains, Queue, Taken}
 use Rattle.queue.proofs.Facts.{contains-none, contains-pair, keys-fit}

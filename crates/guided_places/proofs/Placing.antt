@@ -8,7 +8,7 @@ use lib.Dec.{eqb}
 use lib.ListN.{getD}
 use borrow.Author.Tests.{eq-eqb, ne-eqb}
 use Rattle.theory.specs.Basics.{pick-true, pick-false}
-use Rattle.trace.specs.Trails.{stepIn}
+use Rattle.via_marks.specs.Marks.{stepIn}
 use Rattle.guided_places.specs.Places.{stageAt, Placed}
 
 module _ (via to : List ℕ) (begin start x : ℕ) where

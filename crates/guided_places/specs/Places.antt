@@ -6,7 +6,7 @@ use mathlib.Core.List.{List}
 use lib.Dec.{eqb}
 use lib.ListN.{length, getD}
 use Rattle.definitions.specs.Basics.{pick}
-use Rattle.trace.specs.Trails.{stepIn}
+use Rattle.via_marks.specs.Marks.{stepIn}
 
 -- the stage of pair x: the start stage, where x is the pair `begin` of start and root; else the stage that the step in `via` enters
 unfoldable pub stageAt : List ℕ → List ℕ → ℕ → ℕ → ℕ → ℕ

@@ -10,7 +10,7 @@ use chart::to_at;
 use convert::wide;
 use definitions::Node;
 use definitions::Stage;
-use trace::step_in;
+use via_marks::step_in;
 
 // A pair of a stage and a node.
 pub struct Pair {

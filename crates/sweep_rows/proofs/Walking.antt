@@ -15,7 +15,7 @@ use Rattle.definitions.specs.Pairs.{Automaton}
 use Rattle.theory.specs.Basics.{pick-true, either}
 use Rattle.theory.specs.Diagrams.{advance-leaf}
 use Rattle.theory.specs.Variables.{next-is}
-use Rattle.trace.specs.Trails.{packed}
+use Rattle.via_marks.specs.Marks.{packed}
 use Rattle.diagram.specs.Tables.{Marked}
 use Rattle.nodes.specs.Falling.{lo-falls}
 use Rattle.nodes.specs.Walks.{lowered, Falls, Lowers, BranchesTo}

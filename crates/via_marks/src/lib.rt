@@ -1,7 +1,7 @@
 // A step and a node packed in one number: what `via` keeps for each pair.
 ghost use mathlib.Core.Path.{_≡_};
 ghost use Prim.Native.Nat.{_<_};
-ghost use Rattle.trace.specs.Trails.{packed as packing, stepIn, nodeIn};
+ghost use Rattle.via_marks.specs.Marks.{packed as packing, stepIn, nodeIn};
 use definitions::Node;
 use definitions::Step;
 
