@@ -15,7 +15,8 @@ use Rattle.theory.specs.Basics.{pick-true, pick-false}
 use Rattle.buffer.specs.Appending.{Appended}
 use Rattle.buffer.specs.Appends.{append-none, append-both, append-long, append-inside}
 use Rattle.buffer.specs.Members.{append-next}
-use Rattle.report.specs.Text.{decimal, costWord, stepWord, settledWord, reachedWord, refusedWord, fileWord, placeWord, lineEnd}
+use Rattle.digits.specs.Decimal.{decimal}
+use Rattle.report.specs.Text.{costWord, stepWord, settledWord, reachedWord, refusedWord, fileWord, placeWord, lineEnd}
 use Rattle.report.specs.Text.{item, lastItem, stepLines, planText, refusedText, report}
 
 module _ {out o o′ : List ℕ} {at r r′ : ℕ} (h : at ≤ length out) where
