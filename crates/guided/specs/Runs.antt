@@ -1,6 +1,6 @@
 -- What the parts of the guided search ask of each other once both files stand in tables.
 -- Assumes nothing.
-use Prim.Native.Nat.{ℕ, _-_, _≤_}
+use Prim.Native.Nat.{_-_, _≤_}
 use lib.ListN.{length}
 use Rattle.definitions.specs.Pairs.{Estimate}
 use Rattle.definitions.specs.Plans.{cheapest, estimate}

@@ -9,7 +9,7 @@ use Rattle.theory.specs.Basics.{either, lt-or-le}
 use Rattle.diagram.specs.Tables.{MARK, Marked, Held}
 use Rattle.diagram.specs.Held.{held-step, held-lo}
 use Rattle.nodes.specs.Walks.{Falls, lowered, Lowers}
-use Rattle.nodes.specs.Lowered.{lowered-leaf, lowered-below, lowered-stop}
+use Rattle.nodes.specs.Descending.{lowered-leaf, lowered-below, lowered-stop}
 use Rattle.nodes.specs.Advancing.{unmarked}
 
 -- a walk from node n stands at m, and has as far to go as from n

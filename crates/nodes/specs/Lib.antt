@@ -1,4 +1,4 @@
 pub mod Walks
 pub mod Falling
-pub mod Lowered
+pub mod Descending
 pub mod Advancing

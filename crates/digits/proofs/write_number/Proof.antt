@@ -1,10 +1,10 @@
--- `report::write_number` meets its contract.
+-- `digits::write_number` meets its contract.
 use borrow.Author.Needs.{needs}
-use Rattle.report.proofs.Decimals.{Spelled, spell-start, spell-more, spelled-long, number-written}
-use Rattle.report.proofs.write_number.Statement.{statement}
-use Rattle.report.proofs.write_number.Tie as tie
-use Rattle.report.proofs.write_number.Reads as reads
-use Rattle.report.proofs.write_number.Lts as lts
+use Rattle.digits.proofs.Decimals.{Spelled, spell-start, spell-more, spelled-long, number-written}
+use Rattle.digits.proofs.write_number.Statement.{statement}
+use Rattle.digits.proofs.write_number.Tie as tie
+use Rattle.digits.proofs.write_number.Reads as reads
+use Rattle.digits.proofs.write_number.Lts as lts
 use Rattle.buffer.proofs.copy.Reads as copy-reads
 
 abbrev Inv-loop : tie.InvT-loop

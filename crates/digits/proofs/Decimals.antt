@@ -5,22 +5,11 @@ use mathlib.Core.Path.{_≡_, refl, sym, _∙_, ap, ap₂, subst}
 use mathlib.Core.List.{List, [], _∷_, _++_, append-assoc, append-nil}
 use native.Mathlib.Omega.{arith}
 use native.Mathlib.Decide.{decLt}
-use borrow.Author.Tests.{lt-ltb, le-ltb}
-use lib.Dec.{ltb}
 use lib.ListN.{length, take, drop, set, replicate, length-set, length-drop}
 use lib.Seq.{drop-cons, drop-set-lt, getD-set-same, take-all}
 use Rattle.buffer.specs.Appending.{Appended}
-use Rattle.report.specs.Text.{digit, digitsIn, decimal}
-use Rattle.theory.specs.Basics.{pick-true, pick-false}
-
--- a number below 10 is one digit
-digits-one : (k n : ℕ) → n < 10 → digitsIn (suc k) n ≡ digit n ∷ []
-unfolding digitsIn
-digits-one k n h = pick-true (ltb n 10) (digit n ∷ []) (digitsIn k (n / 10) ++ (digit (n % 10) ∷ [])) (lt-ltb n 10 h)
-
-digits-more : (k n : ℕ) → 10 ≤ n → digitsIn (suc k) n ≡ digitsIn k (n / 10) ++ (digit (n % 10) ∷ [])
-unfolding digitsIn
-digits-more k n h = pick-false (ltb n 10) (digit n ∷ []) (digitsIn k (n / 10) ++ (digit (n % 10) ∷ [])) (le-ltb n 10 h)
+use Rattle.digits.specs.Decimal.{digit, digitsIn, decimal}
+use Rattle.digits.specs.Lengths.{tens, digits-one, digits-more}
 
 -- any bound above the number gives the same digits
 digits-same : (k m n : ℕ) → n < k → n < m → digitsIn k n ≡ digitsIn m n
@@ -45,11 +34,6 @@ decimal-more n h = digits-more n n h ∙ ap (λ (z : List ℕ). z ++ (digit (n %
 
 -- ---- the loop that writes the digits from the back of 20 bytes
 
--- 10 to the power k
-unfoldable pub tens : ℕ → ℕ
-tens zero = 1
-tens (suc k) = 10 * tens k
-
 -- the digits of n are those of what is left and then the bytes from `first` on; what is left has at most `first` digits
 pub record Spelled (n : ℕ) (digits : List ℕ) (first left : ℕ) : Type 0 where
   pub same : decimal n ≡ decimal left ++ drop first digits
@@ -68,7 +52,6 @@ tens-quotient : (left t : ℕ) → left < 10 * t → left / 10 < t
 tens-quotient left t h = omega arith
 
 tens-down : (first left : ℕ) → 10 ≤ left → left < tens first → (2 ≤ first) × (left / 10 < tens (first - 1))
-unfolding tens
 tens-down zero left h g = absurd (omega arith)
 tens-down (suc zero) left h g = absurd (omega arith)
 tens-down (suc (suc k)) left h g =
@@ -76,7 +59,6 @@ tens-down (suc (suc k)) left h g =
     (omega arith, subst (λ (j : ℕ). left / 10 < tens j) e (tens-quotient left (tens (suc k)) g))
 
 pub spell-start : (n : ℕ) → n < 18446744073709551616 → Spelled n (replicate 20 0) 20 n
-unfolding tens
 spell-start n h = record { same = sym (append-nil (decimal n)); long = refl; some = omega arith; inside = omega arith; bound = omega arith }
 
 module _ {n left first : ℕ} {digits : List ℕ} (t : Spelled n digits first left) where
