@@ -1,12 +1,12 @@
--- `guided_rows::fill_keys` meets its contract.
+-- `guided_keys::fill_keys` meets its contract.
 use mathlib.Core.Path.{_≡_, refl}
 use Prim.Native.Nat.{_-_, _≤_}
 use native.Mathlib.Omega.{arith}
 use lib.ListN.{length, length-set}
-use Rattle.guided_rows.proofs.Filling.{Filling, fill-none, fill-more, fill-all}
+use Rattle.guided_keys.proofs.Filling.{Filling, fill-none, fill-more, fill-all}
 use borrow.Author.Needs.{needs}
-use Rattle.guided_rows.proofs.fill_keys.Statement.{statement}
-use Rattle.guided_rows.proofs.fill_keys.Tie as tie
+use Rattle.guided_keys.proofs.fill_keys.Statement.{statement}
+use Rattle.guided_keys.proofs.fill_keys.Tie as tie
 
 abbrev Inv-loop : tie.InvT-loop
 Inv-loop keys₀ first until k₀ keys k = (length keys ≡ length keys₀) × (first ≤ k) × (k ≤ until) × Filling first k until keys₀ keys
