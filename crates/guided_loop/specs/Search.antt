@@ -45,8 +45,8 @@ module _ {z : Shape} {on : Walk} {t : Estimates} (by : Guides z on t) where
   pub record Turning (x₀ : Work) (log₀ : List ℕ) (x : Progress) (log : List ℕ) (floor count : ℕ) : Type 0 where
     pub queue : Queue (pairsIn z) floor (queueOf x)
     pub fits : pairsIn z ≤ length (x .slices .via)
-    pub rows : length (x .filled) ≡ 256
-    pub running : Running (chartIn z (on .read)) (diagramIn z (on .read)) (by .h) (seenIn (automatonIn z (on .read)) x) log₀ log count floor
+    pub blocks : length (x .filled) ≡ 1024
+    pub running : Running (chartIn z (on .read)) (diagramIn z (on .read)) (by .h) (seenIn (pairsIn z) x) log₀ log count floor
     pub past : Past (pairsIn z) x₀ (x .slices)
 
   -- what the search leaves

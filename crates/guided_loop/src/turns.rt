@@ -10,15 +10,15 @@ use definitions::Shape;
 use guided_ends::Ended;
 use guided_expand::Source;
 use guided_expand::settle;
+use guided_keys::open_block;
 use guided_offers::pair_estimate;
 use guided_places::is_goal;
 use guided_places::log_pair;
 use guided_places::pair_of;
-use guided_rows::open_row;
 use trace::pair_at;
 
 // Opens the pair of start and root, whose estimate is `rest`. Then settles open pairs in turn and writes each to the log, until a
-// goal pair is settled or none is open. Each row of keys is filled when its first pair is opened.
+// goal pair is settled or none is open. Each block of keys is filled when its first pair is opened.
 pub fn search<'a>(
     keys: &mut [u32],
     via: &mut [u32],
@@ -51,10 +51,10 @@ pub fn search<'a>(
         → Searched (x .prepared .by) before (now (log .entry)) after (now (log .exit)) r)
         ⌝ }
 {
-    let width = z.nodes + 2;
+    let pairs = z.stages as usize * (z.nodes + 2);
     let begin = pair_at(row, z.start, z.root);
-    let mut filled = [false; 256];
-    open_row(keys, &mut filled, row, z.start, width);
+    let mut filled = [false; 1024];
+    open_block(keys, &mut filled, begin, pairs);
     let mut counts = queue::insert(keys, heap, pos, stack, queue::empty(), 0, begin, rest);
     let mut floor: u32 = 0;
     let mut count: usize = 0;
@@ -86,7 +86,7 @@ pub fn search<'a>(
             pos,
             stack,
             &mut filled,
-            width,
+            pairs,
             next.counts,
             steps,
             first,

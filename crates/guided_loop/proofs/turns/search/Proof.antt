@@ -10,15 +10,16 @@ use Rattle.checks.specs.Ready.{walk}
 use Rattle.guided_offers.specs.Estimates.{estimates}
 use Rattle.guided_offers.specs.Work.{work}
 use Rattle.guided_expand.specs.Progress.{progress}
+use Rattle.guided_expand.specs.Guides.{few-pairs}
 use Rattle.guided_loop.specs.Search.{Turning, Begun}
-use Rattle.guided_loop.proofs.Beginning.{narrow, start-small, begin-row, begin-asks, begin-begun, begin-searched}
+use Rattle.guided_loop.proofs.Beginning.{narrow, start-small, begin-block, begin-asks, begin-begun, begin-searched}
 use Rattle.guided_loop.proofs.Turning.{turn-takes, turn-none, turn-room, turn-logs, turn-placed, turn-inside, turn-estimate, turn-asks, turn-goal, turn-more}
 use Rattle.guided_loop.proofs.turns.search.Statement.{statement}
 use Rattle.guided_loop.proofs.turns.search.Tie as tie
 
 -- the loop was begun, and whatever it was begun by, this many turns are done
 abbrev Inv-search : tie.InvT-search
-Inv-search keys₀ via₀ heap₀ pos₀ stack₀ log₀ steps first row inner by-stage by-node yes' z rest width begin filled₀ counts₀ floor₀ count₀ found₀ node₀ cost₀ keys via heap pos stack log filled counts floor count found node cost =
+Inv-search keys₀ via₀ heap₀ pos₀ stack₀ log₀ steps first row inner by-stage by-node yes' z rest pairs begin filled₀ counts₀ floor₀ count₀ found₀ node₀ cost₀ keys via heap pos stack log filled counts floor count found node cost =
     Begun z (walk (read steps inner) first row) (estimates by-stage by-node) yes' begin (progress (work keys₀ via₀ heap₀ pos₀ stack₀) filled₀ counts₀) log₀
     × ((x : Begun z (walk (read steps inner) first row) (estimates by-stage by-node) yes' begin (progress (work keys₀ via₀ heap₀ pos₀ stack₀) filled₀ counts₀) log₀)
     → Turning (x .prepared .by) (work keys₀ via₀ heap₀ pos₀ stack₀) log₀ (progress (work keys via heap pos stack) filled counts) log floor count)
@@ -32,17 +33,17 @@ Inv-search keys₀ via₀ heap₀ pos₀ stack₀ log₀ steps first row inner b
     × (length log ≡ length log₀)
 
 abbrev μ-search : tie.MeasureT-search
-μ-search keys₀ via₀ heap₀ pos₀ stack₀ log₀ steps first row inner by-stage by-node yes' z rest width begin filled₀ counts₀ floor₀ count₀ found₀ node₀ cost₀ keys via heap pos stack log filled counts floor count found node cost = pairsIn z - count
+μ-search keys₀ via₀ heap₀ pos₀ stack₀ log₀ steps first row inner by-stage by-node yes' z rest pairs begin filled₀ counts₀ floor₀ count₀ found₀ node₀ cost₀ keys via heap pos stack log filled counts floor count found node cost = pairsIn z - count
 
 -- the places before a place
 abbrev start-of : tie.After-pair-at Inv-search μ-search → tie.Start Inv-search μ-search
 start-of c = search
 
-abbrev first-of : tie.After-open-row Inv-search μ-search → tie.After-pair-at Inv-search μ-search
+abbrev first-of : tie.After-open-block Inv-search μ-search → tie.After-pair-at Inv-search μ-search
 first-of c = search
 
-abbrev row-of : tie.After-empty Inv-search μ-search → tie.After-open-row Inv-search μ-search
-row-of c = search
+abbrev block-of : tie.After-empty Inv-search μ-search → tie.After-open-block Inv-search μ-search
+block-of c = search
 
 abbrev none-of : tie.After-insert Inv-search μ-search → tie.After-empty Inv-search μ-search
 none-of c = search
@@ -74,20 +75,29 @@ goal-of-no c = search
 abbrev no-of : tie.After-settle Inv-search μ-search → tie.Else2 Inv-search μ-search
 no-of c = search
 
-add-width : tie.Need-add-width Inv-search μ-search
-add-width c =
+cast-pairs : tie.Need-cast-pairs Inv-search μ-search
+cast-pairs c = search needs
+
+add-pairs : tie.Need-add-pairs Inv-search μ-search
+add-pairs c =
     let start : tie.Start Inv-search μ-search = search in
     omega (arith, narrow (start .pre .prepared .by))
+
+mul-pairs : tie.Need-mul-pairs Inv-search μ-search
+mul-pairs c =
+    let start : tie.Start Inv-search μ-search = search in
+    omega (arith, few-pairs (start .pre .prepared .by .ready))
 
 pair-at-requires : tie.Need-pair-at-requires Inv-search μ-search
 pair-at-requires c κs =
     let start : tie.Start Inv-search μ-search = search in
     start-small (start .pre .prepared .by)
 
-open-row-requires : tie.Need-open-row-requires Inv-search μ-search
-open-row-requires c κs =
-    let start : tie.Start Inv-search μ-search = search in
-    begin-row (start .pre)
+open-block-requires : tie.Need-open-block-requires Inv-search μ-search
+open-block-requires c κs =
+    let first : tie.After-pair-at Inv-search μ-search = search in
+    let start = start-of first in
+    begin-block (start .pre) (first .pair-at .ensures)
 
 empty-requires : tie.Need-empty-requires Inv-search μ-search
 empty-requires c κs = search needs
@@ -95,19 +105,19 @@ empty-requires c κs = search needs
 insert-requires : tie.Need-insert-requires Inv-search μ-search
 insert-requires c κs =
     let none : tie.After-empty Inv-search μ-search = search in
-    let row = row-of none in
-    let first = first-of row in
+    let block = block-of none in
+    let first = first-of block in
     let start = start-of first in
-    begin-asks (start .pre) (row .open-row .kept .0) (row .open-row .ensures) (first .pair-at .ensures) (none .empty .ensures)
+    begin-asks (start .pre) (first .pair-at .ensures) (block .open-block .kept .0) (block .open-block .ensures) (none .empty .ensures)
 
 search-holds : tie.Need-search-holds Inv-search μ-search
 search-holds c =
     let opened : tie.After-insert Inv-search μ-search = search in
     let none = none-of opened in
-    let row = row-of none in
-    let first = first-of row in
+    let block = block-of none in
+    let first = first-of block in
     let start = start-of first in
-    let begun = begin-begun (start .pre) (row .open-row .kept .0) (row .open-row .ensures) (first .pair-at .ensures) (none .empty .ensures) (opened .insert .ensures) in
+    let begun = begin-begun (start .pre) (first .pair-at .ensures) (block .open-block .kept .0) (block .open-block .ensures) (none .empty .ensures) (opened .insert .ensures) in
     (begun, (λ x. x .turning), omega arith, refl, refl, refl, refl, refl, refl, refl)
 
 take-requires : tie.Need-take-requires Inv-search μ-search
@@ -226,8 +236,8 @@ same-length c =
     let head : tie.At-search Inv-search μ-search = search in
     let opened = opened-of head in
     let none = none-of opened in
-    let row = row-of none in
-    head .search .inv .4 ∙ opened .insert .kept .0 ∙ row .open-row .kept .0
+    let block = block-of none in
+    head .search .inv .4 ∙ opened .insert .kept .0 ∙ block .open-block .kept .0
 
 same-length-2 : tie.Need-same-length-2 Inv-search μ-search
 same-length-2 c =
@@ -262,11 +272,11 @@ returns c =
     let head : tie.At-search Inv-search μ-search = search in
     let opened = opened-of head in
     let none = none-of opened in
-    let row = row-of none in
-    let first = first-of row in
+    let block = block-of none in
+    let first = first-of block in
     λ x.
-    let begun = begin-begun x (row .open-row .kept .0) (row .open-row .ensures) (first .pair-at .ensures) (none .empty .ensures) (opened .insert .ensures) in
-    begin-searched x (row .open-row .kept .0) (row .open-row .ensures) (first .pair-at .ensures) (none .empty .ensures) (opened .insert .ensures)
+    let begun = begin-begun x (first .pair-at .ensures) (block .open-block .kept .0) (block .open-block .ensures) (none .empty .ensures) (opened .insert .ensures) in
+    begin-searched x (first .pair-at .ensures) (block .open-block .kept .0) (block .open-block .ensures) (none .empty .ensures) (opened .insert .ensures)
     (turn-none (x .prepared) (head .search .inv .1 begun) (c .if1 .left) (head .search .inv .3) refl)
 
 same-length-7 : tie.Need-same-length-7 Inv-search μ-search
@@ -274,8 +284,8 @@ same-length-7 c =
     let head : tie.At-search Inv-search μ-search = search in
     let opened = opened-of head in
     let none = none-of opened in
-    let row = row-of none in
-    head .search .inv .4 ∙ opened .insert .kept .0 ∙ row .open-row .kept .0
+    let block = block-of none in
+    head .search .inv .4 ∙ opened .insert .kept .0 ∙ block .open-block .kept .0
 
 same-length-8 : tie.Need-same-length-8 Inv-search μ-search
 same-length-8 c =
@@ -319,11 +329,11 @@ returns-2 c =
     let head = head-of taken in
     let opened = opened-of head in
     let none = none-of opened in
-    let row = row-of none in
-    let first = first-of row in
+    let block = block-of none in
+    let first = first-of block in
     λ x.
-    let begun = begin-begun x (row .open-row .kept .0) (row .open-row .ensures) (first .pair-at .ensures) (none .empty .ensures) (opened .insert .ensures) in
-    begin-searched x (row .open-row .kept .0) (row .open-row .ensures) (first .pair-at .ensures) (none .empty .ensures) (opened .insert .ensures)
+    let begun = begin-begun x (first .pair-at .ensures) (block .open-block .kept .0) (block .open-block .ensures) (none .empty .ensures) (opened .insert .ensures) in
+    begin-searched x (first .pair-at .ensures) (block .open-block .kept .0) (block .open-block .ensures) (none .empty .ensures) (opened .insert .ensures)
     (turn-goal (x .prepared) (head .search .inv .1 begun) (begun .begins) (taken .take .ensures) (at .pair-of .result) (at .pair-of .ensures) (rest .pair-estimate .ensures)
     (goal .is-goal .ensures) (logged .log-pair .ensures) (yes .if2 .taken) refl refl refl refl)
 
@@ -333,9 +343,11 @@ search-spec =
     (tie.spec
     Inv-search
     μ-search
-    add-width
+    cast-pairs
+    add-pairs
+    mul-pairs
     pair-at-requires
-    open-row-requires
+    open-block-requires
     empty-requires
     insert-requires
     search-holds
