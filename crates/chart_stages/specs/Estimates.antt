@@ -56,25 +56,25 @@ abbrev pub Adds : ℕ → ℕ → Type 0
 Adds c rest = (rest ≡ NONE) ⊎ (c + rest < NONE)
 
 -- the smaller of what is known and of c more than the rest, where NONE shows none
-pub record Lowered (known c rest r : ℕ) : Type 0 where
+pub record SmallerSum (known c rest r : ℕ) : Type 0 where
   pub kept : rest ≡ NONE → r ≡ known
   pub less : rest < NONE → r ≡ min known (c + rest)
 
 -- P is what is known, Q the rest
 module _ (P Q : ℕ → Type 0) (few : (m : ℕ) → Q m → m ≤ 510000000) (c : ℕ) (small : c ≤ 510000000) where
-  lowered-shown : (a b : Option ℕ) (known rest r : ℕ) → IsLeast P a → IsLeast Q b → known ≡ shown a → rest ≡ shown b → Lowered known c rest r
+  smaller-shown : (a b : Option ℕ) (known rest r : ℕ) → IsLeast P a → IsLeast Q b → known ≡ shown a → rest ≡ shown b → SmallerSum known c rest r
       → r ≡ shown (smaller a (sumOf (some c) b))
   unfolding smaller sumOf
-  lowered-shown none none known rest r p q ek er l = omega (arith, l .kept er)
-  lowered-shown (some x) none known rest r p q ek er l = omega (arith, l .kept er)
-  lowered-shown none (some y) known rest r p q ek er l = omega (arith, few y (q .0), l .less (omega (arith, few y (q .0))))
-  lowered-shown (some x) (some y) known rest r p q ek er l = omega (arith, few y (q .0), l .less (omega (arith, few y (q .0))))
+  smaller-shown none none known rest r p q ek er l = omega (arith, l .kept er)
+  smaller-shown (some x) none known rest r p q ek er l = omega (arith, l .kept er)
+  smaller-shown none (some y) known rest r p q ek er l = omega (arith, few y (q .0), l .less (omega (arith, few y (q .0))))
+  smaller-shown (some x) (some y) known rest r p q ek er l = omega (arith, few y (q .0), l .less (omega (arith, few y (q .0))))
 
-  shows-lowered : (known rest r : ℕ) → Shows P known → Shows Q rest → Lowered known c rest r → Shows (λ m. P m ⊎ More c Q m) r
-  shows-lowered known rest r p q l = (
+  shows-smaller : (known rest r : ℕ) → Shows P known → Shows Q rest → SmallerSum known c rest r → Shows (λ m. P m ⊎ More c Q m) r
+  shows-smaller known rest r p q l = (
     smaller (p .0) (sumOf (some c) (q .0)),
     least-either P (More c Q) (p .0) (sumOf (some c) (q .0)) (p .1) (least-more c Q (q .0) (q .1)),
-    lowered-shown (p .0) (q .0) known rest r (p .1) (q .1) (p .2) (q .2) l,
+    smaller-shown (p .0) (q .0) known rest r (p .1) (q .1) (p .2) (q .2) l,
   )
 
   -- where there is a rest, the sum is below the mark
@@ -172,10 +172,10 @@ module _ (g : Graph) (v : Valid g) where
         pub by-adds : Adds (g .cost e) (getD estimates (g .to e) 0)
         by-adds = rest-adds (WayBy g e s) (WayFrom g (g .to e)) (cheap (g .to e)) (g .cost e) (step-cheap g v e i) (getD estimates (g .to e) 0) rest
 
-        pub by-turn : (known r : ℕ) → Shows (WayBy g e s) known → Lowered known (g .cost e) (getD estimates (g .to e) 0) r → Shows (WayBy g (e + 1) s) r
+        pub by-turn : (known r : ℕ) → Shows (WayBy g e s) known → SmallerSum known (g .cost e) (getD estimates (g .to e) 0) r → Shows (WayBy g (e + 1) s) r
         by-turn known r k l =
             shows-same _ (WayBy g (e + 1) s) r joined split
-            (shows-lowered (WayBy g e s) (WayFrom g (g .to e)) (cheap (g .to e)) (g .cost e) (step-cheap g v e i) known (getD estimates (g .to e) 0) r k rest l)
+            (shows-smaller (WayBy g e s) (WayFrom g (g .to e)) (cheap (g .to e)) (g .cost e) (step-cheap g v e i) known (getD estimates (g .to e) 0) r k rest l)
 
     -- before the end each way begins with a step that leaves the stage
     pub by-all : s < g .end → (r : ℕ) → Shows (WayBy g (firstStep g (s + 1)) s) r → Shows (WayFrom g s) r

@@ -3,7 +3,7 @@ ghost use Prim.Native.Nat.{_<_};
 ghost use lib.ListN.{getD};
 ghost use Rattle.definitions.specs.Plans.{graph};
 ghost use Rattle.chart.specs.Tables.{stepsIn, chartIn};
-ghost use Rattle.chart_stages.specs.Estimates.{Adds, Lowered, WayFrom, Shows, EstimateTable};
+ghost use Rattle.chart_stages.specs.Estimates.{Adds, SmallerSum, WayFrom, Shows, EstimateTable};
 ghost use Rattle.chart_stages.specs.Leaving.{Staged, Leaving};
 use chart_fields::COST;
 use chart_fields::ENDS;
@@ -15,7 +15,7 @@ use definitions::Stage;
 // The smaller of what is known and the cost through a step to stage `t`.
 fn through(known: u32, estimates: &[u32; 256], t: Stage, cost: u32) -> u32
     requires { ⌜ (t .0 < 256) × Adds cost (getD (now estimates) (t .0) 0) ⌝ }
-    ensures { λ r. ⌜ Lowered known cost (getD (now (estimates .entry)) (t .0) 0) r ⌝ }
+    ensures { λ r. ⌜ SmallerSum known cost (getD (now (estimates .entry)) (t .0) 0) r ⌝ }
 {
     let rest = estimates[t.0 as usize];
     if rest == NONE {

@@ -18,21 +18,22 @@ use Rattle.definitions.specs.declared.Shape.{Shape}
 use Rattle.chart_stages.specs.FirstSteps.{FirstTable}
 use Rattle.chart_stages.specs.Estimates.{EstimateTable}
 use Rattle.nodes.specs.Walks.{Finishing}
-use Rattle.nodes.specs.Estimates.{Estimated}
+use Rattle.node_estimates.specs.Estimates.{Estimated}
 use Rattle.rows.specs.Rows.{rowStarts}
-use Rattle.trace.specs.Trails.{Trail}
+use Rattle.trace.specs.Trails.{Trail, trail-short}
 use Rattle.checks.specs.Tables.{Read, chartIn, diagramIn, Tables}
 use Rattle.checks.specs.Ready.{Walk, walk, Ready, graphIn, automatonIn, width-is}
 use Rattle.guided_model.specs.Bounds.{estimate-none, estimate-some}
 use Rattle.guided_model.specs.Based.{logged-plain}
 use Rattle.guided_model.specs.Charts.{GoalSettled, NoneSettled, none-begun}
 use Rattle.guided_model.specs.Guides.{estimate-until}
-use Rattle.guided_expand.specs.Estimates.{estimates, paired}
-use Rattle.guided_expand.specs.Work.{Work, past-same}
+use Rattle.guided_offers.specs.Estimates.{estimates, paired}
+use Rattle.guided_offers.specs.Work.{Work, past-same}
 use Rattle.guided_loop.specs.Search.{Start, Searched}
-use Rattle.guided_loop.specs.declared.turns.Ended.{Ended}
-use Rattle.guided.specs.Runs.{estimateIn, workOf, Room, Trails, Ending, Concludes, Runs}
-use Rattle.guided.proofs.Planning.{trail-short, outcome-some, outcome-none}
+use Rattle.guided_ends.specs.declared.Ended.{Ended}
+use Rattle.guided_ends.specs.Ends.{Trails, Ending, Concludes}
+use Rattle.guided.specs.Runs.{estimateIn, workOf, Room, Runs}
+use Rattle.guided.proofs.Planning.{outcome-some, outcome-none}
 use Rattle.guided.proofs.Preparing.{sound, run-narrow, run-guide, run-shown, run-prepared}
 
 module _ {z : Shape} {t : Read} (in-tables : Tables z t) {byStage byNode : List ℕ} (es : EstimateTable (chartIn z t) byStage)

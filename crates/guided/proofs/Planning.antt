@@ -1,12 +1,10 @@
--- From the trail of a settled goal pair to the plan.
+-- The answer with a plan, and without one.
 -- Assumes nothing.
-use Prim.Native.Nat.{ℕ, _+_, _≤_}
+use Prim.Native.Nat.{ℕ, _≤_}
 use mathlib.Core.Path.{_≡_, refl, sym, _∙_, ap, subst}
-use mathlib.Core.Bool.{true, false}
-use mathlib.Core.List.{List, [], _∷_, _++_}
+use mathlib.Core.List.{List, _++_}
 use mathlib.Core.Option.{Option, none, some}
-use native.Mathlib.Omega.{arith}
-use lib.ListN.{length, take, drop, length-append}
+use lib.ListN.{length, take, drop}
 use lib.Seq.{take-append-seam, drop-append-seam}
 use Rattle.definitions.specs.Charts.{Chart}
 use Rattle.definitions.specs.Diagrams.{Diagram}
@@ -15,34 +13,6 @@ use Rattle.definitions.specs.Plans.{graph, Legal, cheapest}
 use Rattle.definitions.specs.Answers.{refusal, accepted}
 use Rattle.definitions.specs.Promises.{Outcome}
 use Rattle.definitions.specs.declared.Answer.{Answer}
-use Rattle.definitions.specs.declared.Shape.{Shape}
-use Rattle.theory.specs.Basics.{true-not-false}
-use Rattle.trace.specs.Trails.{Trail, begin, more}
-use Rattle.chart.specs.Tables.{Steps}
-use Rattle.guided_loop.specs.declared.turns.Ended.{Ended}
-use Rattle.guided.specs.Runs.{Trails, Ending, Concludes}
-
--- a trail climbs from stage to stage
-pub trail-short : {via from : List ℕ} {width start s n : ℕ} {w : List ℕ} → Trail via from width start s n w → start + length w ≤ s
-trail-short begin = omega arith
-trail-short (more {s} {n} {e} {m} {w} a b c d f t) = omega (arith, trail-short t, length-append w (e ∷ []))
-
--- ---- `conclude`
-
-module _ {z : Shape} {via : List ℕ} {steps : Steps} {row : List ℕ} {e : Ended} {plan : List ℕ} (t : Ending z via steps row e plan) where
-  pub concludes-found : e .found ≡ true → {l : ℕ} {plan′ : List ℕ} → ((x : Trails z via steps row e) → (l ≡ length (x .steps)) × (plan′ ≡ x .steps ++ drop l plan)) → {r : Answer}
-      → r ≡ accepted (e .cost) l (e .count) → Concludes z via steps row e plan plan′ r
-  concludes-found f written er = record {
-    found = λ q x.
-        let w = written x in
-        (er ∙ ap (λ (k : ℕ). accepted (e .cost) k (e .count)) (w .0), w .1 ∙ ap (λ (k : ℕ). x .steps ++ drop k plan) (w .0));
-    not-found = λ q. absurd (true-not-false (sym f ∙ q));
-  }
-
-  pub concludes-none : e .found ≡ false → {r : Answer} → r ≡ refusal 8 0 0 (e .count) → Concludes z via steps row e plan plan r
-  concludes-none f er = record { found = λ q. absurd (true-not-false (sym q ∙ f)); not-found = λ q. (er, refl) }
-
--- ---- the answer with a plan, and without one
 
 module _ (c : Chart) (d : Diagram) (count : ℕ) (plan : List ℕ) where
   pub outcome-some : (m : ℕ) (w plan′ : List ℕ) (r : Answer) → cheapest c d ≡ some m → Legal c d w → wayCost (graph c) w ≡ m → length w ≤ length plan

@@ -23,14 +23,14 @@ use Rattle.chart_stages.specs.Estimates.{EstimateTable}
 use Rattle.chart_stages.specs.Leaving.{Staged}
 use Rattle.nodes.specs.Walks.{Falls, Finishing}
 use Rattle.nodes.specs.Falling.{lo-falls, hi-falls}
-use Rattle.nodes.specs.Estimates.{Priced, Costs, Estimated}
-use Rattle.nodes.specs.Prices.{costs-of, priced}
+use Rattle.node_estimates.specs.Estimates.{Priced, Costs, Estimated}
+use Rattle.node_estimates.specs.Prices.{costs-of, priced}
 use Rattle.rows.specs.Rows.{rowStarts}
 use Rattle.checks.specs.Tables.{Read, chartIn, diagramIn, Tables}
 use Rattle.checks.specs.Ready.{walk, graphIn, automatonIn, count-is, width-is, sound-in, few-stages, few-nodes, cost-at}
 use Rattle.guided_model.specs.State.{Guide}
 use Rattle.guided_model.specs.Guides.{guide}
-use Rattle.guided_expand.specs.Estimates.{estimates, paired, Holds}
+use Rattle.guided_offers.specs.Estimates.{estimates, paired, Holds}
 use Rattle.guided_loop.specs.Search.{Prepared}
 use Rattle.guided.specs.Runs.{estimateIn}
 

@@ -1,48 +1,23 @@
 // The guided search of two files: the checks, the search, and the plan.
 ghost use Rattle.definitions.specs.Promises.{guidedSlices, GuidedCall};
-ghost use Rattle.chart.specs.Tables.{stepsIn};
 ghost use Rattle.checks.specs.Tables.{read, Tables};
-ghost use Rattle.guided.specs.Runs.{Room, Runs, Ending, Concludes};
+ghost use Rattle.guided.specs.Runs.{Room, Runs};
 use chart_fields::COST;
 use chart_fields::ENDS;
 use chart_stages::chart_estimates;
 use chart_stages::fill_first_steps;
-use checks::accepted;
 use checks::load;
 use checks::refusal;
 use convert::lesser;
 use definitions::Answer;
 use definitions::NONE;
 use definitions::Shape;
-use guided_expand::pair_estimate;
-use guided_loop::Ended;
+use guided_ends::conclude;
 use guided_loop::search;
-use nodes::fill_diagram_estimates;
+use guided_offers::pair_estimate;
+use node_estimates::fill_diagram_estimates;
 use nodes::fill_finishing;
 use rows::fill_row_starts;
-use trace::write_plan;
-
-// The answer by how the search ended; where a goal pair was settled, the trail from the start to it is written as the plan.
-fn conclude<'a>(
-    via: &'a [u32],
-    steps: &'a [[u32; 1024]; 2],
-    row: &'a [u32; 256],
-    z: Shape,
-    ended: Ended,
-    plan: &mut [u16],
-) -> Answer
-    requires { ⌜ Ending z (now via) (stepsIn (now steps)) (now row) ended (now plan) ⌝ }
-    ensures { λ r. ⌜
-        (let table = stepsIn (now (steps .entry)) in
-        Concludes z (now (via .entry)) table (now (row .entry)) ended (now (plan .entry)) (now (plan .exit)) r)
-        ⌝ }
-{
-    if ended.found {
-        let length = write_plan(via, &steps[ENDS], row, z.start, z.end, ended.node, plan);
-        return accepted(ended.cost, length, ended.count);
-    }
-    refusal(8, 0, 0, ended.count)
-}
 
 // The guided search of a chart and a diagram that stand in tables.
 fn run<'a>(

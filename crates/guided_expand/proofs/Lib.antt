@@ -1,3 +1,2 @@
-mod Relaxing
 mod Stepping
 mod Walking

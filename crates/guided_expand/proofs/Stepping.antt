@@ -1,8 +1,8 @@
--- One step from a pair that is settled: where it leads, the row that it enters, what it offers, and what `offer` leaves.
+-- One step from a pair that is settled: where it leads, the block of keys that it enters, what it offers, and what `offer` leaves.
 -- Assumes nothing.
 use Prim.Native.Nat.{ℕ, _+_, _*_, _≤_, _<_}
-use mathlib.Core.Path.{_≡_, refl, sym, _∙_, ap, ap₂}
-use mathlib.Core.Bool.{Bool, true, false}
+use mathlib.Core.Path.{_≡_, refl, _∙_, ap, ap₂, subst}
+use mathlib.Core.Bool.{Bool, true}
 use mathlib.Core.List.{List}
 use mathlib.Core.Logic.{inl}
 use mathlib.Core.Option.{some}
@@ -13,26 +13,27 @@ use Rattle.queue.specs.declared.Counts.{Counts}
 use Rattle.queue.specs.Queue.{Contains}
 use Rattle.queue.proofs.Facts.{keys-fit, contains-pair, contains-keys, queue-keys}
 use Rattle.definitions.specs.Ways.{Graph}
-use Rattle.definitions.specs.Pairs.{Automaton, Estimate, pair, stageOf}
+use Rattle.definitions.specs.Pairs.{Automaton, Estimate, pair}
 use Rattle.definitions.specs.Promises.{shown}
 use Rattle.definitions.specs.declared.Shape.{Shape}
 use Rattle.theory.specs.Ways.{step-cheap}
-use Rattle.trace.specs.Trails.{packed}
+use Rattle.via_marks.specs.Marks.{packed}
 use Rattle.chart.specs.Tables.{Steps}
 use Rattle.checks.specs.Tables.{Tables, pairsIn}
 use Rattle.checks.specs.Ready.{Walk, walk, graphIn, automatonIn, count-is, width-is, few-stages, few-nodes, few-steps, to-at, cost-at}
-use Rattle.guided_model.specs.Bounds.{stage-is, estimate-none, estimate-some}
+use Rattle.guided_model.specs.Bounds.{estimate-none, estimate-some}
 use Rattle.guided_model.specs.Moves.{Offerable, offerable, step-none, step-relaxed}
 use Rattle.guided_model.specs.Settling.{Target, target}
-use Rattle.guided_expand.specs.Estimates.{Estimates, paired}
-use Rattle.guided_rows.specs.Fills.{RowOpened, opened-past}
-use Rattle.guided_rows.specs.Seen.{seen-row, offerable-seen, relaxed-seen, filled-keys, opened-seen}
-use Rattle.guided_expand.specs.Work.{Work, work, Progress, progress, queueOf, marksIn, seenIn, kept-same, Offering, Relaxes}
-use Rattle.guided_expand.specs.Guides.{row-begins, row-ends}
+use Rattle.guided_offers.specs.Estimates.{Estimates, paired}
+use Rattle.guided_keys.specs.Fills.{isFilled, BlockOpened}
+use Rattle.guided_keys.specs.Seen.{seen-block, offerable-seen, relaxed-seen, opened-seen}
+use Rattle.guided_offers.specs.Work.{Work, work, marksIn, kept-same, Offering, Relaxes}
+use Rattle.guided_expand.specs.Progress.{Progress, progress, queueOf, seenIn}
+use Rattle.guided_expand.specs.Guides.{row-begins, few-pairs}
 use Rattle.guided_expand.specs.Opening.{sourceStage, sourceNode, Opened, opens-on, tablesOf, Leading}
 use Rattle.guided_expand.specs.declared.steps.Source.{Source}
 
-module _ {steps : Steps} {row : List ℕ} {t : Estimates} {from : Source} {width e to : ℕ} {x : Progress} (l : Leading steps row t from width e to x) where
+module _ {steps : Steps} {row : List ℕ} {t : Estimates} {from : Source} {pairs e to : ℕ} {x : Progress} (l : Leading steps row t from pairs e to x) where
   abbrev s : ℕ
   s = sourceStage from
 
@@ -110,9 +111,9 @@ module _ {steps : Steps} {row : List ℕ} {t : Estimates} {from : Source} {width
 
       pub leads-none : rest ≡ NONE → Opened (l .by) from e (e + 1) x x
       leads-none q = record {
-        expanded = step-none g a h s n spent e (seenIn a x) (estimate-none (l .by .guide) (g .to e) (a .next e n) rest next-inside shown-is q);
+        expanded = step-none g a h s n spent e (seenIn (pairsIn z) x) (estimate-none (l .by .guide) (g .to e) (a .next e n) rest next-inside shown-is q);
         kept = kept-same (l .opens .queue);
-        rows = refl;
+        blocks = refl;
       }
 
       module _ (q : rest ≡ NONE → ⊥) where
@@ -126,16 +127,9 @@ module _ {steps : Steps} {row : List ℕ} {t : Estimates} {from : Source} {width
         leads : Target (l .by .guide) (from .key) (pair a (g .to e) (a .next e n)) (spent + g .cost e + rest)
         leads = target (l .by .guide) s n spent (from .key) e rest (l .opens .settling) exists (l .leaves) has
 
-        module _ (y v : ℕ) (ey : y ≡ getD row entered 0 + to) (ev : v ≡ spent + getD (steps .cost) e 0 + rest)
-            (filled : getD (x .filled) entered false ≡ true) where
+        module _ (y : ℕ) (ey : y ≡ getD row entered 0 + to) where
           pair-is : y ≡ pair a (g .to e) (a .next e n)
           pair-is = omega (arith, row-is, l .enters, to-stage, ap (λ (k : ℕ). k * a .size) to-stage)
-
-          key-is : v ≡ spent + g .cost e + rest
-          key-is = omega (arith, cost-is)
-
-          row-filled : getD (x .filled) (stageOf a y) false ≡ true
-          row-filled = ap (λ (k : ℕ). getD (x .filled) k false) (stage-is a (g .to e) (a .next e n) y next-inside pair-is ∙ sym to-stage) ∙ filled
 
           pub inside : y < pairsIn z
           inside = omega (arith, pair-is, leads .pair-inside, pairs-are)
@@ -143,83 +137,78 @@ module _ {steps : Steps} {row : List ℕ} {t : Estimates} {from : Source} {width
           has-key : y < length (x .slices .keys)
           has-key = omega (arith, inside, keys-fit (l .opens .queue))
 
-          pub above : from .key ≤ v
-          above = omega (arith, leads .above, key-is)
+          -- ---- the block of keys is filled
 
-          pub low : v < NONE
-          low = omega (arith, key-is, leads .low)
+          pub leads-block : (y < pairs) × (pairs ≤ 131072) × (pairs ≤ length (x .slices .keys)) × (length (x .filled) ≡ 1024)
+          leads-block = (omega (arith, inside, l .opens .all), omega (arith, few-pairs (l .by .ready), l .opens .all), omega (arith, l .opens .all, keys-fit (l .opens .queue)), l .opens .blocks)
 
-          pub may-offer : Offerable (marksIn (x .slices) (x .counts)) y v
-          may-offer =
-              offerable-seen a (x .filled) (x .slices .keys) y has-key row-filled
-              (offerable g a h (seenIn a x) (from .key) y v (l .opens .frontier) (rw pair-is (leads .may-open)) above)
+          module _ {keys′ : List ℕ} {filled′ : List Bool} (long : length keys′ ≡ length (x .slices .keys))
+              (o : BlockOpened y pairs (x .slices .keys) (x .filled) keys′ filled′) where
+            abbrev x′ : Progress
+            x′ = progress (work keys′ (x .slices .via) (x .slices .heap) (x .slices .pos) (x .slices .stack)) filled′ (x .counts)
 
-          abbrev pub leads-ask : Offering (from .key) y v (x .slices) (x .counts)
-          leads-ask = record { p = pairsIn z; queue = l .opens .queue; pair = inside; fits = l .opens .fits; above = above; low = low; offerable = may-offer }
+            block : BlockOpened y (pairsIn z) (x .slices .keys) (x .filled) keys′ filled′
+            block = subst (λ (p : ℕ). BlockOpened y p (x .slices .keys) (x .filled) keys′ filled′) (l .opens .all) o
 
-          pub leads-some : {mark : ℕ} {w : Work} {c : Counts} → mark ≡ packed e n → length (w .keys) ≡ length (x .slices .keys)
-              → Relaxes (pairsIn z) (from .key) y v mark (x .slices) (x .counts) w c → Opened (l .by) from e (e + 1) x (progress w (x .filled) c)
-          leads-some {mark} {w} {c} em long r = record {
-            expanded = step-relaxed g a h s n spent e rest y v mark (seenIn a x) (seenIn a (progress w (x .filled) c)) exists (l .leaves) has pair-is key-is em
-                (relaxed-seen a (x .filled) (x .slices .keys) y has-key row-filled (w .keys) long (r .relaxed));
-            kept = r .kept;
-            rows = refl;
-          }
+            pub block-filled : isFilled (pairsIn z) filled′ y ≡ true
+            block-filled = block .opened
 
-    -- ---- the row is filled
+            open-same : (q : ℕ) → Contains (queueOf x) q → getD keys′ q 0 ≡ getD (x .slices .keys) q 0
+            open-same q w =
+                let i : q < length (x .slices .keys) = omega (arith, contains-pair (l .opens .queue) w, keys-fit (l .opens .queue)) in
+                block .same q (seen-block (pairsIn z) (x .filled) (x .slices .keys) q i (l .opens .frontier .finite q w))
 
-    abbrev begin : ℕ
-    begin = getD row entered 0
+            -- it is filled, and nothing else has changed
+            pub block-opened : Opened (l .by) from e e x x′
+            block-opened = record {
+              expanded = record {
+                moved = λ k. inl (record { same-key = opened-seen long block k; same-via = refl; still = contains-keys keys′; only = contains-keys (x .slices .keys) });
+                offered = λ f i j. absurd (omega arith);
+              };
+              kept = record {
+                queue = queue-keys keys′ (l .opens .queue) (omega (arith, keys-fit (l .opens .queue))) open-same;
+                past = record { keys-past = block .past; via-past = refl; heap-past = refl; pos-past = refl; stack-past = refl };
+              };
+              blocks = o .long;
+            }
 
-    row-end : begin + width ≤ pairsIn z
-    row-end = omega (arith, row-ends (l .by .ready) entered entered-inside, l .opens .wide)
+            abbrev pub block-leading : Leading steps row t from pairs e to x′
+            block-leading = record {
+              inner = l .inner;
+              first = l .first;
+              z = l .z;
+              by = l .by;
+              opens = opens-on (l .by) from refl (l .opens) block-opened;
+              exists = l .exists;
+              leaves = l .leaves;
+              enters = l .enters;
+            }
 
-    pub leads-row : (entered < 256) × (begin + width ≤ length (x .slices .keys)) × (length (x .filled) ≡ 256)
-    leads-row = (stage-small, omega (arith, row-end, keys-fit (l .opens .queue)), l .opens .rows)
+          -- ---- the offer
 
-    module _ {keys′ : List ℕ} {filled′ : List Bool} (long : length keys′ ≡ length (x .slices .keys))
-        (o : RowOpened entered begin (begin + width) (x .slices .keys) (x .filled) keys′ filled′) where
-      abbrev x′ : Progress
-      x′ = progress (work keys′ (x .slices .via) (x .slices .heap) (x .slices .pos) (x .slices .stack)) filled′ (x .counts)
+          module _ (v : ℕ) (ev : v ≡ spent + getD (steps .cost) e 0 + rest) (filled : isFilled (pairsIn z) (x .filled) y ≡ true) where
+            key-is : v ≡ spent + g .cost e + rest
+            key-is = omega (arith, cost-is)
 
-      some-nodes : 0 < a .size
-      some-nodes = omega (arith, size-is)
+            pub above : from .key ≤ v
+            above = omega (arith, leads .above, key-is)
 
-      ends : begin + width ≡ begin + a .size
-      ends = omega (arith, l .opens .wide, size-is)
+            pub low : v < NONE
+            low = omega (arith, key-is, leads .low)
 
-      open-same : (q : ℕ) → Contains (queueOf x) q → getD keys′ q 0 ≡ getD (x .slices .keys) q 0
-      open-same q w =
-          let i : q < length (x .slices .keys) = omega (arith, contains-pair (l .opens .queue) w, keys-fit (l .opens .queue)) in
-          filled-keys a some-nodes row-is ends long o q (seen-row a (x .filled) (x .slices .keys) q i (l .opens .frontier .finite q w))
+            pub may-offer : Offerable (marksIn (x .slices) (x .counts)) y v
+            may-offer =
+                offerable-seen (pairsIn z) (x .filled) (x .slices .keys) y has-key filled
+                (offerable g a h (seenIn (pairsIn z) x) (from .key) y v (l .opens .frontier) (rw pair-is (leads .may-open)) above)
 
-      -- it is filled, and nothing else has changed
-      pub row-opened : Opened (l .by) from e e x x′
-      row-opened = record {
-        expanded = record {
-          moved = λ k. inl (record {
-            same-key = opened-seen a some-nodes row-is ends long o k;
-            same-via = refl;
-            still = contains-keys keys′;
-            only = contains-keys (x .slices .keys);
-          });
-          offered = λ f i j. absurd (omega arith);
-        };
-        kept = record {
-          queue = queue-keys keys′ (l .opens .queue) (omega (arith, keys-fit (l .opens .queue))) open-same;
-          past = record { keys-past = opened-past o row-end; via-past = refl; heap-past = refl; pos-past = refl; stack-past = refl };
-        };
-        rows = o .long;
-      }
+            abbrev pub leads-ask : Offering (from .key) y v (x .slices) (x .counts)
+            leads-ask = record { p = pairsIn z; queue = l .opens .queue; pair = inside; fits = l .opens .fits; above = above; low = low; offerable = may-offer }
 
-      abbrev pub row-leading : Leading steps row t from width e to x′
-      row-leading = record {
-        inner = l .inner;
-        first = l .first;
-        z = l .z;
-        by = l .by;
-        opens = opens-on (l .by) from refl (l .opens) row-opened;
-        exists = l .exists;
-        leaves = l .leaves;
-        enters = l .enters;
-      }
+            pub leads-some : {mark : ℕ} {w : Work} {c : Counts} → mark ≡ packed e n → length (w .keys) ≡ length (x .slices .keys)
+                → Relaxes (pairsIn z) (from .key) y v mark (x .slices) (x .counts) w c → Opened (l .by) from e (e + 1) x (progress w (x .filled) c)
+            leads-some {mark} {w} {c} em long r = record {
+              expanded = step-relaxed g a h s n spent e rest y v mark (seenIn (pairsIn z) x) (seenIn (pairsIn z) (progress w (x .filled) c)) exists (l .leaves) has pair-is key-is em
+                  (relaxed-seen (pairsIn z) (x .filled) (x .slices .keys) y has-key filled (w .keys) long (r .relaxed));
+              kept = r .kept;
+              blocks = refl;
+            }

@@ -12,12 +12,13 @@ use Rattle.diagram_fields.specs.Words.{MARK, Nodes, Marked}
 use Rattle.nodes.specs.Walks.{Falls, Lowers, BranchesTo}
 use Rattle.nodes.specs.Falling.{lo-falls}
 use Rattle.nodes.specs.Advancing.{lowers-zero, lowers-on, advancing-dead}
-use Rattle.checks.specs.Tables.{Tables, chartIn, diagramIn}
+use Rattle.checks.specs.Tables.{Tables, chartIn, diagramIn, pairsIn}
 use Rattle.checks.specs.Ready.{Walk, graphIn, automatonIn, width-is, few-stages, few-nodes, few-steps, first-leave, first-order}
 use Rattle.guided_model.specs.Bounds.{dead-steps}
 use Rattle.guided_model.specs.Moves.{expanded-none}
-use Rattle.guided_expand.specs.Estimates.{Estimates}
-use Rattle.guided_expand.specs.Work.{Progress, seenIn, kept-same}
+use Rattle.guided_offers.specs.Estimates.{Estimates}
+use Rattle.guided_offers.specs.Work.{kept-same}
+use Rattle.guided_expand.specs.Progress.{Progress, seenIn}
 use Rattle.guided_expand.specs.Guides.{Guides}
 use Rattle.guided_expand.specs.Opening.{sourceStage, sourceNode, Opens, Opened, opens-on, opened-more, Opening, Leading}
 use Rattle.guided_expand.specs.declared.steps.Source.{Source}
@@ -26,7 +27,7 @@ use Rattle.guided_expand.specs.declared.steps.Source.{Source}
 abbrev pub firstOf : Walk → ℕ → ℕ
 firstOf on s = getD (on .first) s 0
 
-module _ {on : Walk} {t : Estimates} {from : Source} {width : ℕ} {x : Progress} (o : Opening on t from width x) where
+module _ {on : Walk} {t : Estimates} {from : Source} {pairs : ℕ} {x : Progress} (o : Opening on t from pairs x) where
   pub settles-stage : sourceStage from < 256
   settles-stage = omega (arith, o .opens .settling .stage, few-stages (o .z) (on .read) (o .by .ready .tables))
 
@@ -41,26 +42,26 @@ module _ {on : Walk} {t : Estimates} {from : Source} {width : ℕ} {x : Progress
   pub settles-order : firstOf on (sourceStage from) ≤ firstOf on (sourceStage from + 1)
   settles-order = first-order (o .z) on (o .by .ready) (sourceStage from) (o .opens .settling .stage) .0
 
-pub record Walking {z : Shape} {on : Walk} {t : Estimates} (by : Guides z on t) (from : Source) (width : ℕ) (x₀ x : Progress) (m e : ℕ) : Type 0 where
+pub record Walking {z : Shape} {on : Walk} {t : Estimates} (by : Guides z on t) (from : Source) (pairs : ℕ) (x₀ x : Progress) (m e : ℕ) : Type 0 where
   pub for-step : ℕ
   pub not-later : for-step ≤ e
   pub lowers : Lowers (on .read .inner .step) (on .read .inner .lo) for-step (sourceNode from) m
   pub begun : firstOf on (sourceStage from) ≤ e
-  pub opens : Opens by from width x
+  pub opens : Opens by from pairs x
   pub opened : Opened by from (firstOf on (sourceStage from)) e x₀ x
 
 -- no step is offered
-opened-none : {z : Shape} {on : Walk} {t : Estimates} {by : Guides z on t} {from : Source} {width : ℕ} {x : Progress} → Opens by from width x → (first until : ℕ)
+opened-none : {z : Shape} {on : Walk} {t : Estimates} {by : Guides z on t} {from : Source} {pairs : ℕ} {x : Progress} → Opens by from pairs x → (first until : ℕ)
     → ((e : ℕ) → first ≤ e → e < until → automatonIn z (on .read) .next e (sourceNode from) ≡ 0) → Opened by from first until x x
-opened-none {z} {on} {t} {by} {from} {width} {x} o first until q = record {
-  expanded = expanded-none (graphIn z (on .read)) (automatonIn z (on .read)) (by .h) (sourceStage from) (sourceNode from) (from .cost) first until (seenIn (automatonIn z (on .read)) x)
+opened-none {z} {on} {t} {by} {from} {pairs} {x} o first until q = record {
+  expanded = expanded-none (graphIn z (on .read)) (automatonIn z (on .read)) (by .h) (sourceStage from) (sourceNode from) (from .cost) first until (seenIn (pairsIn z) x)
       (dead-steps (by .guide) (sourceNode from) first until q);
   kept = kept-same (o .queue);
-  rows = refl;
+  blocks = refl;
 }
 
-pub walk-start : {on : Walk} {t : Estimates} {from : Source} {width : ℕ} {x : Progress} (o : Opening on t from width x) {m : ℕ} → m ≡ sourceNode from
-    → Walking (o .by) from width x x m (firstOf on (sourceStage from))
+pub walk-start : {on : Walk} {t : Estimates} {from : Source} {pairs : ℕ} {x : Progress} (o : Opening on t from pairs x) {m : ℕ} → m ≡ sourceNode from
+    → Walking (o .by) from pairs x x m (firstOf on (sourceStage from))
 walk-start {on} {t} {from} o q = record {
   for-step = 0;
   not-later = omega arith;
@@ -72,8 +73,8 @@ walk-start {on} {t} {from} o q = record {
   opened = opened-none (o .opens) (firstOf on (sourceStage from)) (firstOf on (sourceStage from)) (λ e i j. absurd (omega arith));
 }
 
-module _ {z : Shape} {on : Walk} {t : Estimates} {by : Guides z on t} {from : Source} {width : ℕ} {x₀ x : Progress} {m e : ℕ}
-    (w : Walking by from width x₀ x m e) where
+module _ {z : Shape} {on : Walk} {t : Estimates} {by : Guides z on t} {from : Source} {pairs : ℕ} {x₀ x : Progress} {m e : ℕ}
+    (w : Walking by from pairs x₀ x m e) where
   abbrev s : ℕ
   s = sourceStage from
 
@@ -128,7 +129,7 @@ module _ {z : Shape} {on : Walk} {t : Estimates} {by : Guides z on t} {from : So
 
       -- the step leads to node `to`
       module _ {to : ℕ} (b : BranchesTo (inner .step) (inner .hi) e r to) where
-        abbrev pub walk-leading : Leading (on .read .steps) (on .row) t from width e to x
+        abbrev pub walk-leading : Leading (on .read .steps) (on .row) t from pairs e to x
         walk-leading = record {
           inner = on .read .inner;
           first = on .first;
@@ -143,7 +144,7 @@ module _ {z : Shape} {on : Walk} {t : Estimates} {by : Guides z on t} {from : So
         }
 
         -- and is offered
-        pub walk-more : {x′ : Progress} → length (x′ .slices .via) ≡ length (x .slices .via) → Opened by from e (e + 1) x x′ → Walking by from width x₀ x′ r (e + 1)
+        pub walk-more : {x′ : Progress} → length (x′ .slices .via) ≡ length (x .slices .via) → Opened by from e (e + 1) x x′ → Walking by from pairs x₀ x′ r (e + 1)
         walk-more q o = record {
           for-step = e;
           not-later = omega arith;

@@ -1,4 +1,3 @@
-pub mod Estimates
-pub mod Work
+pub mod Progress
 pub mod Guides
 pub mod Opening

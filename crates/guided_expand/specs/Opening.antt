@@ -15,8 +15,9 @@ use Rattle.checks.specs.Tables.{Read, pairsIn}
 use Rattle.checks.specs.Ready.{Walk, walk, graphIn, automatonIn}
 use Rattle.guided_model.specs.Moves.{Frontier, frontier-moved, Expanded, expanded-more}
 use Rattle.guided_model.specs.Settling.{Settling}
-use Rattle.guided_expand.specs.Estimates.{Estimates}
-use Rattle.guided_expand.specs.Work.{Progress, queueOf, seenIn, Kept, kept-more}
+use Rattle.guided_offers.specs.Estimates.{Estimates}
+use Rattle.guided_offers.specs.Work.{Kept, kept-more}
+use Rattle.guided_expand.specs.Progress.{Progress, queueOf, seenIn}
 use Rattle.guided_expand.specs.Guides.{Guides}
 use Rattle.guided_expand.specs.declared.steps.Source.{Source}
 
@@ -34,57 +35,57 @@ module _ {z : Shape} {on : Walk} {t : Estimates} (by : Guides z on t) (from : So
   abbrev a : Automaton
   a = automatonIn z (on .read)
 
-  -- the steps from the pair can be offered; `width` is the number of nodes in a row, by which the code goes
-  pub record Opens (width : ℕ) (x : Progress) : Type 0 where
-    pub wide : width ≡ z .nodes + 2
+  -- the steps from the pair can be offered; `pairs` is the number of pairs, by which the code goes
+  pub record Opens (pairs : ℕ) (x : Progress) : Type 0 where
+    pub all : pairs ≡ pairsIn z
     pub fits : pairsIn z ≤ length (x .slices .via)
-    pub rows : length (x .filled) ≡ 256
+    pub blocks : length (x .filled) ≡ 1024
     pub queue : Queue (pairsIn z) (from .key) (queueOf x)
-    pub frontier : Frontier g a (by .h) (seenIn a x) (from .key)
+    pub frontier : Frontier g a (by .h) (seenIn (pairsIn z) x) (from .key)
     pub settling : Settling g a (by .h) (sourceStage from) (sourceNode from) (from .cost) (from .key)
 
   -- the steps from `first` to before `until` were offered
   pub record Opened (first until : ℕ) (x x′ : Progress) : Type 0 where
-    pub expanded : Expanded g a (by .h) (sourceStage from) (sourceNode from) (from .cost) first until (seenIn a x) (seenIn a x′)
+    pub expanded : Expanded g a (by .h) (sourceStage from) (sourceNode from) (from .cost) first until (seenIn (pairsIn z) x) (seenIn (pairsIn z) x′)
     pub kept : Kept (pairsIn z) (from .key) (x .slices) (x′ .slices) (x′ .counts)
-    pub rows : length (x′ .filled) ≡ length (x .filled)
+    pub blocks : length (x′ .filled) ≡ length (x .filled)
 
   -- it may go on
-  pub opens-on : {width first until : ℕ} {x x′ : Progress} → length (x′ .slices .via) ≡ length (x .slices .via) → Opens width x → Opened first until x x′ → Opens width x′
-  opens-on {width} {first} {until} {x} {x′} l o m = record {
-    wide = o .wide;
+  pub opens-on : {pairs first until : ℕ} {x x′ : Progress} → length (x′ .slices .via) ≡ length (x .slices .via) → Opens pairs x → Opened first until x x′ → Opens pairs x′
+  opens-on {pairs} {first} {until} {x} {x′} l o m = record {
+    all = o .all;
     fits = omega (arith, o .fits);
-    rows = m .rows ∙ o .rows;
+    blocks = m .blocks ∙ o .blocks;
     queue = m .kept .queue;
-    frontier = frontier-moved g a (by .h) (sourceStage from) (sourceNode from) (from .cost) (seenIn a x) (seenIn a x′) (from .key) (o .frontier) (m .expanded .moved);
+    frontier = frontier-moved g a (by .h) (sourceStage from) (sourceNode from) (from .cost) (seenIn (pairsIn z) x) (seenIn (pairsIn z) x′) (from .key) (o .frontier) (m .expanded .moved);
     settling = o .settling;
   }
 
   -- some steps, and then others
   pub opened-more : {first e until : ℕ} {x x′ x″ : Progress} → Opened first e x x′ → Opened e until x′ x″ → Opened first until x x″
   opened-more {first} {e} {until} {x} {x′} {x″} k m = record {
-    expanded = expanded-more g a (by .h) (sourceStage from) (sourceNode from) (from .cost) first e until (seenIn a x) (seenIn a x′) (seenIn a x″) (k .expanded) (m .expanded);
+    expanded = expanded-more g a (by .h) (sourceStage from) (sourceNode from) (from .cost) first e until (seenIn (pairsIn z) x) (seenIn (pairsIn z) x′) (seenIn (pairsIn z) x″) (k .expanded) (m .expanded);
     kept = kept-more (k .kept) (m .kept);
-    rows = m .rows ∙ k .rows;
+    blocks = m .blocks ∙ k .blocks;
   }
 
 -- the steps from a settled pair can be offered, in the tables of some chart and diagram by some guide
-pub record Opening (on : Walk) (t : Estimates) (from : Source) (width : ℕ) (x : Progress) : Type 0 where
+pub record Opening (on : Walk) (t : Estimates) (from : Source) (pairs : ℕ) (x : Progress) : Type 0 where
   pub z : Shape
   pub by : Guides z on t
-  pub opens : Opens by from width x
+  pub opens : Opens by from pairs x
 
 -- both tables as one
 abbrev pub tablesOf : Steps → Nodes → Read
 tablesOf steps inner = record { steps = steps; inner = inner }
 
 -- step e leads from a settled pair to node `to`, and can be offered, in the tables of some chart and diagram by some guide
-pub record Leading (steps : Steps) (row : List ℕ) (t : Estimates) (from : Source) (width e to : ℕ) (x : Progress) : Type 0 where
+pub record Leading (steps : Steps) (row : List ℕ) (t : Estimates) (from : Source) (pairs e to : ℕ) (x : Progress) : Type 0 where
   pub inner : Nodes
   pub first : List ℕ
   pub z : Shape
   pub by : Guides z (walk (tablesOf steps inner) first row) t
-  pub opens : Opens by from width x
+  pub opens : Opens by from pairs x
   pub exists : e < z .steps
   pub leaves : graphIn z (tablesOf steps inner) .from e ≡ sourceStage from
   pub enters : to ≡ automatonIn z (tablesOf steps inner) .next e (sourceNode from)

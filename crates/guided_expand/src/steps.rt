@@ -4,31 +4,26 @@ ghost use lib.ListN.{getD};
 ghost use Rattle.chart.specs.Tables.{stepsIn};
 ghost use Rattle.checks.specs.Tables.{read};
 ghost use Rattle.checks.specs.Ready.{walk};
-ghost use Rattle.guided_expand.specs.Estimates.{estimates};
-ghost use Rattle.guided_expand.specs.Work.{work, progress};
+ghost use Rattle.guided_offers.specs.Estimates.{estimates};
+ghost use Rattle.guided_offers.specs.Work.{work};
+ghost use Rattle.guided_expand.specs.Progress.{progress};
 ghost use Rattle.guided_expand.specs.Opening.{Opened, Opening, Leading};
-use crate::estimate::pair_estimate;
-use crate::relax::relax;
 use chart_fields::COST;
 use chart_fields::ENDS;
 use chart_fields::to_at;
 use definitions::NONE;
 use definitions::Node;
-use definitions::Stage;
 use definitions::Step;
-use guided_rows::open_row;
+use guided_keys::open_block;
+use guided_offers::pair_estimate;
+use guided_offers::relax;
+use guided_places::Pair;
 use nodes::branch;
 use nodes::descend_to;
 use nodes::lowered_at;
 use queue::Counts;
-use trace::packed;
 use trace::pair_at;
-
-// A pair of a stage and a node.
-pub struct Pair {
-    pub stage: Stage,
-    pub node: Node,
-}
+use via_marks::packed;
 
 // A pair that is settled, its cost, and its key (cost plus estimate), which is the one last taken from the queue.
 pub struct Source {
@@ -37,15 +32,15 @@ pub struct Source {
     pub key: u32,
 }
 
-// Offers step e, which leaves the settled pair `source` and leads to node t. `width` is the number of pairs in a row.
+// Offers step e, which leaves the settled pair `source` and leads to node t. There are `pairs` pairs in all.
 fn offer<'a>(
     keys: &mut [u32],
     via: &mut [u32],
     heap: &mut [u32],
     pos: &mut [u32],
     stack: &mut [u32],
-    filled: &mut [bool; 256],
-    width: usize,
+    filled: &mut [bool; 1024],
+    pairs: usize,
     counts: Counts,
     steps: &'a [[u32; 1024]; 2],
     row: &'a [u32; 256],
@@ -59,7 +54,7 @@ fn offer<'a>(
         (let slices = work (now keys) (now via) (now heap) (now pos) (now stack) in
         let before = progress slices (now filled) counts in
         let estimated = estimates (now «by_stage») (now «by_node») in
-        Leading (stepsIn (now steps)) (now row) estimated source width (e .0) (t .0) before)
+        Leading (stepsIn (now steps)) (now row) estimated source pairs (e .0) (t .0) before)
         ⌝ }
     ensures { λ r. ⌜
         (let slices = work (now (keys .entry)) (now (via .entry)) (now (heap .entry)) (now (pos .entry)) (now (stack .entry)) in
@@ -67,7 +62,7 @@ fn offer<'a>(
         let before = progress slices (now (filled .entry)) counts in
         let after = progress slices′ (now (filled .exit)) r in
         let estimated = estimates (now («by_stage» .entry)) (now («by_node» .entry)) in
-        (x : Leading (stepsIn (now (steps .entry))) (now (row .entry)) estimated source width (e .0) (t .0) before)
+        (x : Leading (stepsIn (now (steps .entry))) (now (row .entry)) estimated source pairs (e .0) (t .0) before)
         → Opened (x .by) source (e .0) (e .0 + 1) before after)
         ⌝ }
 {
@@ -77,8 +72,8 @@ fn offer<'a>(
     if rest == NONE {
         return counts;
     }
-    open_row(keys, filled, row, stage, width);
     let y = pair_at(row, stage, t);
+    open_block(keys, filled, y, pairs);
     let v = source.cost + steps[COST][i] + rest;
     relax(
         keys,
@@ -102,8 +97,8 @@ pub fn settle<'a>(
     heap: &mut [u32],
     pos: &mut [u32],
     stack: &mut [u32],
-    filled: &mut [bool; 256],
-    width: usize,
+    filled: &mut [bool; 1024],
+    pairs: usize,
     counts: Counts,
     steps: &'a [[u32; 1024]; 2],
     first: &'a [u16; 257],
@@ -118,7 +113,7 @@ pub fn settle<'a>(
         let before = progress slices (now filled) counts in
         let on = walk (read (now steps) (now inner)) (now first) (now row) in
         let estimated = estimates (now «by_stage») (now «by_node») in
-        Opening on estimated source width before)
+        Opening on estimated source pairs before)
         ⌝ }
     ensures { λ r. ⌜
         (let slices = work (now (keys .entry)) (now (via .entry)) (now (heap .entry)) (now (pos .entry)) (now (stack .entry)) in
@@ -128,7 +123,7 @@ pub fn settle<'a>(
         let on = walk (read (now (steps .entry)) (now (inner .entry))) (now (first .entry)) (now (row .entry)) in
         let estimated = estimates (now («by_stage» .entry)) (now («by_node» .entry)) in
         let s = source .pair .stage .0 in
-        (x : Opening on estimated source width before)
+        (x : Opening on estimated source pairs before)
         → Opened (x .by) source (getD (on .first) s 0) (getD (on .first) (s + 1) 0) before after)
         ⌝ }
 {
@@ -151,7 +146,7 @@ pub fn settle<'a>(
             pos,
             stack,
             filled,
-            width,
+            pairs,
             left,
             steps,
             row,

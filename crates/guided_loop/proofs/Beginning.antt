@@ -1,11 +1,10 @@
--- Before the first turn: the row of the start stage is filled, and the pair of start and root is opened.
+-- Before the first turn: the block of keys of the pair of start and root is filled, and the pair of start and root is opened.
 -- Assumes nothing.
 use Prim.Native.Nat.{ℕ, _+_, _*_, _≤_, _<_}
 use mathlib.Core.Path.{_≡_, refl, sym, _∙_, ap, subst}
-use mathlib.Core.Bool.{Bool, false}
+use mathlib.Core.Bool.{Bool, true, false}
 use mathlib.Core.List.{List}
 use native.Mathlib.Omega.{arith}
-use native.Mathlib.Nat.{mul-le-mul-right}
 use lib.ListN.{length, getD, set, drop, replicate, length-replicate, getD-replicate}
 use lib.Seq.{drop-set-lt}
 use Rattle.definitions.specs.Basics.{NONE}
@@ -13,7 +12,7 @@ use Rattle.definitions.specs.Ways.{Graph}
 use Rattle.definitions.specs.Pairs.{Automaton, stageOf, nodeOf}
 use Rattle.definitions.specs.declared.Shape.{Shape}
 use Rattle.theory.specs.Limits.{Sound}
-use Rattle.theory.specs.Basics.{either, same-or-not}
+use Rattle.theory.specs.Basics.{either, same-or-not, true-not-false}
 use Rattle.theory.specs.Pairs.{pair-inside, pair-of, nodeOf-inside}
 use Rattle.theory.specs.Product.{startPair}
 use Rattle.queue.specs.declared.Counts.{Counts}
@@ -22,15 +21,15 @@ use Rattle.queue.proofs.Facts.{queue-empty, contains-none}
 use Rattle.checks.specs.Tables.{chartIn, diagramIn, Tables, pairsIn}
 use Rattle.checks.specs.Ready.{Walk, graphIn, automatonIn, width-is, sound-in, few-stages, few-nodes, row-start}
 use Rattle.guided_model.specs.State.{Openable}
-use Rattle.guided_model.specs.Bounds.{stage-is}
 use Rattle.guided_model.specs.Charts.{Running, running-start}
-use Rattle.guided_expand.specs.Estimates.{Estimates}
-use Rattle.guided_rows.specs.Fills.{RowOpened, opened-past}
-use Rattle.guided_rows.specs.Seen.{seen, seen-long, seen-fresh, seen-set, opened-seen}
-use Rattle.guided_expand.specs.Work.{Work, work, Progress, progress, queueIn, queueOf, seenIn, Past, past-same, past-more}
-use Rattle.guided_expand.specs.Guides.{Guides, row-begins, row-ends}
+use Rattle.guided_offers.specs.Estimates.{Estimates}
+use Rattle.guided_keys.specs.Fills.{blockOf, isFilled, filled-block, BlockOpened}
+use Rattle.guided_keys.specs.Seen.{seen, seen-long, seen-fresh, seen-set, opened-seen}
+use Rattle.guided_offers.specs.Work.{Work, work, queueIn, Past, past-same, past-more}
+use Rattle.guided_expand.specs.Progress.{Progress, progress, queueOf, seenIn}
+use Rattle.guided_expand.specs.Guides.{Guides, few-pairs}
 use Rattle.guided_loop.specs.Search.{Start, Begun, Searched}
-use Rattle.guided_loop.specs.declared.turns.Ended.{Ended}
+use Rattle.guided_ends.specs.declared.Ended.{Ended}
 
 module _ {z : Shape} {on : Walk} {t : Estimates} (by : Guides z on t) where
   abbrev pub g : Graph
@@ -54,9 +53,6 @@ module _ {z : Shape} {on : Walk} {t : Estimates} (by : Guides z on t) where
   pub pairs-are : z .stages * a .size ≡ pairsIn z
   pairs-are = ap (λ (k : ℕ). z .stages * k) width
 
-  pub few-pairs : pairsIn z ≤ 131072
-  few-pairs = let x = mul-le-mul-right (z .nodes + 2) (few-stages z (on .read) tables) in omega (arith, narrow)
-
   pub start-small : z .start .0 < 256
   start-small = omega (arith, tables .valid .start-inside, few-stages z (on .read) tables)
 
@@ -69,29 +65,11 @@ module _ {z : Shape} {on : Walk} {t : Estimates} {yes-at : List Bool} {rest : �
   abbrev by : Guides z on t
   by = b .prepared .by
 
-  abbrev first : ℕ
-  first = getD (on .row) (z .start .0) 0
-
-  row-end : first + (z .nodes + 2) ≤ pairsIn z
-  row-end = row-ends (by .ready) (z .start .0) (tables by .valid .start-inside)
-
-  -- no row is filled
+  -- no block is filled
   abbrev none-filled : List Bool
-  none-filled = replicate 256 false
+  none-filled = replicate 1024 false
 
-  -- that of the start can be
-  pub begin-row : (z .start .0 < 256) × (first + (z .nodes + 2) ≤ length (x .keys)) × (length none-filled ≡ 256)
-  begin-row = (start-small by, omega (arith, row-end, b .space .keys-fit), length-replicate {A = Bool} 256 false)
-
-  module _ {keys₁ : List ℕ} {filled : List Bool} (long : length keys₁ ≡ length (x .keys))
-      (o : RowOpened (z .start .0) first (first + (z .nodes + 2)) (x .keys) none-filled keys₁ filled)
-      {begin : ℕ} (e : begin ≡ first + z .root .0) {c : Counts} (no : Empty c) where
-    abbrev x₁ : Work
-    x₁ = work keys₁ (x .via) (x .heap) (x .pos) (x .stack)
-
-    keys-fit : pairsIn z ≤ length keys₁
-    keys-fit = omega (arith, b .space .keys-fit)
-
+  module _ {begin : ℕ} (e : begin ≡ getD (on .row) (z .start .0) 0 + z .root .0) where
     pub begins : begin ≡ startPair (g by) (a by)
     begins = begin-is by e
 
@@ -99,22 +77,41 @@ module _ {z : Shape} {on : Walk} {t : Estimates} {yes-at : List Bool} {rest : �
     begin-inside =
         omega (arith, begins, pairs-are by, pair-inside (g by) (a by) (z .start .0) (z .root .0) (tables by .valid .start-inside) (sound by .root-inside))
 
+    -- that of the pair of start and root can be
+    pub begin-block : (begin < pairsIn z) × (pairsIn z ≤ 131072) × (pairsIn z ≤ length (x .keys)) × (length none-filled ≡ 1024)
+    begin-block = (begin-inside, few-pairs (by .ready), b .space .keys-fit, length-replicate {A = Bool} 1024 false)
+
+  module _ {begin : ℕ} (e : begin ≡ getD (on .row) (z .start .0) 0 + z .root .0) {keys₁ : List ℕ} {filled : List Bool} (long : length keys₁ ≡ length (x .keys))
+      (o : BlockOpened begin (pairsIn z) (x .keys) none-filled keys₁ filled) {c : Counts} (no : Empty c) where
+    abbrev x₁ : Work
+    x₁ = work keys₁ (x .via) (x .heap) (x .pos) (x .stack)
+
+    keys-fit : pairsIn z ≤ length keys₁
+    keys-fit = omega (arith, b .space .keys-fit)
+
     pub begin-queue : Queue (pairsIn z) 0 (queueIn x₁ c)
-    begin-queue = queue-empty no (omega (arith, few-pairs by)) keys-fit (b .space .heap-fits) (b .space .pos-fits) (b .space .stack-fits)
+    begin-queue = queue-empty no (omega (arith, few-pairs (by .ready))) keys-fit (b .space .heap-fits) (b .space .pos-fits) (b .space .stack-fits)
 
     abbrev pub begin-asks : Inserting 0 begin rest (queueIn x₁ c)
-    begin-asks = record { p = pairsIn z; queue = begin-queue; pair = begin-inside; at-least = omega arith; outside = λ w. contains-none begin-queue (no .none-held) w }
+    begin-asks = record { p = pairsIn z; queue = begin-queue; pair = begin-inside e; at-least = omega arith; outside = λ w. contains-none begin-queue (no .none-held) w }
+
+    fresh : (k : ℕ) → k < pairsIn z → isFilled (pairsIn z) none-filled k ≡ false
+    fresh k i = go (isFilled (pairsIn z) none-filled k) refl
+      where
+        go : (v : Bool) → isFilled (pairsIn z) none-filled k ≡ v → isFilled (pairsIn z) none-filled k ≡ false
+        go true q =
+            absurd (true-not-false (sym (filled-block (pairsIn z) none-filled k q) ∙ getD-replicate {A = Bool} 1024 (blockOf k) false false (omega (arith, few-pairs (by .ready)))))
+        go false q = q
 
     -- no pair that may be opened has a key
-    clear : (k : ℕ) → Openable (g by) (a by) (by .h) k → getD (seen (a by) filled keys₁) k 0 ≡ NONE
+    clear : (k : ℕ) → Openable (g by) (a by) (by .h) k → getD (seen (pairsIn z) filled keys₁) k 0 ≡ NONE
     clear k may =
         let s = stageOf (a by) k in
         let some-nodes : 0 < a by .size = omega (arith, width by) in
         let in-chart = b .inside s (nodeOf (a by) k) (may .1 .0) (may .1 .1) in
         let within = pair-inside (g by) (a by) s (nodeOf (a by) k) in-chart (nodeOf-inside (a by) k some-nodes) in
-        opened-seen (a by) some-nodes (row-begins (by .ready) (z .start .0) (tables by .valid .start-inside)) (ap (λ (j : ℕ). first + j) (sym (width by))) long o k
-        ∙ seen-fresh (a by) none-filled (x .keys) k (omega (arith, b .space .keys-fit, pairs-are by, pair-of (a by) k, within))
-        (getD-replicate {A = Bool} 256 s false false (omega (arith, in-chart, few-stages z (on .read) (tables by))))
+        let i : k < pairsIn z = omega (arith, pairs-are by, pair-of (a by) k, within) in
+        opened-seen long o k ∙ seen-fresh (pairsIn z) none-filled (x .keys) k (omega (arith, b .space .keys-fit)) (fresh k i)
 
     module _ {keys′ heap′ pos′ stack′ : List ℕ} {c′ : Counts}
         (inserted : (q : Inserting 0 begin rest (queueIn x₁ c)) → Inserted (q .p) 0 begin rest (queueIn x₁ c) (state keys′ heap′ pos′ stack′ c′)) where
@@ -127,27 +124,27 @@ module _ {z : Shape} {on : Walk} {t : Estimates} {yes-at : List Bool} {rest : �
       only-begin : (k : ℕ) → Contains (queueOf begun) k → k ≡ begin
       only-begin k w = either (same-or-not k begin) (λ q. q) (λ q. absurd (contains-none begin-queue (no .none-held) (first-opened .only k w q)))
 
-      stored : seen (a by) filled keys′ ≡ set (seen (a by) filled keys₁) (startPair (g by) (a by)) rest
+      stored : seen (pairsIn z) filled keys′ ≡ set (seen (pairsIn z) filled keys₁) (startPair (g by) (a by)) rest
       stored =
-          ap (seen (a by) filled) (first-opened .stored ∙ ap (λ (k : ℕ). set keys₁ k rest) begins)
-          ∙ seen-set (a by) filled keys₁ (startPair (g by) (a by)) rest (omega (arith, begins, begin-inside, keys-fit))
-          (ap (λ (k : ℕ). getD filled k false) (stage-is (a by) (z .start .0) (z .root .0) (startPair (g by) (a by)) (sound by .root-inside) refl) ∙ o .marked)
+          ap (seen (pairsIn z) filled) (first-opened .stored ∙ ap (λ (k : ℕ). set keys₁ k rest) (begins e))
+          ∙ seen-set (pairsIn z) filled keys₁ (startPair (g by) (a by)) rest (omega (arith, begins e, begin-inside e, keys-fit))
+          (subst (λ (k : ℕ). isFilled (pairsIn z) filled k ≡ true) (begins e) (o .opened))
 
-      pub begin-running : Running (chartIn z (on .read)) (diagramIn z (on .read)) (by .h) (seenIn (a by) begun) log log 0 0
+      pub begin-running : Running (chartIn z (on .read)) (diagramIn z (on .read)) (by .h) (seenIn (pairsIn z) begun) log log 0 0
       begin-running =
-          running-start (chartIn z (on .read)) (diagramIn z (on .read)) (sound by) (by .guide) (seen (a by) filled keys₁) log (seenIn (a by) begun) rest (b .has) clear
-          (omega (arith, begins, begin-inside, keys-fit, seen-long (a by) filled keys₁)) stored
-          (subst (Contains (queueOf begun)) begins (first-opened .here)) (λ k w. only-begin k w ∙ begins) (omega (arith, pairs-are by, b .space .log-fits))
+          running-start (chartIn z (on .read)) (diagramIn z (on .read)) (sound by) (by .guide) (seen (pairsIn z) filled keys₁) log (seenIn (pairsIn z) begun) rest (b .has) clear
+          (omega (arith, begins e, begin-inside e, keys-fit, seen-long (pairsIn z) filled keys₁)) stored
+          (subst (Contains (queueOf begun)) (begins e) (first-opened .here)) (λ k w. only-begin k w ∙ begins e) (omega (arith, pairs-are by, b .space .log-fits))
 
       -- the loop may begin
       abbrev pub begin-begun : Begun z on t yes-at begin begun log
       begin-begun = record {
         prepared = b .prepared;
-        begins = begins;
+        begins = begins e;
         turning = record {
           queue = first-opened .queue;
           fits = b .space .via-fits;
-          rows = o .long ∙ length-replicate {A = Bool} 256 false;
+          blocks = o .long ∙ length-replicate {A = Bool} 1024 false;
           running = begin-running;
           past = past-same;
         };
@@ -155,7 +152,7 @@ module _ {z : Shape} {on : Walk} {t : Estimates} {yes-at : List Bool} {rest : �
 
       begin-past : Past (pairsIn z) x (begun .slices)
       begin-past = record {
-        keys-past = ap (drop (pairsIn z)) (first-opened .stored) ∙ drop-set-lt (pairsIn z) keys₁ begin rest begin-inside ∙ opened-past o row-end;
+        keys-past = ap (drop (pairsIn z)) (first-opened .stored) ∙ drop-set-lt (pairsIn z) keys₁ begin rest (begin-inside e) ∙ o .past;
         via-past = refl;
         heap-past = first-opened .past .heap-past;
         pos-past = first-opened .past .pos-past;

@@ -1,3 +1,2 @@
-mod Placing
-pub mod Beginning
+mod Beginning
 mod Turning

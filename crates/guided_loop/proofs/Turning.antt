@@ -16,7 +16,7 @@ use Rattle.definitions.specs.Promises.{goalAt}
 use Rattle.definitions.specs.declared.Shape.{Shape}
 use Rattle.theory.specs.Basics.{either, same-or-not, both, true-not-false}
 use Rattle.theory.specs.Product.{startPair}
-use Rattle.trace.specs.Trails.{stepIn}
+use Rattle.via_marks.specs.Marks.{stepIn}
 use Rattle.queue.specs.declared.Counts.{Counts}
 use Rattle.queue.specs.Queue.{state, Contains, Queue, Taken}
 use Rattle.queue.proofs.Facts.{contains-none, contains-pair, keys-fit}
@@ -26,19 +26,20 @@ use Rattle.guided_model.specs.State.{Smallest, Without, costSoFar}
 use Rattle.guided_model.specs.Moves.{Frontier}
 use Rattle.guided_model.specs.Chosen.{opened-low, chosen-frontier}
 use Rattle.guided_model.specs.Settling.{Located, Settling, located-start, located-via, chosen-settling, no-goal-stage, no-goal-node}
-use Rattle.guided_model.specs.Charts.{Running, running-room, running-turn, running-goal, running-empty}
-use Rattle.guided_expand.specs.Estimates.{Estimates, paired}
-use Rattle.guided_rows.specs.Seen.{seen, seen-filled, seen-row}
-use Rattle.guided_expand.specs.Work.{Work, work, Progress, progress, queueOf, seenIn, Past, past-more}
-use Rattle.guided_expand.specs.Guides.{Guides}
-use Rattle.guided_expand.specs.declared.steps.Pair.{Pair}
+use Rattle.guided_model.specs.Charts.{Running, GoalSettled, running-room, running-turn, running-goal, running-empty}
+use Rattle.guided_offers.specs.Estimates.{Estimates, paired}
+use Rattle.guided_keys.specs.Seen.{seen, seen-filled, seen-block}
+use Rattle.guided_offers.specs.Work.{Work, work, Past, past-more}
+use Rattle.guided_expand.specs.Progress.{Progress, progress, queueOf, seenIn}
+use Rattle.guided_expand.specs.Guides.{Guides, few-pairs}
+use Rattle.guided_places.specs.declared.Pair.{Pair}
 use Rattle.guided_expand.specs.declared.steps.Source.{Source}
 use Rattle.guided_expand.specs.Opening.{Opens, Opened, Opening}
-use Rattle.guided_loop.specs.Places.{stageAt, Placed}
+use Rattle.guided_places.specs.Places.{stageAt, Placed}
 use Rattle.guided_loop.specs.Search.{Prepared, Turning, Searched}
-use Rattle.guided_loop.specs.declared.turns.Ended.{Ended}
-use Rattle.guided_loop.proofs.Placing.{at-begin, at-step}
-use Rattle.guided_loop.proofs.Beginning.{g, a, tables, sound, width, narrow, pairs-are, few-pairs}
+use Rattle.guided_ends.specs.declared.Ended.{Ended}
+use Rattle.guided_places.proofs.Placing.{at-begin, at-step}
+use Rattle.guided_loop.proofs.Beginning.{g, a, tables, sound, width, narrow, pairs-are}
 
 module _ {z : Shape} {on : Walk} {t : Estimates} {yes-at : List Bool} (prepared : Prepared z on t yes-at)
     {x₀ : Work} {log₀ : List ℕ} {x : Progress} {log : List ℕ} {floor count : ℕ} (w : Turning (prepared .by) x₀ log₀ x log floor count) where
@@ -56,14 +57,14 @@ module _ {z : Shape} {on : Walk} {t : Estimates} {yes-at : List Bool} (prepared 
 
   -- the keys of all pairs
   abbrev keys : List ℕ
-  keys = seen (a by) (x .filled) (x .slices .keys)
+  keys = seen (pairsIn z) (x .filled) (x .slices .keys)
 
   -- that of an open pair stands in its slice
   open-key : (q : ℕ) → Contains (queueOf x) q → getD keys q 0 ≡ getD (x .slices .keys) q 0
   open-key q o =
       let i : q < length (x .slices .keys) = omega (arith, contains-pair (w .queue) o, keys-fit (w .queue)) in
-      seen-filled (a by) (x .filled) (x .slices .keys) q i
-      (seen-row (a by) (x .filled) (x .slices .keys) q i (opened-low (by .guide) (w .running .searching) q (inr o)))
+      seen-filled (pairsIn z) (x .filled) (x .slices .keys) q i
+      (seen-block (pairsIn z) (x .filled) (x .slices .keys) q i (opened-low (by .guide) (w .running .searching) q (inr o)))
 
   -- nothing is open any more
   pub turn-none : {r : Ended} → x .counts .held ≤ 0 → r .found ≡ false → r .count ≡ count → Searched by x₀ log₀ (x .slices) log r
@@ -88,21 +89,18 @@ module _ {z : Shape} {on : Walk} {t : Estimates} {yes-at : List Bool} (prepared 
     key-is : key ≡ getD keys y 0
     key-is = k .its-key ∙ sym (open-key y (k .was))
 
-    smallest : Smallest (seenIn (a by) x) y
+    smallest : Smallest (seenIn (pairsIn z) x) y
     smallest = record { is-open = k .was; least = λ q o. omega (arith, k .least q o, open-key q o, open-key y (k .was)) }
 
-    others : Without (seenIn (a by) x) y (Contains (queueOf x′))
+    others : Without (seenIn (pairsIn z) x) y (Contains (queueOf x′))
     others = record { kept = k .kept; only = k .only; gone = k .gone }
 
     -- there is room for it in the log, and its number is small
     pub turn-room : count < pairsIn z
     turn-room = omega (arith, running-room C D (sound by) (by .guide) (w .running) smallest, pairs-are by)
 
-    pub turn-fits : count < length log
-    turn-fits = omega (arith, turn-room, w .running .fits, pairs-are by)
-
-    pub turn-small : (y < 131072) × (count < 131072)
-    turn-small = (omega (arith, k .pair, few-pairs by), omega (arith, turn-room, few-pairs by))
+    pub turn-logs : (count < length log) × (y < 4294967296)
+    turn-logs = (omega (arith, turn-room, w .running .fits, pairs-are by), omega (arith, k .pair, few-pairs (by .ready)))
 
     -- where it stands
     abbrev stage : ℕ
@@ -173,31 +171,34 @@ module _ {z : Shape} {on : Walk} {t : Estimates} {yes-at : List Bool} (prepared 
         abbrev pub turn-source : Source
         turn-source = record { pair = pair; cost = key - r; key = key }
 
-        pub turn-opens : Opens (prepared .by) turn-source (z .nodes + 2) x′
+        pub turn-opens : Opens (prepared .by) turn-source (pairsIn z) x′
         turn-opens = record {
-          wide = refl;
+          all = refl;
           fits = w .fits;
-          rows = w .rows;
+          blocks = w .blocks;
           queue = k .queue;
-          frontier = subst (λ (i : ℕ). Frontier (g by) (a by) h (seenIn (a by) x′) i) (sym key-is)
+          frontier = subst (λ (i : ℕ). Frontier (g by) (a by) h (seenIn (pairsIn z) x′) i) (sym key-is)
               (chosen-frontier (by .guide) (w .running .searching) smallest others);
           settling = subst (λ (i : ℕ). Settling (g by) (a by) h s n (i - r) i) (sym key-is) (settles .2);
         }
 
-        abbrev pub turn-asks : Opening on t turn-source (z .nodes + 2) x′
+        abbrev pub turn-asks : Opening on t turn-source (pairsIn z) x′
         turn-asks = record { z = z; by = prepared .by; opens = turn-opens }
 
-        module _ {goal-at : Bool} (eg : goal-at ≡ (eqb s (z .end .0) && getD yes-at n false)) where
+        module _ {goal-at : Bool} (eg : goal-at ≡ (eqb s (z .end .0) && getD yes-at n false))
+            {count′ : ℕ} {log′ : List ℕ} (logged : (count′ ≡ count + 1) × (log′ ≡ set log count y)) where
           -- a goal pair
-          pub turn-goal : goal-at ≡ true → {e : Ended} → e .node .0 ≡ n → e .cost ≡ key - r → e .count ≡ count + 1 → e .found ≡ true
-              → Searched by x₀ log₀ (x′ .slices) (set log count y) e
+          pub turn-goal : goal-at ≡ true → {e : Ended} → e .node .0 ≡ n → e .cost ≡ key - r → e .count ≡ count′ → e .found ≡ true
+              → Searched by x₀ log₀ (x′ .slices) log′ e
           turn-goal q {e} nn ec ek ef =
               let v = both (eqb s (z .end .0)) (getD yes-at n false) (sym eg ∙ q) in
               record {
                 goal = λ i. rw (nn, ec, ek)
+                    (subst₂ (λ (k : ℕ) (l : List ℕ). GoalSettled C D h (by .guide .base) (x .slices .via) (on .read .steps .from) n (key - r) k log₀ l)
+                    (sym (logged .0)) (sym (logged .1))
                     (running-goal C D (sound by) (by .guide) (w .running) smallest s n (key - r) (on .read .steps .from)
                     (λ f j. from-at z (on .read) (tables by) f (omega (arith, count-is z (on .read) (tables by))))
-                    turn-located (eqb-true s (z .end .0) (v .0)) (sym (prepared .accepts n (turn-located .node)) ∙ v .1) spent-is);
+                    turn-located (eqb-true s (z .end .0) (v .0)) (sym (prepared .accepts n (turn-located .node)) ∙ v .1) spent-is));
                 no-goal = λ i. absurd (true-not-false (sym ef ∙ i));
                 past = past-more (w .past) taken-past;
               }
@@ -216,14 +217,15 @@ module _ {z : Shape} {on : Walk} {t : Estimates} {yes-at : List Bool} (prepared 
           -- no goal pair: the steps from it were offered
           pub turn-more : goal-at ≡ false → {x″ : Progress} → length (x″ .slices .via) ≡ length (x .slices .via)
               → Opened (prepared .by) turn-source (getD (on .first) s 0) (getD (on .first) (s + 1) 0) x′ x″
-              → Turning (prepared .by) x₀ log₀ x″ (set log count y) key (count + 1)
+              → Turning (prepared .by) x₀ log₀ x″ log′ key count′
           turn-more q {x″} l o = record {
             queue = o .kept .queue;
             fits = omega (arith, w .fits);
-            rows = o .rows ∙ w .rows;
-            running = subst (λ (f : ℕ). Running C D h (seenIn (a by) x″) log₀ (set log count y) (count + 1) f) (sym key-is)
+            blocks = o .blocks ∙ w .blocks;
+            running = subst₂ (λ (k : ℕ) (l : List ℕ). Running C D h (seenIn (pairsIn z) x″) log₀ l k key) (sym (logged .0)) (sym (logged .1))
+                (subst (λ (f : ℕ). Running C D h (seenIn (pairsIn z) x″) log₀ (set log count y) (count + 1) f) (sym key-is)
                 (running-turn C D (sound by) (by .guide) (w .running) smallest others s n (key - r) (getD (on .first) s 0) (getD (on .first) (s + 1) 0)
-                turn-located spent-is (λ e i f. first-all z on (by .ready) s e (turn-located .stage) i f) (o .expanded) (no-goal q));
+                turn-located spent-is (λ e i f. first-all z on (by .ready) s e (turn-located .stage) i f) (o .expanded) (no-goal q)));
             past = past-more (w .past) (record {
               keys-past = o .kept .past .keys-past;
               via-past = o .kept .past .via-past;

@@ -13,10 +13,11 @@ use Rattle.queue.specs.Queue.{Queue}
 use Rattle.checks.specs.Tables.{chartIn, diagramIn, pairsIn}
 use Rattle.checks.specs.Ready.{Walk, graphIn, automatonIn}
 use Rattle.guided_model.specs.Charts.{Running, GoalSettled, NoneSettled}
-use Rattle.guided_expand.specs.Estimates.{Estimates}
-use Rattle.guided_expand.specs.Work.{Work, Progress, queueOf, seenIn, Past}
+use Rattle.guided_offers.specs.Estimates.{Estimates}
+use Rattle.guided_offers.specs.Work.{Work, Past}
+use Rattle.guided_expand.specs.Progress.{Progress, queueOf, seenIn}
 use Rattle.guided_expand.specs.Guides.{Guides}
-use Rattle.guided_loop.specs.declared.turns.Ended.{Ended}
+use Rattle.guided_ends.specs.declared.Ended.{Ended}
 
 -- all tables of the search
 pub record Prepared (z : Shape) (on : Walk) (t : Estimates) (yes-at : List Bool) : Type 0 where
@@ -44,8 +45,8 @@ module _ {z : Shape} {on : Walk} {t : Estimates} (by : Guides z on t) where
   pub record Turning (x₀ : Work) (log₀ : List ℕ) (x : Progress) (log : List ℕ) (floor count : ℕ) : Type 0 where
     pub queue : Queue (pairsIn z) floor (queueOf x)
     pub fits : pairsIn z ≤ length (x .slices .via)
-    pub rows : length (x .filled) ≡ 256
-    pub running : Running (chartIn z (on .read)) (diagramIn z (on .read)) (by .h) (seenIn (automatonIn z (on .read)) x) log₀ log count floor
+    pub blocks : length (x .filled) ≡ 1024
+    pub running : Running (chartIn z (on .read)) (diagramIn z (on .read)) (by .h) (seenIn (pairsIn z) x) log₀ log count floor
     pub past : Past (pairsIn z) x₀ (x .slices)
 
   -- what the search leaves

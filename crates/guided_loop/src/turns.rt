@@ -1,30 +1,24 @@
 // The search itself, over tables that are ready.
 ghost use Rattle.checks.specs.Tables.{read};
 ghost use Rattle.checks.specs.Ready.{walk};
-ghost use Rattle.guided_expand.specs.Estimates.{estimates};
-ghost use Rattle.guided_expand.specs.Work.{work};
+ghost use Rattle.guided_offers.specs.Estimates.{estimates};
+ghost use Rattle.guided_offers.specs.Work.{work};
 ghost use Rattle.guided_loop.specs.Search.{Start, Searched};
-use crate::places::is_goal;
-use crate::places::pair_of;
 use chart_fields::ENDS;
 use definitions::Node;
 use definitions::Shape;
+use guided_ends::Ended;
 use guided_expand::Source;
-use guided_expand::pair_estimate;
 use guided_expand::settle;
-use guided_rows::open_row;
+use guided_keys::open_block;
+use guided_offers::pair_estimate;
+use guided_places::is_goal;
+use guided_places::log_pair;
+use guided_places::pair_of;
 use trace::pair_at;
 
-// Whether a goal pair was settled, its node and its cost; and how many pairs were settled.
-pub struct Ended {
-    pub found: bool,
-    pub node: Node,
-    pub cost: u32,
-    pub count: usize,
-}
-
 // Opens the pair of start and root, whose estimate is `rest`. Then settles open pairs in turn and writes each to the log, until a
-// goal pair is settled or none is open. Each row of keys is filled when its first pair is opened.
+// goal pair is settled or none is open. Each block of keys is filled when its first pair is opened.
 pub fn search<'a>(
     keys: &mut [u32],
     via: &mut [u32],
@@ -57,10 +51,10 @@ pub fn search<'a>(
         → Searched (x .prepared .by) before (now (log .entry)) after (now (log .exit)) r)
         ⌝ }
 {
-    let width = z.nodes + 2;
+    let pairs = z.stages as usize * (z.nodes + 2);
     let begin = pair_at(row, z.start, z.root);
-    let mut filled = [false; 256];
-    open_row(keys, &mut filled, row, z.start, width);
+    let mut filled = [false; 1024];
+    open_block(keys, &mut filled, begin, pairs);
     let mut counts = queue::insert(keys, heap, pos, stack, queue::empty(), 0, begin, rest);
     let mut floor: u32 = 0;
     let mut count: usize = 0;
@@ -71,8 +65,7 @@ pub fn search<'a>(
         let next = queue::take(keys, heap, pos, stack, counts, floor);
         let x = next.pair;
         floor = next.key;
-        log[count] = x as u32;
-        count += 1;
+        count = log_pair(log, count, x);
         let at = pair_of(via, &steps[ENDS], row, begin, z.start, x);
         let spent = floor - pair_estimate(by_stage, by_node, at.stage, at.node);
         if is_goal(yes, z.end, at) {
@@ -93,7 +86,7 @@ pub fn search<'a>(
             pos,
             stack,
             &mut filled,
-            width,
+            pairs,
             next.counts,
             steps,
             first,

@@ -12,7 +12,7 @@ use Rattle.definitions.specs.Basics.{NONE}
 use Rattle.definitions.specs.Ways.{Graph}
 use Rattle.definitions.specs.Pairs.{Automaton, Estimate, pair}
 use Rattle.theory.specs.Basics.{either, lt-or-le, same-or-not, none-not-some, some-inj}
-use Rattle.trace.specs.Trails.{packed}
+use Rattle.via_marks.specs.Marks.{packed}
 use Rattle.guided_model.specs.State.{Openable, Marks}
 
 -- ---- one edge

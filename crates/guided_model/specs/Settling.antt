@@ -16,7 +16,7 @@ use Rattle.theory.specs.Ways.{step-cheap}
 use Rattle.theory.specs.Basics.{either, true-not-false}
 use Rattle.theory.specs.Pairs.{pair-inside, pair-of, stageOf-inside, goal-parts}
 use Rattle.theory.specs.Product.{startPair}
-use Rattle.trace.specs.Trails.{stepIn}
+use Rattle.via_marks.specs.Marks.{stepIn}
 use Rattle.guided_model.specs.State.{Guide, Marks, Smallest, Openable, costSoFar, Came, Searching}
 use Rattle.guided_model.specs.Bounds.{stage-is, node-is, node-inside, openable, step-rises}
 use Rattle.guided_model.specs.Chosen.{chosen-key, chosen-stage, chosen-cheap, chosen-inside}

@@ -19,7 +19,7 @@ use Rattle.theory.specs.Estimates.{ConsistentEstimate}
 use Rattle.theory.specs.BestFirst.{Invariant}
 use Rattle.theory.specs.Pairs.{Lawful}
 use Rattle.theory.specs.Product.{Edge, startPair, estimateAt}
-use Rattle.trace.specs.Trails.{packed}
+use Rattle.via_marks.specs.Marks.{packed}
 
 -- what a search rests on: the graph and the automaton are within their limits; the estimate is consistent (`base` where a way may end), none at node 0, and small
 pub record Guide (g : Graph) (a : Automaton) (h : Estimate) : Type 0 where

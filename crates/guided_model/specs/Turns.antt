@@ -17,7 +17,7 @@ use Rattle.theory.specs.Ways.{step-cheap}
 use Rattle.theory.specs.Basics.{either, same-or-not}
 use Rattle.theory.specs.BestFirst.{here as begin-here, Turn, turn-keeps}
 use Rattle.theory.specs.Product.{Edge, edge-to, edge-from, startPair, estimateAt}
-use Rattle.trace.specs.Trails.{packed}
+use Rattle.via_marks.specs.Marks.{packed}
 use Rattle.guided_model.specs.State.{Guide, Marks, Smallest, Without, without, In, Openable, costSoFar, cost-is, cost-same, Keyed, keyed, key-is, keyed-same, Came, Searching}
 use Rattle.guided_model.specs.Logs.{nothing-settled, longer, in-more, in-last, in-cases}
 use Rattle.guided_model.specs.Bounds.{stage-is, node-is, openable, step-rises}

@@ -6,7 +6,7 @@ use mathlib.Core.List.{List}
 use Prim.Native.Nat.{ℕ, _≤_, _<_}
 use native.Mathlib.Decide.{ℕ-discrete}
 use native.Mathlib.Omega.{arith}
-use lib.ListN.{length, getD, set, length-set}
+use lib.ListN.{getD, set, length-set}
 use Rattle.heap_sift.specs.Heap.{slices, parent, In, key, Heap}
 use Rattle.heap_sift.specs.Sift.{Rising, SiftingUp, Sifted}
 use Rattle.heap_sift.proofs.Places.{in-pair, one-place}

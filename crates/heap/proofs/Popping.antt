@@ -1,12 +1,12 @@
 -- What `pop_min` asks of `sift_down`, and what it leaves, on plain lists.
 -- Assumes nothing.
-use mathlib.Core.Path.{_≡_, refl, sym, ap, _∙_}
+use mathlib.Core.Path.{_≡_, sym, ap, _∙_}
 use mathlib.Core.Logic.{_≢_}
 use mathlib.Core.List.{List}
 use Prim.Native.Nat.{ℕ, _-_, _≤_, _<_}
 use native.Mathlib.Decide.{ℕ-discrete}
 use native.Mathlib.Omega.{arith}
-use lib.ListN.{length, getD, set, length-set}
+use lib.ListN.{getD, set, length-set}
 use lib.Seq.{getD-set-same}
 use Rattle.heap_sift.specs.Heap.{slices, parent, In, Indexed, key, Heap}
 use Rattle.heap_sift.specs.Sift.{Swapped, Moved, Sinking, SiftingDown, Sifted}

@@ -1,4 +1,3 @@
 pub mod Children
-pub mod Lowering
-pub mod Finished
-pub mod Estimating
+mod Lowering
+mod Finished

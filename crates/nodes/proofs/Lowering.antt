@@ -10,7 +10,7 @@ use Rattle.diagram_fields.specs.Words.{MARK, Marked}
 use Rattle.diagram.specs.Tables.{Held}
 use Rattle.diagram.specs.Held.{held-step, held-lo}
 use Rattle.nodes.specs.Walks.{Falls, lowered, Lowers}
-use Rattle.nodes.specs.Lowered.{lowered-leaf, lowered-below, lowered-stop}
+use Rattle.nodes.specs.Descending.{lowered-leaf, lowered-below, lowered-stop}
 use Rattle.nodes.specs.Advancing.{unmarked}
 
 -- a walk from node n stands at m, and has as far to go as from n

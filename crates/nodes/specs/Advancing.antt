@@ -10,7 +10,7 @@ use Rattle.theory.specs.Diagrams.{advance-leaf}
 use Rattle.diagram_fields.specs.Words.{MARK, Marked}
 use Rattle.diagram.specs.Held.{held-step, held-hi}
 use Rattle.nodes.specs.Walks.{lowered, Lowers, Advances}
-use Rattle.nodes.specs.Lowered.{lowered-zero, lowered-lowered, advance-lowered, advance-hi, advance-stays}
+use Rattle.nodes.specs.Descending.{lowered-zero, lowered-lowered, advance-lowered, advance-hi, advance-stays}
 
 -- a node whose entry is not the mark is inner
 pub unmarked : (step : List ℕ) (m : ℕ) → Marked step → getD step m 0 < MARK → 2 ≤ m

@@ -1,6 +1,4 @@
 pub mod Walks
 pub mod Falling
-pub mod Lowered
+pub mod Descending
 pub mod Advancing
-pub mod Estimates
-pub mod Prices

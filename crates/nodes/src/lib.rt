@@ -1,8 +1,6 @@
-// The nodes of a rule diagram that stands in a table: how they are advanced and finished, and their estimates.
-mod estimates;
+// The nodes of a rule diagram that stands in a table: how they are advanced and finished.
 mod walks;
 
-pub use estimates::fill_diagram_estimates;
 pub use walks::Lowered;
 pub use walks::branch;
 pub use walks::descend_to;

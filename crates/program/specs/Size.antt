@@ -1,39 +1,20 @@
 -- How long a text can be, by the widths of its numbers and the length of the plan slice.
 -- Assumes nothing.
-use Prim.Native.Nat.{ℕ, zero, suc, _+_, _*_, _/_, _%_, _≤_, _<_}
+use Prim.Native.Nat.{ℕ, zero, suc, _+_, _*_, _≤_, _<_}
 use mathlib.Core.Path.{refl, ap}
 use mathlib.Core.List.{List, [], _∷_, _++_}
 use native.Mathlib.Omega.{arith}
-use lib.Dec.{ltb, eqb}
+use lib.Dec.{eqb}
 use lib.ListN.{length, getD, take, length-append}
-use borrow.Author.Tests.{lt-ltb, le-ltb}
 use Rattle.definitions.specs.declared.Answer.{Answer}
-use Rattle.theory.specs.Basics.{pick-true, pick-false, pick-cases, either, lt-or-le}
-use Rattle.report.specs.Text.{digit, digitsIn, decimal, item, lastItem, costWord, stepWord, settledWord, reachedWord, refusedWord, fileWord, placeWord, stepLines, planText, refusedText, report}
-
--- 10 to the power k
-abbrev tens : ℕ → ℕ
-tens zero = 1
-tens (suc k) = 10 * tens k
-
--- a number below 10 to the power k + 1 has at most k + 1 digits
-digits-few : (k f n : ℕ) → n < tens (suc k) → length (digitsIn f n) ≤ suc k
-unfolding digitsIn
-digits-few k zero n h = omega arith
-digits-few zero (suc f) n h = omega (arith, ap length (pick-true (ltb n 10) (digit n ∷ []) (digitsIn f (n / 10) ++ (digit (n % 10) ∷ [])) (lt-ltb n 10 (omega arith))))
-digits-few (suc k) (suc f) n h =
-    either (lt-or-le n 10)
-    (λ (l : n < 10). omega (arith, ap length (pick-true (ltb n 10) (digit n ∷ []) (digitsIn f (n / 10) ++ (digit (n % 10) ∷ [])) (lt-ltb n 10 l))))
-    (λ (l : 10 ≤ n). omega (
-      arith,
-      ap length (pick-false (ltb n 10) (digit n ∷ []) (digitsIn f (n / 10) ++ (digit (n % 10) ∷ [])) (le-ltb n 10 l)),
-      length-append (digitsIn f (n / 10)) (digit (n % 10) ∷ []),
-      digits-few k f (n / 10) (omega arith),
-    ))
+use Rattle.theory.specs.Basics.{pick-cases, either}
+use Rattle.digits.specs.Decimal.{decimal}
+use Rattle.digits.specs.Lengths.{tens, decimal-few}
+use Rattle.report.specs.Text.{item, lastItem, costWord, stepWord, settledWord, reachedWord, refusedWord, fileWord, placeWord, stepLines, planText, refusedText, report}
 
 item-few : (k : ℕ) (word : List ℕ) (n : ℕ) → n < tens (suc k) → length (item word n) ≤ length word + suc k
-unfolding item decimal
-item-few k word n h = omega (arith, length-append word (digitsIn (suc n) n), digits-few k (suc n) n h)
+unfolding item
+item-few k word n h = omega (arith, length-append word (decimal n), decimal-few k n h)
 
 last-item-few : (k : ℕ) (word : List ℕ) (n : ℕ) → n < tens (suc k) → length (lastItem word n) ≤ length word + suc k + 1
 unfolding lastItem

@@ -1,21 +1,20 @@
 -- One law for each part of the text: what its parts append, it appends.
 -- Assumes nothing.
-use Prim.Native.Nat.{ℕ, _+_, _-_, _≤_, _<_, min}
+use Prim.Native.Nat.{ℕ, _+_, _≤_, _<_, min}
 use mathlib.Core.Path.{_≡_, refl, sym, _∙_, ap, subst}
-use mathlib.Core.List.{List, [], _∷_, _++_, append-assoc, append-nil}
+use mathlib.Core.List.{List}
 use native.Mathlib.Omega.{arith}
 use native.Mathlib.Decide.{decLt}
-use native.Mathlib.Numerals.{add-one}
 use borrow.Author.Tests.{eq-eqb, ne-eqb}
 use lib.ListN.{length, getD, take}
-use lib.Seq.{take-suc, take-all}
-use Rattle.definitions.specs.Basics.{each}
+use lib.Seq.{take-all}
 use Rattle.definitions.specs.declared.Answer.{Answer}
 use Rattle.theory.specs.Basics.{pick-true, pick-false}
 use Rattle.buffer.specs.Appending.{Appended}
 use Rattle.buffer.specs.Appends.{append-none, append-both, append-long, append-inside}
 use Rattle.buffer.specs.Members.{append-next}
-use Rattle.report.specs.Text.{decimal, costWord, stepWord, settledWord, reachedWord, refusedWord, fileWord, placeWord, lineEnd}
+use Rattle.digits.specs.Decimal.{decimal}
+use Rattle.report.specs.Text.{costWord, stepWord, settledWord, reachedWord, refusedWord, fileWord, placeWord, lineEnd}
 use Rattle.report.specs.Text.{item, lastItem, stepLines, planText, refusedText, report}
 
 module _ {out o o′ : List ℕ} {at r r′ : ℕ} (h : at ≤ length out) where

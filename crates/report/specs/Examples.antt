@@ -5,7 +5,8 @@ use mathlib.Core.Path.{_≡_, refl}
 use mathlib.Core.List.{List, [], _∷_}
 use Rattle.definitions.specs.Basics.{pick}
 use Rattle.definitions.specs.Answers.{refusal, accepted}
-use Rattle.report.specs.Text.{digitsIn, decimal, item, lastItem, planText, refusedText, report}
+use Rattle.digits.specs.Decimal.{digitsIn, decimal}
+use Rattle.report.specs.Text.{item, lastItem, planText, refusedText, report}
 
 -- the plan slice holds more entries than the plan has steps
 pub computed : List (List ℕ)

@@ -1,29 +1,12 @@
 // The text that the program writes, put into a buffer. Where the buffer is too short the text is cut at the buffer's end.
 ghost use Prim.Native.Nat.{_≤_};
 ghost use lib.ListN.{length, take};
-ghost use Rattle.report.specs.Text.{decimal, item, lastItem, stepWord, stepLines, planText, refusedText, report};
+ghost use Rattle.report.specs.Text.{item, lastItem, stepWord, stepLines, planText, refusedText, report};
 ghost use Rattle.buffer.specs.Appending.{Appended};
 use buffer::copy;
 use convert::lesser;
 use definitions::Answer;
-
-// Writes a number's decimal digits.
-fn write_number(out: &mut [u8], at: usize, n: usize) -> usize
-    requires { ⌜ at ≤ length (now out) ⌝ }
-    ensures { λ r. ⌜ Appended (now (out .entry)) at (decimal n) (now (out .exit)) r ⌝ }
-{
-    let mut digits = [0u8; 20];
-    let mut first: usize = 20;
-    let mut left = n;
-    while 10 <= left {
-        first -= 1;
-        digits[first] = 48 + (left % 10) as u8;
-        left = left / 10;
-    }
-    first -= 1;
-    digits[first] = 48 + left as u8;
-    copy(out, at, &digits[first..20])
-}
+use digits::write_number;
 
 // Writes a word and a number.
 fn write_item(out: &mut [u8], at: usize, word: &[u8], n: usize) -> usize

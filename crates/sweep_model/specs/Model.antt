@@ -8,7 +8,7 @@ use lib.ListN.{getD, set}
 use Rattle.definitions.specs.Basics.{NONE, pick}
 use Rattle.definitions.specs.Ways.{Graph}
 use Rattle.definitions.specs.Pairs.{Automaton, pair}
-use Rattle.trace.specs.Trails.{packed}
+use Rattle.via_marks.specs.Marks.{packed}
 
 -- by pair: its cost, and the step and node by which it got it; by row: the reached nodes, in the order in which they were; by stage: how many they are. A pair that is not reached has the cost NONE
 pub record Rows : Type 0 where

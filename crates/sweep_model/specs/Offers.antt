@@ -19,7 +19,7 @@ use Rattle.theory.specs.Basics.{either, same-or-not, pick-true, pick-false}
 use Rattle.theory.specs.Pairs.{Lawful, WayTo, way-next, pair-apart, pair-inside}
 use Rattle.theory.specs.Counting.{room}
 use Rattle.sweep_model.specs.Totals.{total, total-same, total-bump}
-use Rattle.trace.specs.Trails.{packed}
+use Rattle.via_marks.specs.Marks.{packed}
 use Rattle.sweep_model.specs.Model.{Rows, costAt, nodeAt, countAt, lowered, joined, offer}
 use Rattle.sweep_model.specs.Rows.{one, Entry, Table, Later, Past, later-same, past-same, entry-low, count-fits}
 

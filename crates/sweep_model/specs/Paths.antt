@@ -13,7 +13,8 @@ use Rattle.theory.specs.Limits.{Valid}
 use Rattle.theory.specs.Basics.{either}
 use Rattle.theory.specs.Ways.{way-climbs}
 use Rattle.theory.specs.Pairs.{WayTo, way-start, way-next}
-use Rattle.trace.specs.Trails.{packed, Trail, begin, more}
+use Rattle.via_marks.specs.Marks.{packed}
+use Rattle.trace.specs.Trails.{Trail, begin, more}
 use Rattle.sweep_model.specs.Model.{Rows, costAt}
 use Rattle.sweep_model.specs.Rows.{Via, Entry, Table}
 

@@ -15,7 +15,7 @@ use Rattle.theory.specs.Ways.{way-bounded}
 use Rattle.theory.specs.Pairs.{WayTo}
 use Rattle.theory.specs.Counting.{pigeons}
 use Rattle.sweep_model.specs.Totals.{total}
-use Rattle.trace.specs.Trails.{packed}
+use Rattle.via_marks.specs.Marks.{packed}
 use Rattle.sweep_model.specs.Model.{Rows, costAt, nodeAt, countAt}
 
 -- 1 where a cost is not the mark

@@ -12,7 +12,7 @@ use Rattle.definitions.specs.Pairs.{Automaton}
 use Rattle.theory.specs.Limits.{Valid}
 use Rattle.theory.specs.Basics.{either, same-or-not}
 use Rattle.theory.specs.Pairs.{Lawful}
-use Rattle.trace.specs.Trails.{packed}
+use Rattle.via_marks.specs.Marks.{packed}
 use Rattle.sweep_model.specs.Model.{Rows, costAt, nodeAt, countAt, offer, relaxStep, relaxSteps, relaxNode, relaxNodes, relaxRows}
 use Rattle.sweep_model.specs.Rows.{Table, Later, Past, later-same, later-trans, past-same, past-trans, table-more, count-fits}
 use Rattle.sweep_model.specs.Offers.{offered}

@@ -6,7 +6,7 @@ use mathlib.Core.List.{List}
 use lib.ListN.{getD}
 use borrow.Author.Tests.{eq-eqb, ne-eqb}
 use Rattle.theory.specs.Basics.{pick-true, pick-false}
-use Rattle.trace.specs.Trails.{packed}
+use Rattle.via_marks.specs.Marks.{packed}
 use Rattle.sweep_model.specs.Model.{Rows, offer}
 use Rattle.chart.specs.Tables.{Steps}
 use Rattle.sweep_offers.specs.Offers.{Open, Offering, stepped}

@@ -11,7 +11,7 @@ use definitions::NONE;
 use definitions::Node;
 use definitions::Stage;
 use definitions::Step;
-use trace::packed;
+use via_marks::packed;
 
 // The pair of stage s, whose row starts at `base`, and node t is offered the cost v. `mark` has the step and the node
 // that offer it.

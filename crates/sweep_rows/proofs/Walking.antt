@@ -15,11 +15,11 @@ use Rattle.definitions.specs.Pairs.{Automaton}
 use Rattle.theory.specs.Basics.{pick-true, either}
 use Rattle.theory.specs.Diagrams.{advance-leaf}
 use Rattle.theory.specs.Variables.{next-is}
-use Rattle.trace.specs.Trails.{packed}
+use Rattle.via_marks.specs.Marks.{packed}
 use Rattle.diagram_fields.specs.Words.{Marked}
 use Rattle.nodes.specs.Falling.{lo-falls}
 use Rattle.nodes.specs.Walks.{lowered, Falls, Lowers, BranchesTo}
-use Rattle.nodes.specs.Lowered.{advance-lowered}
+use Rattle.nodes.specs.Descending.{advance-lowered}
 use Rattle.sweep_model.specs.Model.{Rows, costAt, countAt, offer, relaxStep, relaxSteps}
 use Rattle.sweep_model.specs.Rows.{Entry, entry-low}
 use Rattle.sweep_model.specs.Offers.{pair-fits, roomy, place-fits}

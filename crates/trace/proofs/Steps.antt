@@ -6,10 +6,12 @@ use mathlib.Core.List.{List, [], _∷_, _++_, append-nil}
 use native.Mathlib.Omega.{arith}
 use native.Mathlib.Nat.{mul-le-mul-right}
 use native.Mathlib.Numerals.{add-one}
-use lib.ListN.{length, getD, set, drop, length-append}
+use lib.ListN.{length, getD, set, drop}
 use lib.Seq.{append-snoc, drop-cons, set-at}
 use Rattle.rows.specs.Rows.{row-at}
-use Rattle.trace.specs.Trails.{packed, stepIn, step-packed, node-packed, CameFrom, Trail, begin, more, Traceable}
+use Rattle.theory.specs.Packing.{first-packed, second-packed}
+use Rattle.via_marks.specs.Marks.{packed, stepIn}
+use Rattle.trace.specs.Trails.{CameFrom, Trail, begin, more, trail-short, Traceable}
 use Rattle.trace.specs.declared.Predecessor.{Predecessor}
 
 -- an entry put after the part xs that stands at a list's front
@@ -19,11 +21,6 @@ put-on i l xs plan e h q p =
     ∙ set-at xs (getD l i 0) (drop (suc i) l) e i q
     ∙ sym (append-snoc xs e (drop (suc i) l))
     ∙ ap (λ (k : ℕ). xs ++ e ∷ [] ++ drop k l) (sym (add-one i))
-
--- a trail has at most as many steps as there are stages from the start on
-trail-short : {via from : List ℕ} {width start s n : ℕ} {w : List ℕ} → Trail via from width start s n w → length w + start ≤ s
-trail-short begin = omega arith
-trail-short (more {e} {w} a b c d f t) = omega (arith, length-append w (e ∷ []), trail-short t)
 
 module _ (via from : List ℕ) (width start : ℕ) where
   abbrev Way : ℕ → ℕ → List ℕ → Type 0
@@ -101,7 +98,7 @@ module _ {via from row : List ℕ} {start s₀ n₀ : ℕ} (t : Traceable via fr
       small = omega (arith, last .node, t .narrow)
 
       step-is : stepIn (getD via at 0) ≡ last .e
-      step-is = step-packed (last .e) (last .m) (getD via at 0) packs small
+      step-is = first-packed 512 (last .e) (last .m) (getD via at 0) packs small
 
       pub follow-packed : stepIn (getD via at 0) < 1024
       follow-packed = omega (arith, step-is, last .exists)
@@ -111,7 +108,7 @@ module _ {via from row : List ℕ} {start s₀ n₀ : ℕ} (t : Traceable via fr
         by-last = c .by-step ∙ step-is
 
         node-is : p .node .0 ≡ last .m
-        node-is = c .of-node ∙ node-packed (last .e) (last .m) (getD via at 0) packs small
+        node-is = c .of-node ∙ second-packed 512 (last .e) (last .m) (getD via at 0) packs small
 
         stage-is : p .stage .0 ≡ getD from (last .e) 0
         stage-is = c .of-stage ∙ ap (λ (i : ℕ). getD from i 0) by-last

@@ -1,28 +1,13 @@
 -- The trail from a pair back to the start: each pair keeps the step and the node by which it was reached, packed in one number.
 -- Assumes nothing.
-use Prim.Native.Nat.{ℕ, _*_, _/_, _%_, _+_, _≤_, _<_}
+use Prim.Native.Nat.{ℕ, _*_, _+_, _≤_, _<_}
 use mathlib.Core.Path.{_≡_}
 use mathlib.Core.List.{List, [], _∷_, _++_}
-use lib.ListN.{length, getD}
-use Rattle.theory.specs.Packing.{pack, first-packed, second-packed}
+use native.Mathlib.Omega.{arith}
+use lib.ListN.{length, getD, length-append}
 use Rattle.rows.specs.Rows.{rowStarts}
+use Rattle.via_marks.specs.Marks.{packed, stepIn, nodeIn}
 use Rattle.trace.specs.declared.Predecessor.{Predecessor}
-
--- a step and a node in one number, and both taken out of it
-abbrev pub packed : ℕ → ℕ → ℕ
-packed e n = pack 512 e n
-
-abbrev pub stepIn : ℕ → ℕ
-stepIn mark = mark / 512
-
-abbrev pub nodeIn : ℕ → ℕ
-nodeIn mark = mark % 512
-
-pub step-packed : (e n mark : ℕ) → mark ≡ packed e n → n < 512 → stepIn mark ≡ e
-step-packed e n mark q h = first-packed 512 e n mark q h
-
-pub node-packed : (e n mark : ℕ) → mark ≡ packed e n → n < 512 → nodeIn mark ≡ n
-node-packed e n mark q h = second-packed 512 e n mark q h
 
 -- what a mark says of the pair that keeps it, by the table of the stages that steps leave
 pub record CameFrom (from : List ℕ) (mark : ℕ) (p : Predecessor) : Type 0 where
@@ -36,6 +21,11 @@ pub data Trail (via from : List ℕ) (width start : ℕ) : ℕ → ℕ → List 
   begin : {n : ℕ} → Trail via from width start start n []
   more : {s n e m : ℕ} {w : List ℕ} → start < s → e < 1024 → m < width → getD from e 0 < s → getD via (s * width + n) 0 ≡ packed e m
       → Trail via from width start (getD from e 0) m w → Trail via from width start s n (w ++ e ∷ [])
+
+-- it climbs from stage to stage
+pub trail-short : {via from : List ℕ} {width start s n : ℕ} {w : List ℕ} → Trail via from width start s n w → start + length w ≤ s
+trail-short begin = omega arith
+trail-short (more {e} {w} a b c d f t) = omega (arith, length-append w (e ∷ []), trail-short t)
 
 -- a pair can be traced back, by these tables: rows of some width, of some stages, and a trail to the pair
 pub record Traceable (via from row : List ℕ) (start s n : ℕ) : Type 0 where

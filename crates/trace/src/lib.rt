@@ -4,18 +4,15 @@ ghost use Prim.Native.Nat.{_+_, _-_, _≤_, _<_};
 ghost use lib.ListN.{length, getD, take, drop};
 ghost use mathlib.Core.List.{_++_, reverse};
 ghost use Rattle.chart_fields.specs.Ends.{froms};
-ghost use Rattle.trace.specs.Trails.{stepIn, CameFrom, Traceable};
+ghost use Rattle.via_marks.specs.Marks.{stepIn};
+ghost use Rattle.trace.specs.Trails.{CameFrom, Traceable};
 use chart_fields::from_at;
 use convert::wide;
 use definitions::Node;
 use definitions::Stage;
 use definitions::Step;
-
-mod packing;
-
-pub use packing::node_in;
-pub use packing::packed;
-pub use packing::step_in;
+use via_marks::node_in;
+use via_marks::step_in;
 
 // A step, and the stage and node that it left.
 pub struct Predecessor {

@@ -6,7 +6,7 @@ use Rattle.report.proofs.write_item.Tie as tie
 use Rattle.report.proofs.write_item.Reads as reads
 use Rattle.report.proofs.write_item.Lts as lts
 use Rattle.buffer.proofs.copy.Reads as copy-reads
-use Rattle.report.proofs.write_number.Reads as write-number-reads
+use Rattle.digits.proofs.write_number.Reads as write-number-reads
 
 copy-requires : tie.Need-copy-requires
 copy-requires c κs = search needs

@@ -1,6 +1,5 @@
 -- `chart_stages::least_through` meets its contract: what is known shows the least cost of the ways by the steps below e.
 use Prim.Native.Nat.{_-_, _≤_}
-use mathlib.Core.Path.{_≡_}
 use native.Mathlib.Omega.{arith}
 use Rattle.definitions.specs.Plans.{graph}
 use Rattle.chart.specs.Tables.{stepsIn, chartIn}

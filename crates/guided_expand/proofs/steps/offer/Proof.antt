@@ -2,19 +2,19 @@
 use mathlib.Core.Path.{refl, _∙_}
 use native.Mathlib.Omega.{arith}
 use Rattle.guided_expand.specs.Opening.{opened-more}
-use Rattle.guided_expand.proofs.Stepping.{step-small, stage-small, target-small, leads-none, leads-fit, leads-row, leads-ask, leads-some, row-opened, row-leading}
+use Rattle.guided_expand.proofs.Stepping.{step-small, stage-small, target-small, leads-none, leads-fit, leads-block, leads-ask, leads-some, block-filled, block-opened, block-leading}
 use borrow.Author.Needs.{needs}
 use Rattle.guided_expand.proofs.steps.offer.Statement.{statement}
 use Rattle.guided_expand.proofs.steps.offer.Tie as tie
 
 -- the places before a place
-abbrev target-of : tie.After-packed → tie.After-pair-at
+abbrev block-of : tie.After-packed → tie.After-open-block
+block-of c = search
+
+abbrev target-of : tie.After-open-block → tie.After-pair-at
 target-of c = search
 
-abbrev row-of : tie.After-pair-at → tie.After-open-row
-row-of c = search
-
-abbrev some-of : tie.After-open-row → tie.Else1
+abbrev some-of : tie.After-pair-at → tie.Else1
 some-of c = search
 
 abbrev rest-of : tie.Else1 → tie.After-pair-estimate
@@ -49,17 +49,20 @@ returns c =
     let led : tie.After-to-at = search in
     λ x. leads-none x (led .to-at .ensures) _ (rest .pair-estimate .ensures) (c .if1 .taken)
 
-open-row-requires : tie.Need-open-row-requires
-open-row-requires c κs =
-    let led : tie.After-to-at = search in
-    let start : tie.Start = search in
-    leads-row (start .pre) (led .to-at .ensures)
-
 pair-at-requires : tie.Need-pair-at-requires
 pair-at-requires c κs =
     let led : tie.After-to-at = search in
     let start : tie.Start = search in
     stage-small (start .pre) (led .to-at .ensures)
+
+open-block-requires : tie.Need-open-block-requires
+open-block-requires c κs =
+    let target : tie.After-pair-at = search in
+    let some = some-of target in
+    let rest = rest-of some in
+    let led = led-of rest in
+    let start = start-of led in
+    leads-block (start .pre) (led .to-at .ensures) _ (rest .pair-estimate .ensures) (some .if1 .left) _ (target .pair-at .ensures)
 
 mul-v : tie.Need-mul-v
 mul-v c = search needs
@@ -93,23 +96,23 @@ packed-requires c κs = search needs
 
 relax-requires : tie.Need-relax-requires
 relax-requires c κs =
-    let target : tie.After-pair-at = search in
-    let ready = row-of target in
-    let some = some-of ready in
+    let block : tie.After-open-block = search in
+    let target = target-of block in
+    let some = some-of target in
     let rest = rest-of some in
     let led = led-of rest in
     let start = start-of led in
-    let row = ready .open-row in
-    let l = row-leading (start .pre) (led .to-at .ensures) (row .kept .0) (row .ensures) in
-    leads-ask l (led .to-at .ensures) _ (rest .pair-estimate .ensures) (some .if1 .left) _ _ (target .pair-at .ensures) refl (row .ensures .marked)
+    let o = block .open-block in
+    let l = block-leading (start .pre) (led .to-at .ensures) _ (rest .pair-estimate .ensures) (some .if1 .left) _ (target .pair-at .ensures) (o .kept .0) (o .ensures) in
+    leads-ask l (led .to-at .ensures) _ (rest .pair-estimate .ensures) (some .if1 .left) _ (target .pair-at .ensures) _ refl
+    (block-filled (start .pre) (led .to-at .ensures) _ (rest .pair-estimate .ensures) (some .if1 .left) _ (target .pair-at .ensures) (o .kept .0) (o .ensures))
 
 same-length : tie.Need-same-length
 same-length c =
     let relaxed : tie.After-relax = search in
     let marked : tie.After-packed = search in
-    let target = target-of marked in
-    let ready = row-of target in
-    relaxed .relax .kept .0 ∙ ready .open-row .kept .0
+    let block = block-of marked in
+    relaxed .relax .kept .0 ∙ block .open-block .kept .0
 
 same-length-2 : tie.Need-same-length-2
 same-length-2 c =
@@ -135,17 +138,18 @@ returns-2 : tie.Need-returns-2
 returns-2 c =
     let relaxed : tie.After-relax = search in
     let marked : tie.After-packed = search in
-    let target = target-of marked in
-    let ready = row-of target in
-    let some = some-of ready in
+    let block = block-of marked in
+    let target = target-of block in
+    let some = some-of target in
     let rest = rest-of some in
     let led = led-of rest in
-    let row = ready .open-row in
+    let o = block .open-block in
     λ x.
-    let l = row-leading x (led .to-at .ensures) (row .kept .0) (row .ensures) in
-    let asked = leads-ask l (led .to-at .ensures) _ (rest .pair-estimate .ensures) (some .if1 .left) _ _ (target .pair-at .ensures) refl (row .ensures .marked) in
-    opened-more (x .by) _ (row-opened x (led .to-at .ensures) (row .kept .0) (row .ensures))
-    (leads-some l (led .to-at .ensures) _ (rest .pair-estimate .ensures) (some .if1 .left) _ _ (target .pair-at .ensures) refl (row .ensures .marked)
+    let l = block-leading x (led .to-at .ensures) _ (rest .pair-estimate .ensures) (some .if1 .left) _ (target .pair-at .ensures) (o .kept .0) (o .ensures) in
+    let filled = block-filled x (led .to-at .ensures) _ (rest .pair-estimate .ensures) (some .if1 .left) _ (target .pair-at .ensures) (o .kept .0) (o .ensures) in
+    let asked = leads-ask l (led .to-at .ensures) _ (rest .pair-estimate .ensures) (some .if1 .left) _ (target .pair-at .ensures) _ refl filled in
+    opened-more (x .by) _ (block-opened x (led .to-at .ensures) _ (rest .pair-estimate .ensures) (some .if1 .left) _ (target .pair-at .ensures) (o .kept .0) (o .ensures))
+    (leads-some l (led .to-at .ensures) _ (rest .pair-estimate .ensures) (some .if1 .left) _ (target .pair-at .ensures) _ refl filled
     (marked .packed .ensures) (relaxed .relax .kept .0) (relaxed .relax .ensures asked))
 
 pub offer-spec : {M : Type 1} → statement M
@@ -157,8 +161,8 @@ offer-spec =
     to-at-requires
     pair-estimate-requires
     returns
-    open-row-requires
     pair-at-requires
+    open-block-requires
     mul-v
     index-1-v
     index-2-v

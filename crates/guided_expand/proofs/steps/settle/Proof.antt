@@ -6,8 +6,9 @@ use lib.ListN.{length}
 use Rattle.nodes.specs.Walks.{Tests}
 use Rattle.checks.specs.Tables.{read}
 use Rattle.checks.specs.Ready.{walk}
-use Rattle.guided_expand.specs.Estimates.{estimates}
-use Rattle.guided_expand.specs.Work.{work, progress}
+use Rattle.guided_offers.specs.Estimates.{estimates}
+use Rattle.guided_offers.specs.Work.{work}
+use Rattle.guided_expand.specs.Progress.{progress}
 use Rattle.guided_expand.specs.Opening.{Opening}
 use Rattle.guided_expand.proofs.Walking.{Walking, settles-stage, settles-node, settles-order, walk-start, walk-falls, walk-step, walk-branches, walk-dead, walk-leading, walk-more, walk-done}
 use borrow.Author.Needs.{needs}
@@ -15,9 +16,9 @@ use Rattle.guided_expand.proofs.steps.settle.Statement.{statement}
 use Rattle.guided_expand.proofs.steps.settle.Tie as tie
 
 abbrev Inv-loop : tie.InvT-loop
-Inv-loop keys₀ via₀ heap₀ pos₀ stack₀ filled₀ width steps first row inner by-stage by-node source s until left₀ m₀ e₀ keys via heap pos stack filled left m e =
-    ((x : Opening (walk (read steps inner) first row) (estimates by-stage by-node) source width (progress (work keys₀ via₀ heap₀ pos₀ stack₀) filled₀ left₀))
-    → Walking (x .by) source width (progress (work keys₀ via₀ heap₀ pos₀ stack₀) filled₀ left₀) (progress (work keys via heap pos stack) filled left) (m .node .0) e)
+Inv-loop keys₀ via₀ heap₀ pos₀ stack₀ filled₀ pairs steps first row inner by-stage by-node source s until left₀ m₀ e₀ keys via heap pos stack filled left m e =
+    ((x : Opening (walk (read steps inner) first row) (estimates by-stage by-node) source pairs (progress (work keys₀ via₀ heap₀ pos₀ stack₀) filled₀ left₀))
+    → Walking (x .by) source pairs (progress (work keys₀ via₀ heap₀ pos₀ stack₀) filled₀ left₀) (progress (work keys via heap pos stack) filled left) (m .node .0) e)
     × (e ≤ until)
     × (length keys ≡ length keys₀)
     × (length via ≡ length via₀)
@@ -27,7 +28,7 @@ Inv-loop keys₀ via₀ heap₀ pos₀ stack₀ filled₀ width steps first row 
     × Tests (read steps inner .inner .step) m
 
 abbrev μ-loop : tie.MeasureT-loop
-μ-loop keys₀ via₀ heap₀ pos₀ stack₀ filled₀ width steps first row inner by-stage by-node source s until left₀ m₀ e₀ keys via heap pos stack filled left m e = until - e
+μ-loop keys₀ via₀ heap₀ pos₀ stack₀ filled₀ pairs steps first row inner by-stage by-node source s until left₀ m₀ e₀ keys via heap pos stack filled left m e = until - e
 
 -- the place before a place
 abbrev start-of : tie.At-loop Inv-loop μ-loop → tie.Start Inv-loop μ-loop

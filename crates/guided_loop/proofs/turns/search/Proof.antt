@@ -4,20 +4,22 @@ use mathlib.Core.Bool.{false}
 use Prim.Native.Nat.{_-_, _≤_}
 use native.Mathlib.Omega.{arith}
 use borrow.Author.Needs.{needs}
-use lib.ListN.{length, length-set}
+use lib.ListN.{length}
 use Rattle.checks.specs.Tables.{read, pairsIn}
 use Rattle.checks.specs.Ready.{walk}
-use Rattle.guided_expand.specs.Estimates.{estimates}
-use Rattle.guided_expand.specs.Work.{work, progress}
+use Rattle.guided_offers.specs.Estimates.{estimates}
+use Rattle.guided_offers.specs.Work.{work}
+use Rattle.guided_expand.specs.Progress.{progress}
+use Rattle.guided_expand.specs.Guides.{few-pairs}
 use Rattle.guided_loop.specs.Search.{Turning, Begun}
-use Rattle.guided_loop.proofs.Beginning.{narrow, start-small, begin-row, begin-asks, begin-begun, begin-searched}
-use Rattle.guided_loop.proofs.Turning.{turn-takes, turn-none, turn-room, turn-fits, turn-small, turn-placed, turn-inside, turn-estimate, turn-asks, turn-goal, turn-more}
+use Rattle.guided_loop.proofs.Beginning.{narrow, start-small, begin-block, begin-asks, begin-begun, begin-searched}
+use Rattle.guided_loop.proofs.Turning.{turn-takes, turn-none, turn-room, turn-logs, turn-placed, turn-inside, turn-estimate, turn-asks, turn-goal, turn-more}
 use Rattle.guided_loop.proofs.turns.search.Statement.{statement}
 use Rattle.guided_loop.proofs.turns.search.Tie as tie
 
 -- the loop was begun, and whatever it was begun by, this many turns are done
 abbrev Inv-search : tie.InvT-search
-Inv-search keys₀ via₀ heap₀ pos₀ stack₀ log₀ steps first row inner by-stage by-node yes' z rest width begin filled₀ counts₀ floor₀ count₀ found₀ node₀ cost₀ keys via heap pos stack log filled counts floor count found node cost =
+Inv-search keys₀ via₀ heap₀ pos₀ stack₀ log₀ steps first row inner by-stage by-node yes' z rest pairs begin filled₀ counts₀ floor₀ count₀ found₀ node₀ cost₀ keys via heap pos stack log filled counts floor count found node cost =
     Begun z (walk (read steps inner) first row) (estimates by-stage by-node) yes' begin (progress (work keys₀ via₀ heap₀ pos₀ stack₀) filled₀ counts₀) log₀
     × ((x : Begun z (walk (read steps inner) first row) (estimates by-stage by-node) yes' begin (progress (work keys₀ via₀ heap₀ pos₀ stack₀) filled₀ counts₀) log₀)
     → Turning (x .prepared .by) (work keys₀ via₀ heap₀ pos₀ stack₀) log₀ (progress (work keys via heap pos stack) filled counts) log floor count)
@@ -31,17 +33,17 @@ Inv-search keys₀ via₀ heap₀ pos₀ stack₀ log₀ steps first row inner b
     × (length log ≡ length log₀)
 
 abbrev μ-search : tie.MeasureT-search
-μ-search keys₀ via₀ heap₀ pos₀ stack₀ log₀ steps first row inner by-stage by-node yes' z rest width begin filled₀ counts₀ floor₀ count₀ found₀ node₀ cost₀ keys via heap pos stack log filled counts floor count found node cost = pairsIn z - count
+μ-search keys₀ via₀ heap₀ pos₀ stack₀ log₀ steps first row inner by-stage by-node yes' z rest pairs begin filled₀ counts₀ floor₀ count₀ found₀ node₀ cost₀ keys via heap pos stack log filled counts floor count found node cost = pairsIn z - count
 
 -- the places before a place
 abbrev start-of : tie.After-pair-at Inv-search μ-search → tie.Start Inv-search μ-search
 start-of c = search
 
-abbrev first-of : tie.After-open-row Inv-search μ-search → tie.After-pair-at Inv-search μ-search
+abbrev first-of : tie.After-open-block Inv-search μ-search → tie.After-pair-at Inv-search μ-search
 first-of c = search
 
-abbrev row-of : tie.After-empty Inv-search μ-search → tie.After-open-row Inv-search μ-search
-row-of c = search
+abbrev block-of : tie.After-empty Inv-search μ-search → tie.After-open-block Inv-search μ-search
+block-of c = search
 
 abbrev none-of : tie.After-insert Inv-search μ-search → tie.After-empty Inv-search μ-search
 none-of c = search
@@ -52,8 +54,11 @@ opened-of c = search
 abbrev head-of : tie.After-take Inv-search μ-search → tie.At-search Inv-search μ-search
 head-of c = search
 
-abbrev taken-of : tie.After-pair-of Inv-search μ-search → tie.After-take Inv-search μ-search
+abbrev taken-of : tie.After-log-pair Inv-search μ-search → tie.After-take Inv-search μ-search
 taken-of c = search
+
+abbrev logged-of : tie.After-pair-of Inv-search μ-search → tie.After-log-pair Inv-search μ-search
+logged-of c = search
 
 abbrev pair-of : tie.After-pair-estimate Inv-search μ-search → tie.After-pair-of Inv-search μ-search
 pair-of c = search
@@ -70,20 +75,29 @@ goal-of-no c = search
 abbrev no-of : tie.After-settle Inv-search μ-search → tie.Else2 Inv-search μ-search
 no-of c = search
 
-add-width : tie.Need-add-width Inv-search μ-search
-add-width c =
+cast-pairs : tie.Need-cast-pairs Inv-search μ-search
+cast-pairs c = search needs
+
+add-pairs : tie.Need-add-pairs Inv-search μ-search
+add-pairs c =
     let start : tie.Start Inv-search μ-search = search in
     omega (arith, narrow (start .pre .prepared .by))
+
+mul-pairs : tie.Need-mul-pairs Inv-search μ-search
+mul-pairs c =
+    let start : tie.Start Inv-search μ-search = search in
+    omega (arith, few-pairs (start .pre .prepared .by .ready))
 
 pair-at-requires : tie.Need-pair-at-requires Inv-search μ-search
 pair-at-requires c κs =
     let start : tie.Start Inv-search μ-search = search in
     start-small (start .pre .prepared .by)
 
-open-row-requires : tie.Need-open-row-requires Inv-search μ-search
-open-row-requires c κs =
-    let start : tie.Start Inv-search μ-search = search in
-    begin-row (start .pre)
+open-block-requires : tie.Need-open-block-requires Inv-search μ-search
+open-block-requires c κs =
+    let first : tie.After-pair-at Inv-search μ-search = search in
+    let start = start-of first in
+    begin-block (start .pre) (first .pair-at .ensures)
 
 empty-requires : tie.Need-empty-requires Inv-search μ-search
 empty-requires c κs = search needs
@@ -91,19 +105,19 @@ empty-requires c κs = search needs
 insert-requires : tie.Need-insert-requires Inv-search μ-search
 insert-requires c κs =
     let none : tie.After-empty Inv-search μ-search = search in
-    let row = row-of none in
-    let first = first-of row in
+    let block = block-of none in
+    let first = first-of block in
     let start = start-of first in
-    begin-asks (start .pre) (row .open-row .kept .0) (row .open-row .ensures) (first .pair-at .ensures) (none .empty .ensures)
+    begin-asks (start .pre) (first .pair-at .ensures) (block .open-block .kept .0) (block .open-block .ensures) (none .empty .ensures)
 
 search-holds : tie.Need-search-holds Inv-search μ-search
 search-holds c =
     let opened : tie.After-insert Inv-search μ-search = search in
     let none = none-of opened in
-    let row = row-of none in
-    let first = first-of row in
+    let block = block-of none in
+    let first = first-of block in
     let start = start-of first in
-    let begun = begin-begun (start .pre) (row .open-row .kept .0) (row .open-row .ensures) (first .pair-at .ensures) (none .empty .ensures) (opened .insert .ensures) in
+    let begun = begin-begun (start .pre) (first .pair-at .ensures) (block .open-block .kept .0) (block .open-block .ensures) (none .empty .ensures) (opened .insert .ensures) in
     (begun, (λ x. x .turning), omega arith, refl, refl, refl, refl, refl, refl, refl)
 
 take-requires : tie.Need-take-requires Inv-search μ-search
@@ -114,37 +128,13 @@ take-requires c κs =
     let w = head .search .inv .1 begun in
     turn-takes (begun .prepared) w (more .if1 .taken)
 
-cast-log : tie.Need-cast-log Inv-search μ-search
-cast-log c =
+log-pair-requires : tie.Need-log-pair-requires Inv-search μ-search
+log-pair-requires c κs =
     let taken : tie.After-take Inv-search μ-search = search in
     let head = head-of taken in
     let begun = head .search .inv .0 in
     let w = head .search .inv .1 begun in
-    omega (arith, turn-small (begun .prepared) w (begun .begins) (taken .take .ensures) .0)
-
-mul-log : tie.Need-mul-log Inv-search μ-search
-mul-log c =
-    let taken : tie.After-take Inv-search μ-search = search in
-    let head = head-of taken in
-    let begun = head .search .inv .0 in
-    let w = head .search .inv .1 begun in
-    omega (arith, turn-small (begun .prepared) w (begun .begins) (taken .take .ensures) .1)
-
-slice-write-log : tie.Need-slice-write-log Inv-search μ-search
-slice-write-log c =
-    let taken : tie.After-take Inv-search μ-search = search in
-    let head = head-of taken in
-    let begun = head .search .inv .0 in
-    let w = head .search .inv .1 begun in
-    turn-fits (begun .prepared) w (begun .begins) (taken .take .ensures)
-
-add-count : tie.Need-add-count Inv-search μ-search
-add-count c =
-    let taken : tie.After-take Inv-search μ-search = search in
-    let head = head-of taken in
-    let begun = head .search .inv .0 in
-    let w = head .search .inv .1 begun in
-    omega (arith, turn-small (begun .prepared) w (begun .begins) (taken .take .ensures) .1)
+    turn-logs (begun .prepared) w (begun .begins) (taken .take .ensures)
 
 index-1-pair-of : tie.Need-index-1-pair-of Inv-search μ-search
 index-1-pair-of c = search needs
@@ -160,7 +150,8 @@ pair-of-requires c κs =
 pair-estimate-requires : tie.Need-pair-estimate-requires Inv-search μ-search
 pair-estimate-requires c κs =
     let at : tie.After-pair-of Inv-search μ-search = search in
-    let taken = taken-of at in
+    let logged = logged-of at in
+    let taken = taken-of logged in
     let head = head-of taken in
     let begun = head .search .inv .0 in
     let w = head .search .inv .1 begun in
@@ -170,7 +161,8 @@ sub-spent : tie.Need-sub-spent Inv-search μ-search
 sub-spent c =
     let rest : tie.After-pair-estimate Inv-search μ-search = search in
     let at = pair-of rest in
-    let taken = taken-of at in
+    let logged = logged-of at in
+    let taken = taken-of logged in
     let head = head-of taken in
     let begun = head .search .inv .0 in
     let w = head .search .inv .1 begun in
@@ -179,7 +171,8 @@ sub-spent c =
 is-goal-requires : tie.Need-is-goal-requires Inv-search μ-search
 is-goal-requires c κs =
     let at : tie.After-pair-of Inv-search μ-search = search in
-    let taken = taken-of at in
+    let logged = logged-of at in
+    let taken = taken-of logged in
     let head = head-of taken in
     let begun = head .search .inv .0 in
     let w = head .search .inv .1 begun in
@@ -189,7 +182,8 @@ settle-requires : tie.Need-settle-requires Inv-search μ-search
 settle-requires c κs =
     let rest : tie.After-pair-estimate Inv-search μ-search = search in
     let at = pair-of rest in
-    let taken = taken-of at in
+    let logged = logged-of at in
+    let taken = taken-of logged in
     let head = head-of taken in
     let begun = head .search .inv .0 in
     let w = head .search .inv .1 begun in
@@ -202,11 +196,12 @@ search-less c =
     let goal = goal-of-no no in
     let rest = rest-of goal in
     let at = pair-of rest in
-    let taken = taken-of at in
+    let logged = logged-of at in
+    let taken = taken-of logged in
     let head = head-of taken in
     let begun = head .search .inv .0 in
     let w = head .search .inv .1 begun in
-    omega (arith, turn-room (begun .prepared) w (begun .begins) (taken .take .ensures))
+    omega (arith, turn-room (begun .prepared) w (begun .begins) (taken .take .ensures), logged .log-pair .ensures .0)
 
 search-again : tie.Need-search-again Inv-search μ-search
 search-again c =
@@ -215,7 +210,8 @@ search-again c =
     let goal = goal-of-no no in
     let rest = rest-of goal in
     let at = pair-of rest in
-    let taken = taken-of at in
+    let logged = logged-of at in
+    let taken = taken-of logged in
     let head = head-of taken in
     let begun = head .search .inv .0 in
     let w = head .search .inv .1 begun in
@@ -224,15 +220,15 @@ search-again c =
       (λ x.
           let asked = turn-asks (x .prepared) (head .search .inv .1 x) (x .begins) (taken .take .ensures) (at .pair-of .result) (at .pair-of .ensures) (rest .pair-estimate .ensures) in
           turn-more (x .prepared) (head .search .inv .1 x) (x .begins) (taken .take .ensures) (at .pair-of .result) (at .pair-of .ensures) (rest .pair-estimate .ensures)
-          (goal .is-goal .ensures) (no .if2 .left) (kept .1 .0) (settled .settle .ensures asked)),
-      omega (arith, turn-room (begun .prepared) w (begun .begins) (taken .take .ensures)),
+          (goal .is-goal .ensures) (logged .log-pair .ensures) (no .if2 .left) (kept .1 .0) (settled .settle .ensures asked)),
+      omega (arith, turn-room (begun .prepared) w (begun .begins) (taken .take .ensures), logged .log-pair .ensures .0),
       head .search .inv .3,
       kept .0 ∙ head .search .inv .4,
       kept .1 .0 ∙ head .search .inv .5,
       kept .1 .1 .0 ∙ taken .take .kept .1 .0 ∙ head .search .inv .6,
       kept .1 .1 .1 .0 ∙ taken .take .kept .1 .1 .0 ∙ head .search .inv .7,
       kept .1 .1 .1 .1 .0 ∙ head .search .inv .8,
-      simp length-set (head .search .inv .9),
+      logged .log-pair .kept .0 ∙ head .search .inv .9,
     )
 
 same-length : tie.Need-same-length Inv-search μ-search
@@ -240,8 +236,8 @@ same-length c =
     let head : tie.At-search Inv-search μ-search = search in
     let opened = opened-of head in
     let none = none-of opened in
-    let row = row-of none in
-    head .search .inv .4 ∙ opened .insert .kept .0 ∙ row .open-row .kept .0
+    let block = block-of none in
+    head .search .inv .4 ∙ opened .insert .kept .0 ∙ block .open-block .kept .0
 
 same-length-2 : tie.Need-same-length-2 Inv-search μ-search
 same-length-2 c =
@@ -276,11 +272,11 @@ returns c =
     let head : tie.At-search Inv-search μ-search = search in
     let opened = opened-of head in
     let none = none-of opened in
-    let row = row-of none in
-    let first = first-of row in
+    let block = block-of none in
+    let first = first-of block in
     λ x.
-    let begun = begin-begun x (row .open-row .kept .0) (row .open-row .ensures) (first .pair-at .ensures) (none .empty .ensures) (opened .insert .ensures) in
-    begin-searched x (row .open-row .kept .0) (row .open-row .ensures) (first .pair-at .ensures) (none .empty .ensures) (opened .insert .ensures)
+    let begun = begin-begun x (first .pair-at .ensures) (block .open-block .kept .0) (block .open-block .ensures) (none .empty .ensures) (opened .insert .ensures) in
+    begin-searched x (first .pair-at .ensures) (block .open-block .kept .0) (block .open-block .ensures) (none .empty .ensures) (opened .insert .ensures)
     (turn-none (x .prepared) (head .search .inv .1 begun) (c .if1 .left) (head .search .inv .3) refl)
 
 same-length-7 : tie.Need-same-length-7 Inv-search μ-search
@@ -288,8 +284,8 @@ same-length-7 c =
     let head : tie.At-search Inv-search μ-search = search in
     let opened = opened-of head in
     let none = none-of opened in
-    let row = row-of none in
-    head .search .inv .4 ∙ opened .insert .kept .0 ∙ row .open-row .kept .0
+    let block = block-of none in
+    head .search .inv .4 ∙ opened .insert .kept .0 ∙ block .open-block .kept .0
 
 same-length-8 : tie.Need-same-length-8 Inv-search μ-search
 same-length-8 c =
@@ -318,8 +314,9 @@ same-length-11 c =
 
 same-length-12 : tie.Need-same-length-12 Inv-search μ-search
 same-length-12 c =
-    let head : tie.At-search Inv-search μ-search = search in
-    simp length-set (head .search .inv .9)
+    let logged : tie.After-log-pair Inv-search μ-search = search in
+    let head = head-of (taken-of logged) in
+    logged .log-pair .kept .0 ∙ head .search .inv .9
 
 returns-2 : tie.Need-returns-2 Inv-search μ-search
 returns-2 c =
@@ -327,17 +324,18 @@ returns-2 c =
     let goal = goal-of-yes yes in
     let rest = rest-of goal in
     let at = pair-of rest in
-    let taken = taken-of at in
+    let logged = logged-of at in
+    let taken = taken-of logged in
     let head = head-of taken in
     let opened = opened-of head in
     let none = none-of opened in
-    let row = row-of none in
-    let first = first-of row in
+    let block = block-of none in
+    let first = first-of block in
     λ x.
-    let begun = begin-begun x (row .open-row .kept .0) (row .open-row .ensures) (first .pair-at .ensures) (none .empty .ensures) (opened .insert .ensures) in
-    begin-searched x (row .open-row .kept .0) (row .open-row .ensures) (first .pair-at .ensures) (none .empty .ensures) (opened .insert .ensures)
+    let begun = begin-begun x (first .pair-at .ensures) (block .open-block .kept .0) (block .open-block .ensures) (none .empty .ensures) (opened .insert .ensures) in
+    begin-searched x (first .pair-at .ensures) (block .open-block .kept .0) (block .open-block .ensures) (none .empty .ensures) (opened .insert .ensures)
     (turn-goal (x .prepared) (head .search .inv .1 begun) (begun .begins) (taken .take .ensures) (at .pair-of .result) (at .pair-of .ensures) (rest .pair-estimate .ensures)
-    (goal .is-goal .ensures) (yes .if2 .taken) refl refl refl refl)
+    (goal .is-goal .ensures) (logged .log-pair .ensures) (yes .if2 .taken) refl refl refl refl)
 
 pub search-spec : {M : Type 1} → statement M
 search-spec =
@@ -345,17 +343,16 @@ search-spec =
     (tie.spec
     Inv-search
     μ-search
-    add-width
+    cast-pairs
+    add-pairs
+    mul-pairs
     pair-at-requires
-    open-row-requires
+    open-block-requires
     empty-requires
     insert-requires
     search-holds
     take-requires
-    cast-log
-    mul-log
-    slice-write-log
-    add-count
+    log-pair-requires
     index-1-pair-of
     pair-of-requires
     pair-estimate-requires

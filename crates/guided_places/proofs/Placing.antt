@@ -1,0 +1,43 @@
+-- The place of an opened pair and the goal test, on each way through the code.
+-- Assumes nothing.
+use Prim.Native.Nat.{ℕ, _+_, _≤_, _<_}
+use mathlib.Core.Path.{_≡_, sym, _∙_, ap, subst}
+use mathlib.Core.Bool.{Bool, false, _&&_}
+use mathlib.Core.List.{List}
+use lib.Dec.{eqb}
+use lib.ListN.{getD}
+use borrow.Author.Tests.{eq-eqb, ne-eqb}
+use Rattle.theory.specs.Basics.{pick-true, pick-false}
+use Rattle.via_marks.specs.Marks.{stepIn}
+use Rattle.guided_places.specs.Places.{stageAt, Placed}
+
+module _ (via to : List ℕ) (begin start x : ℕ) where
+  pub at-begin : x ≡ begin → stageAt via to begin start x ≡ start
+  unfolding stageAt
+  at-begin q = pick-true _ _ _ (eq-eqb x begin q)
+
+  pub at-step : (x ≡ begin → ⊥) → stageAt via to begin start x ≡ getD to (stepIn (getD via x 0)) 0
+  unfolding stageAt
+  at-step q = pick-false _ _ _ (ne-eqb x begin q)
+
+module _ {via to row : List ℕ} {begin start x : ℕ} (p : Placed via to row begin start x) where
+  abbrev InRow : ℕ → Type 0
+  InRow s = (s < 256) × (getD row s 0 ≤ x) × (x < getD row s 0 + 512)
+
+  pub placed-begin : x ≡ begin → InRow start
+  placed-begin q = subst InRow (at-begin via to begin start x q) (p .stage, p .from-row, p .in-row)
+
+  -- step e leads to stage s
+  module _ (q : x ≡ begin → ⊥) {e s : ℕ} (w : e ≡ stepIn (getD via x 0)) (led : s ≡ getD to e 0) where
+    pub placed-stage : s ≡ stageAt via to begin start x
+    placed-stage = led ∙ ap (λ (k : ℕ). getD to k 0) w ∙ sym (at-step via to begin start x q)
+
+    pub placed-step : InRow s
+    placed-step = subst InRow (sym placed-stage) (p .stage, p .from-row, p .in-row)
+
+-- the goal test
+pub goal-there : (s end : ℕ) (b : Bool) → s ≡ end → b ≡ (eqb s end && b)
+goal-there s end b q = sym (ap (λ (t : Bool). t && b) (eq-eqb s end q))
+
+pub goal-elsewhere : (s end : ℕ) (b : Bool) → (s ≡ end → ⊥) → false ≡ (eqb s end && b)
+goal-elsewhere s end b q = sym (ap (λ (t : Bool). t && b) (ne-eqb s end q))

@@ -1,0 +1,75 @@
+// One settled pair of the guided search: its stage and its node, whether it is a goal pair, and its entry in the log.
+ghost use mathlib.Core.Path.{_≡_};
+ghost use mathlib.Core.Bool.{false, _&&_};
+ghost use Prim.Native.Nat.{_+_, _≤_, _<_};
+ghost use lib.Dec.{eqb};
+ghost use lib.ListN.{length, getD, set};
+ghost use Rattle.chart_fields.specs.Ends.{tos};
+ghost use Rattle.guided_places.specs.Places.{stageAt, Placed};
+use chart_fields::to_at;
+use convert::wide;
+use definitions::Node;
+use definitions::Stage;
+use via_marks::step_in;
+
+// A pair of a stage and a node.
+pub struct Pair {
+    pub stage: Stage,
+    pub node: Node,
+}
+
+// The stage and the node of pair x, which stands in the row of stage s.
+fn pair_in(row: &[u32; 256], s: Stage, x: usize) -> Pair
+    requires { ⌜ (s .0 < 256) × (getD (now row) (s .0) 0 ≤ x) × (x < getD (now row) (s .0) 0 + 512) ⌝ }
+    ensures { λ r. ⌜ (r .stage .0 ≡ s .0) × (getD (now (row .entry)) (r .stage .0) 0 + r .node .0 ≡ x) ⌝ }
+{
+    let first = wide(row[s.0 as usize]);
+    Pair {
+        stage: s,
+        node: Node((x - first) as u16),
+    }
+}
+
+// The stage and the node of the opened pair x. Its stage is the one that the step in `via` enters, so no division by the
+// size of a row is needed.
+pub fn pair_of<'a>(
+    via: &'a [u32],
+    ends: &'a [u32; 1024],
+    row: &'a [u32; 256],
+    begin: usize,
+    start: Stage,
+    x: usize,
+) -> Pair
+    requires { ⌜ Placed (now via) (tos (now ends)) (now row) begin (start .0) x ⌝ }
+    ensures { λ r. ⌜
+        (r .stage .0 ≡ stageAt (now (via .entry)) (tos (now (ends .entry))) begin (start .0) x)
+        × (getD (now (row .entry)) (r .stage .0) 0 + r .node .0 ≡ x)
+        ⌝ }
+{
+    if x == begin {
+        return pair_in(row, start, x);
+    }
+    let e = step_in(via[x]).0 as usize;
+    pair_in(row, to_at(ends, e), x)
+}
+
+// Whether an opened pair is a goal pair: it is one of the end stage, and its node finishes at 1.
+pub fn is_goal(yes: &[bool; 512], end: Stage, at: Pair) -> bool
+    requires { ⌜ at .node .0 < 512 ⌝ }
+    ensures { λ r. ⌜ r ≡ eqb (at .stage .0) (end .0) && getD (now (yes .entry)) (at .node .0) false ⌝ }
+{
+    if at.stage.0 == end.0 {
+        return yes[at.node.0 as usize];
+    }
+    false
+}
+
+// Writes pair x to the log, of which `count` entries are written, and counts it.
+pub fn log_pair(log: &mut [u32], count: usize, x: usize) -> usize
+    requires { ⌜ (count < length (now log)) × (x < 4294967296) ⌝ }
+    ensures { λ r. ⌜ (r ≡ count + 1) × (now (log .exit) ≡ set (now (log .entry)) count x) ⌝ }
+{
+    let next = count + 1;
+    log[count] = x as u32;
+    next
+}

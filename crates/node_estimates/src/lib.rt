@@ -1,0 +1,75 @@
+// The diagram estimates of the nodes of a rule diagram that stands in a table.
+ghost use mathlib.Core.Path.{_≡_};
+ghost use Prim.Native.Nat.{_+_, _<_};
+ghost use lib.ListN.{length, getD};
+ghost use Rattle.diagram_fields.specs.Words.{nodesIn};
+ghost use Rattle.nodes.specs.Walks.{Falls};
+ghost use Rattle.node_estimates.specs.Estimates.{Priced, Joins, Estimated};
+use definitions::NONE;
+use definitions::Node;
+use definitions::Shape;
+use definitions::Step;
+use diagram_fields::hi_at;
+use diagram_fields::lo_at;
+use diagram_fields::step_at;
+
+// The smaller of two estimates, one of them with a cost added. A sum that is no number below NONE counts as none.
+fn join(low: u32, high: u32, cost: u32) -> u32
+    ensures { λ r. ⌜ Joins low high cost r ⌝ }
+{
+    if NONE - high <= cost {
+        return low;
+    }
+    let through = high + cost;
+    if through < low {
+        return through;
+    }
+    low
+}
+
+// An inner node's estimate: the smaller of that at lo and that at hi with the cost of its step.
+fn inner_estimate<'a>(
+    estimates: &'a [u32; 512],
+    cost: &'a [u32; 1024],
+    e: Step,
+    lo: Node,
+    hi: Node,
+) -> u32
+    requires { ⌜ (e .0 < 1024) × (lo .0 < 512) × (hi .0 < 512) ⌝ }
+    ensures { λ r. ⌜
+        (let by = now (estimates .entry) in
+        Joins (getD by (lo .0) 0) (getD by (hi .0) 0) (getD (now (cost .entry)) (e .0) 0) r)
+        ⌝ }
+{
+    let low = estimates[lo.0 as usize];
+    let high = estimates[hi.0 as usize];
+    join(low, high, cost[e.0 as usize])
+}
+
+// Fills the table: the estimate of each node of a diagram that stands in the tables, from node 0 up.
+pub fn fill_diagram_estimates<'a>(
+    estimates: &mut [u32; 512],
+    z: Shape,
+    inner: &'a [u32; 512],
+    cost: &'a [u32; 1024],
+)
+    requires { ⌜
+        (let t = nodesIn (now inner) in
+        Falls (t .lo) (z .nodes + 1) × Falls (t .hi) (z .nodes + 1) × Priced (t .step) (now cost) (z .nodes))
+        ⌝ }
+    requires { ⌜ length (now estimates) ≡ 512 ⌝ }
+    ensures { λ _. ⌜
+        (let t = nodesIn (now (inner .entry)) in
+        Estimated (t .step) (t .lo) (t .hi) (now (cost .entry)) (z .nodes) (now (estimates .exit)))
+        ⌝ }
+{
+    let count = z.nodes;
+    estimates[0] = NONE;
+    estimates[1] = 0;
+    for n in 2..count + 2 {
+        let e = step_at(inner, n);
+        let lo = lo_at(inner, n);
+        let hi = hi_at(inner, n);
+        estimates[n] = inner_estimate(estimates, cost, Step(e), Node(lo), Node(hi));
+    }
+}
