@@ -142,10 +142,14 @@ sweepSlices cost via nodes plan = record { cost = cost; via = via; nodes = nodes
 abbrev pub sweepLoad : List ℕ → List ℕ → SweepSlices → Load
 sweepLoad chart rules x = load chart rules (length (x .cost) ∷ length (x .via) ∷ length (x .nodes) ∷ []) (length (x .plan))
 
-pub record SweepCall (chart rules : List ℕ) (before after : SweepSlices) (r : Answer) : Type 0 where
-  pub swept : Swept (sweepLoad chart rules before) (before .plan) (after .plan) (before .cost) (after .cost) r
-  pub via : Scratch (sweepLoad chart rules before) (before .via) (after .via)
-  pub nodes : Scratch (sweepLoad chart rules before) (before .nodes) (after .nodes)
+-- the answer and each slice, by what the checks give
+pub record SweepPromise (o : Load) (before after : SweepSlices) (r : Answer) : Type 0 where
+  pub swept : Swept o (before .plan) (after .plan) (before .cost) (after .cost) r
+  pub via : Scratch o (before .via) (after .via)
+  pub nodes : Scratch o (before .nodes) (after .nodes)
+
+abbrev pub SweepCall : List ℕ → List ℕ → SweepSlices → SweepSlices → Answer → Type 0
+SweepCall chart rules before after r = SweepPromise (sweepLoad chart rules before) before after r
 
 -- the slices that a guided search is lent
 pub record GuidedSlices : Type 0 where
@@ -164,10 +168,13 @@ abbrev pub guidedLoad : List ℕ → List ℕ → GuidedSlices → Load
 guidedLoad chart rules x =
     load chart rules (length (x .keys) ∷ length (x .via) ∷ length (x .heap) ∷ length (x .pos) ∷ length (x .stack) ∷ length (x .log) ∷ []) (length (x .plan))
 
-pub record GuidedCall (chart rules : List ℕ) (before after : GuidedSlices) (r : Answer) : Type 0 where
-  pub guided : Guided (guidedLoad chart rules before) (before .plan) (after .plan) (before .log) (after .log) r
-  pub keys : Scratch (guidedLoad chart rules before) (before .keys) (after .keys)
-  pub via : Scratch (guidedLoad chart rules before) (before .via) (after .via)
-  pub heap : Scratch (guidedLoad chart rules before) (before .heap) (after .heap)
-  pub pos : Scratch (guidedLoad chart rules before) (before .pos) (after .pos)
-  pub stack : Scratch (guidedLoad chart rules before) (before .stack) (after .stack)
+pub record GuidedPromise (o : Load) (before after : GuidedSlices) (r : Answer) : Type 0 where
+  pub guided : Guided o (before .plan) (after .plan) (before .log) (after .log) r
+  pub keys : Scratch o (before .keys) (after .keys)
+  pub via : Scratch o (before .via) (after .via)
+  pub heap : Scratch o (before .heap) (after .heap)
+  pub pos : Scratch o (before .pos) (after .pos)
+  pub stack : Scratch o (before .stack) (after .stack)
+
+abbrev pub GuidedCall : List ℕ → List ℕ → GuidedSlices → GuidedSlices → Answer → Type 0
+GuidedCall chart rules before after r = GuidedPromise (guidedLoad chart rules before) before after r

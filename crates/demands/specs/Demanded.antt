@@ -11,7 +11,7 @@ use Rattle.definitions.specs.Diagrams.{Diagram}
 use Rattle.definitions.specs.Pairs.{reachedPairs}
 use Rattle.definitions.specs.Plans.{graph, automaton, cheapest}
 use Rattle.definitions.specs.Answers.{Load, ready, refused}
-use Rattle.definitions.specs.Promises.{Outcome, Scratch, Swept, Guided, SweepSlices, GuidedSlices, sweepLoad, guidedLoad, SweepCall, GuidedCall}
+use Rattle.definitions.specs.Promises.{Outcome, Scratch, Swept, Guided, SweepSlices, GuidedSlices, SweepPromise, GuidedPromise, SweepCall, GuidedCall}
 use Rattle.definitions.specs.declared.Answer.{Answer}
 use Rattle.theory.specs.Limits.{Valid}
 use Rattle.demands.specs.Demands.{Call, sweepCall, guidedCall, need, Passes, StaysFrom, Searched, Sweeps, Settles, Demands}
@@ -40,44 +40,35 @@ module _ (chart rules : List ℕ) (lent lent′ : SweepSlices) (r : Answer) wher
   swept = sweepCall lent lent′ r
 
   module _ (promise : SweepCall chart rules lent lent′ r) where
-    -- the parts of the promise, by the outcome of the checks
-    record SweepParts (o : Load) : Type 0 where
-      sweep : Swept o (lent .plan) (lent′ .plan) (lent .cost) (lent′ .cost) r
-      via : Scratch o (lent .via) (lent′ .via)
-      nodes : Scratch o (lent .nodes) (lent′ .nodes)
-
-    sweep-parts : SweepParts (sweepLoad chart rules lent)
-    sweep-parts = record { sweep = promise .swept; via = promise .via; nodes = promise .nodes }
-
-    sweep-at : (c : Chart) (d : Diagram) → Passes chart rules swept c d → SweepParts (ready c d)
-    sweep-at c d a = subst SweepParts (passes-ready chart rules swept c d a) sweep-parts
+    sweep-at : (c : Chart) (d : Diagram) → Passes chart rules swept c d → SweepPromise (ready c d) lent lent′ r
+    sweep-at c d a = subst (λ (o : Load). SweepPromise o lent lent′ r) (passes-ready chart rules swept c d a) promise
 
     pub sweep-promised : Promised (loadOf chart rules swept) swept
-    sweep-promised = go (loadOf chart rules swept) refl sweep-parts
+    sweep-promised = go (loadOf chart rules swept) refl promise
       where
-        go : (o : Load) → loadOf chart rules swept ≡ o → SweepParts o → Promised o swept
-        go (refused n f p) e t = (t .sweep .0, t .sweep .1, ap₂ (λ (x : List ℕ) (y : List (List ℕ)). x ∷ y) (t .sweep .2) (ap₂ (λ (x y : List ℕ). x ∷ y ∷ []) (t .via) (t .nodes)))
-        go (ready c d) e t = (length (reachedPairs (graph c) (automaton c d)), t .sweep .0, past)
+        go : (o : Load) → loadOf chart rules swept ≡ o → SweepPromise o lent lent′ r → Promised o swept
+        go (refused n f p) e t = (t .swept .0, t .swept .1, ap₂ (λ (x : List ℕ) (y : List (List ℕ)). x ∷ y) (t .swept .2) (ap₂ (λ (x y : List ℕ). x ∷ y ∷ []) (t .via) (t .nodes)))
+        go (ready c d) e t = (length (reachedPairs (graph c) (automaton c d)), t .swept .0, past)
           where
             a : Passes chart rules swept c d
             a = ready-passes chart rules swept c d e
 
             past : (i : ℕ) → StaysFrom (need c d) (getD (swept .works) i []) (getD (swept .works′) i [])
-            past zero = cost-past c d (valid chart rules c d (a .files)) (lent .cost) (lent′ .cost) (t .sweep .1) (a .space .works 0 (omega arith))
+            past zero = cost-past c d (valid chart rules c d (a .files)) (lent .cost) (lent′ .cost) (t .swept .1) (a .space .works 0 (omega arith))
             past (suc zero) = scratch-past c d (lent .via) (lent′ .via) (t .via)
             past (suc (suc zero)) = scratch-past c d (lent .nodes) (lent′ .nodes) (t .nodes)
             past (suc (suc (suc i))) = nothing (need c d)
 
     swept-count : (c : Chart) (d : Diagram) → Passes chart rules swept c d → r .count ≡ length (reachedPairs (graph c) (automaton c d))
-    swept-count c d a = outcome-count (cheapest c d) c d _ (lent .plan) (lent′ .plan) r (sweep-at c d a .sweep .0)
+    swept-count c d a = outcome-count (cheapest c d) c d _ (lent .plan) (lent′ .plan) r (sweep-at c d a .swept .0)
 
     pub is-swept : (c : Chart) (d : Diagram) → Passes chart rules swept c d → Sweeps c d (lent′ .cost) r
     is-swept c d a =
         let v : Valid (graph c) = valid chart rules c d (a .files) in
         let t = sweep-at c d a in
         record {
-          least = cost-least c d v (lent .cost) (lent′ .cost) (t .sweep .1);
-          unreached = cost-unreached c d v (lent .cost) (lent′ .cost) (t .sweep .1);
+          least = cost-least c d v (lent .cost) (lent′ .cost) (t .swept .1);
+          unreached = cost-unreached c d v (lent .cost) (lent′ .cost) (t .swept .1);
           pairs = reachedPairs (graph c) (automaton c d);
           all = pairs-all c d v;
           only = pairs-only c d v;
@@ -92,39 +83,21 @@ module _ (chart rules : List ℕ) (given given′ : GuidedSlices) (q : Answer) w
   guided = guidedCall given given′ q
 
   module _ (promise : GuidedCall chart rules given given′ q) where
-    record GuidedParts (o : Load) : Type 0 where
-      search : Guided o (given .plan) (given′ .plan) (given .log) (given′ .log) q
-      keys : Scratch o (given .keys) (given′ .keys)
-      via : Scratch o (given .via) (given′ .via)
-      heap : Scratch o (given .heap) (given′ .heap)
-      pos : Scratch o (given .pos) (given′ .pos)
-      stack : Scratch o (given .stack) (given′ .stack)
-
-    guided-parts : GuidedParts (guidedLoad chart rules given)
-    guided-parts = record {
-      search = promise .guided;
-      keys = promise .keys;
-      via = promise .via;
-      heap = promise .heap;
-      pos = promise .pos;
-      stack = promise .stack;
-    }
-
-    guided-at : (c : Chart) (d : Diagram) → Passes chart rules guided c d → GuidedParts (ready c d)
-    guided-at c d a = subst GuidedParts (passes-ready chart rules guided c d a) guided-parts
+    guided-at : (c : Chart) (d : Diagram) → Passes chart rules guided c d → GuidedPromise (ready c d) given given′ q
+    guided-at c d a = subst (λ (o : Load). GuidedPromise o given given′ q) (passes-ready chart rules guided c d a) promise
 
     pub guided-promised : Promised (loadOf chart rules guided) guided
-    guided-promised = go (loadOf chart rules guided) refl guided-parts
+    guided-promised = go (loadOf chart rules guided) refl promise
       where
-        go : (o : Load) → loadOf chart rules guided ≡ o → GuidedParts o → Promised o guided
+        go : (o : Load) → loadOf chart rules guided ≡ o → GuidedPromise o given given′ q → Promised o guided
         go (refused n f p) e t =
-            let tail = ap₂ (λ (x y : List ℕ). x ∷ y ∷ given′ .log ∷ []) (t .pos) (t .stack) ∙ ap (λ (x : List ℕ). given .pos ∷ given .stack ∷ x ∷ []) (t .search .2) in
+            let tail = ap₂ (λ (x y : List ℕ). x ∷ y ∷ given′ .log ∷ []) (t .pos) (t .stack) ∙ ap (λ (x : List ℕ). given .pos ∷ given .stack ∷ x ∷ []) (t .guided .2) in
             let middle = ap₂ (λ (x : List ℕ) (y : List (List ℕ)). x ∷ y) (t .heap) tail in (
-              t .search .0,
-              t .search .1,
+              t .guided .0,
+              t .guided .1,
               ap₂ (λ (x : List ℕ) (y : List (List ℕ)). x ∷ y) (t .keys) (ap₂ (λ (x : List ℕ) (y : List (List ℕ)). x ∷ y) (t .via) middle),
             )
-        go (ready c d) e t = (q .count, t .search .0, past)
+        go (ready c d) e t = (q .count, t .guided .0, past)
           where
             v : Valid (graph c)
             v = valid chart rules c d (ready-passes chart rules guided c d e .files)
@@ -135,16 +108,16 @@ module _ (chart rules : List ℕ) (given given′ : GuidedSlices) (q : Answer) w
             past (suc (suc zero)) = scratch-past c d (given .heap) (given′ .heap) (t .heap)
             past (suc (suc (suc zero))) = scratch-past c d (given .pos) (given′ .pos) (t .pos)
             past (suc (suc (suc (suc zero)))) = scratch-past c d (given .stack) (given′ .stack) (t .stack)
-            past (suc (suc (suc (suc (suc zero))))) = log-past c d v (given .plan) (given′ .plan) (given .log) (given′ .log) q (t .search .0) (t .search .1)
+            past (suc (suc (suc (suc (suc zero))))) = log-past c d v (given .plan) (given′ .plan) (given .log) (given′ .log) q (t .guided .0) (t .guided .1)
             past (suc (suc (suc (suc (suc (suc i)))))) = nothing (need c d)
 
     pub is-settled : (c : Chart) (d : Diagram) → Passes chart rules guided c d → Settles c d (given .log) (given′ .log) q
     is-settled c d a =
         let t = guided-at c d a in
-        settles c d (valid chart rules c d (a .files)) (given .plan) (given′ .plan) (given .log) (given′ .log) q (t .search .0) (t .search .1)
+        settles c d (valid chart rules c d (a .files)) (given .plan) (given′ .plan) (given .log) (given′ .log) q (t .guided .0) (t .guided .1)
 
     pub settled-few : (c : Chart) (d : Diagram) → Passes chart rules guided c d → q .count ≤ length (reachedPairs (graph c) (automaton c d))
-    settled-few c d a = guided-at c d a .search .1 .few
+    settled-few c d a = guided-at c d a .guided .1 .few
 
 -- ---- both
 

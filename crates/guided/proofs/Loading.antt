@@ -8,7 +8,7 @@ use lib.ListN.{length, drop}
 use Rattle.definitions.specs.Charts.{Chart}
 use Rattle.definitions.specs.Diagrams.{Diagram}
 use Rattle.definitions.specs.Answers.{Load, ready, refused, load, workNeed, planNeed, refusal}
-use Rattle.definitions.specs.Promises.{Guided, Scratch, GuidedSlices, guidedLoad, GuidedCall}
+use Rattle.definitions.specs.Promises.{Scratch, GuidedSlices, guidedLoad, GuidedPromise, GuidedCall}
 use Rattle.definitions.specs.declared.Answer.{Answer}
 use Rattle.definitions.specs.declared.Shape.{Shape}
 use Rattle.checks.specs.declared.Loaded.{Loaded}
@@ -23,27 +23,8 @@ pub shortest-of : (keys via heap pos stack log : ℕ) {a b c d e : ℕ} → a �
 shortest-of keys via heap pos stack log ea eb ec ed ee =
     ee ∙ ap (λ (i : ℕ). min i log) (ed ∙ ap (λ (i : ℕ). min i stack) (ec ∙ ap (λ (i : ℕ). min i pos) (eb ∙ ap (λ (i : ℕ). min i heap) ea)))
 
--- what the call promises, by the outcome of the checks
-record Kept (o : Load) (x y : GuidedSlices) (r : Answer) : Type 0 where
-  pub guided : Guided o (x .plan) (y .plan) (x .log) (y .log) r
-  pub keys : Scratch o (x .keys) (y .keys)
-  pub via : Scratch o (x .via) (y .via)
-  pub heap : Scratch o (x .heap) (y .heap)
-  pub pos : Scratch o (x .pos) (y .pos)
-  pub stack : Scratch o (x .stack) (y .stack)
-
-kept-call : {s u : List ℕ} {x y : GuidedSlices} {r : Answer} (o : Load) → guidedLoad s u x ≡ o → Kept o x y r → GuidedCall s u x y r
-kept-call {s} {u} {x} {y} {r} o e k = record {
-  guided = subst (λ (p : Load). Guided p (x .plan) (y .plan) (x .log) (y .log) r) (sym e) (k .guided);
-  keys = subst (λ (p : Load). Scratch p (x .keys) (y .keys)) (sym e) (k .keys);
-  via = subst (λ (p : Load). Scratch p (x .via) (y .via)) (sym e) (k .via);
-  heap = subst (λ (p : Load). Scratch p (x .heap) (y .heap)) (sym e) (k .heap);
-  pos = subst (λ (p : Load). Scratch p (x .pos) (y .pos)) (sym e) (k .pos);
-  stack = subst (λ (p : Load). Scratch p (x .stack) (y .stack)) (sym e) (k .stack);
-}
-
 -- a refusal leaves everything
-kept-refused : (o : Load) (t : Read) (x : GuidedSlices) (l : Loaded) (r : Answer) → LoadsAs o t l → (l .number ≡ 0 → ⊥) → r ≡ refusal (l .number) (l .file) (l .place) 0 → Kept o x x r
+kept-refused : (o : Load) (t : Read) (x : GuidedSlices) (l : Loaded) (r : Answer) → LoadsAs o t l → (l .number ≡ 0 → ⊥) → r ≡ refusal (l .number) (l .file) (l .place) 0 → GuidedPromise o x x r
 kept-refused (refused number file place) t x l r h n e = record {
   guided = (e ∙ rw (h .0 .0, h .0 .1, h .0 .2), refl, refl);
   keys = refl;
@@ -73,7 +54,7 @@ module _ (s u : List ℕ) (x : GuidedSlices) {lent : ℕ}
       ∙ ap (λ (k : ℕ). load s u (k ∷ []) (length (x .plan))) (sym ew)
 
   pub call-refused : {r : Answer} → (l .number ≡ 0 → ⊥) → r ≡ refusal (l .number) (l .file) (l .place) 0 → GuidedCall s u x x r
-  call-refused {r} n e = kept-call (load s u (lent ∷ []) (length (x .plan))) judged (kept-refused (load s u (lent ∷ []) (length (x .plan))) t x l r h n e)
+  call-refused {r} n e = subst (λ (o : Load). GuidedPromise o x x r) (sym judged) (kept-refused (load s u (lent ∷ []) (length (x .plan))) t x l r h n e)
 
   module _ (n : l .number ≡ 0) where
     abbrev z : Shape
@@ -111,7 +92,7 @@ module _ (s u : List ℕ) (x : GuidedSlices) {lent : ℕ}
     pub call-done : {y : GuidedSlices} {r : Answer} → Runs z t x y r → length (y .keys) ≡ length (x .keys) → length (y .via) ≡ length (x .via) → length (y .heap) ≡ length (x .heap)
         → length (y .pos) ≡ length (x .pos) → length (y .stack) ≡ length (x .stack) → GuidedCall s u x y r
     call-done {y} {r} m lk lv lh lp ls =
-        kept-call (ready (chartIn z t) (diagramIn z t)) (judged ∙ ok .is) (record {
+        subst (λ (o : Load). GuidedPromise o x y r) (sym (judged ∙ ok .is)) (record {
           guided = (m .outcome, m .logged);
           keys = scratch (x .keys) (y .keys) lk (m .past .keys-past);
           via = scratch (x .via) (y .via) lv (m .past .via-past);

@@ -12,7 +12,7 @@ use Rattle.definitions.specs.Diagrams.{Diagram}
 use Rattle.definitions.specs.Ways.{Graph}
 use Rattle.definitions.specs.Pairs.{Automaton, pairs}
 use Rattle.definitions.specs.Answers.{Load, ready, refused, load, workNeed, refusal}
-use Rattle.definitions.specs.Promises.{leastCosts, SweepSlices, sweepSlices, sweepLoad, SweepCall}
+use Rattle.definitions.specs.Promises.{leastCosts, SweepSlices, sweepSlices, sweepLoad, SweepPromise, SweepCall}
 use Rattle.definitions.specs.declared.Answer.{Answer}
 use Rattle.definitions.specs.declared.Shape.{Shape}
 use Rattle.chart_stages.specs.FirstSteps.{SortedTable, FirstTable}
@@ -29,7 +29,7 @@ use Rattle.checks.specs.Ready.{walk, Ready, graphIn, automatonIn, lawful-in, fe
 use Rattle.checks.specs.declared.Loaded.{Loaded}
 use Rattle.sweep_rows.specs.Standing.{at}
 use Rattle.sweep_rows.specs.Leaving.{first-steps}
-use Rattle.sweep.specs.Runs.{Space, Blank, clearedCosts, cleared, Final, Concludes, Promised}
+use Rattle.sweep.specs.Runs.{Space, Blank, clearedCosts, cleared, Final, Concludes}
 use Rattle.sweep.proofs.Beginning.{pairs-is, cleared-fresh}
 
 -- the space that the pairs need
@@ -101,7 +101,7 @@ module _ {z : Shape} {t : Read} (in-tables : Tables z t) where
             ap (λ (k : ℕ). drop k x′) q ∙ e ∙ ap (λ (k : ℕ). drop k x) (sym q)
 
         pub run-promised : {plan′ : List ℕ} {ans : Answer} → Concludes z t (before .plan) plan′ ans
-            → Promised (ready (chartIn z t) (diagramIn z t)) before (sweepSlices (r′ .cost) (r′ .via) (r′ .nodes) plan′) ans
+            → SweepPromise (ready (chartIn z t) (diagramIn z t)) before (sweepSlices (r′ .cost) (r′ .via) (r′ .nodes) plan′) ans
         run-promised x = record {
           swept = (
             x .outcome,
@@ -115,7 +115,7 @@ module _ {z : Shape} {t : Read} (in-tables : Tables z t) where
 
 -- a refusal leaves everything
 refused-promised : (o : Load) (t : Read) (before : SweepSlices) (x : Loaded) (r : Answer) → LoadsAs o t x → (x .number ≡ 0 → ⊥)
-    → r ≡ refusal (x .number) (x .file) (x .place) 0 → Promised o before before r
+    → r ≡ refusal (x .number) (x .file) (x .place) 0 → SweepPromise o before before r
 refused-promised (refused number file place) t before x r l h e = record { swept = (e ∙ rw (l .0 .0, l .0 .1, l .0 .2), refl, refl); via = refl; nodes = refl }
 refused-promised (ready c d) t before x r l h e = absurd (h (l .0))
 
@@ -139,11 +139,8 @@ module _ (s u : List ℕ) (before : SweepSlices) {work : ℕ} (ew : work ≡ min
       load-shortest s u (length (before .cost)) (length (before .via) ∷ length (before .nodes) ∷ []) (length (before .plan))
       ∙ ap (λ (k : ℕ). load s u (k ∷ []) (length (before .plan))) (sym ew)
 
-  called : {after : SweepSlices} {r : Answer} → Promised (sweepLoad s u before) before after r → SweepCall s u before after r
-  called p = record { swept = p .swept; via = p .via; nodes = p .nodes }
-
   pub call-refused : {r : Answer} → (x .number ≡ 0 → ⊥) → r ≡ refusal (x .number) (x .file) (x .place) 0 → SweepCall s u before before r
-  call-refused {r} h e = called (subst (λ (o : Load). Promised o before before r) (sym checked) (refused-promised _ t before x r l h e))
+  call-refused {r} h e = subst (λ (o : Load). SweepPromise o before before r) (sym checked) (refused-promised _ t before x r l h e)
 
   module _ (h : x .number ≡ 0) where
     ok : Passed (load s u (work ∷ []) (length (before .plan))) t z
@@ -162,5 +159,5 @@ module _ (s u : List ℕ) (before : SweepSlices) {work : ℕ} (ew : work ≡ min
           plan-fits = enough .1;
         }
 
-    pub call-ready : {after : SweepSlices} {r : Answer} → Promised (ready (chartIn z t) (diagramIn z t)) before after r → SweepCall s u before after r
-    call-ready {after} {r} p = called (subst (λ (o : Load). Promised o before after r) (sym (checked ∙ ok .outcome)) p)
+    pub call-ready : {after : SweepSlices} {r : Answer} → SweepPromise (ready (chartIn z t) (diagramIn z t)) before after r → SweepCall s u before after r
+    call-ready {after} {r} p = subst (λ (o : Load). SweepPromise o before after r) (sym (checked ∙ ok .outcome)) p

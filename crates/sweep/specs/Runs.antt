@@ -5,10 +5,9 @@ use mathlib.Core.Path.{_≡_}
 use mathlib.Core.List.{List, _++_}
 use lib.ListN.{length, getD, drop, replicate}
 use Rattle.definitions.specs.Basics.{NONE}
-use Rattle.definitions.specs.Answers.{Load}
 use Rattle.definitions.specs.Pairs.{reachedPairs}
 use Rattle.definitions.specs.Plans.{cheapest}
-use Rattle.definitions.specs.Promises.{Outcome, Swept, Scratch, SweepSlices}
+use Rattle.definitions.specs.Promises.{Outcome, SweepSlices}
 use Rattle.definitions.specs.declared.Answer.{Answer}
 use Rattle.definitions.specs.declared.Shape.{Shape}
 use Rattle.rows.specs.Rows.{rowStarts}
@@ -48,9 +47,3 @@ pub record Final (z : Shape) (t : Read) (row : List ℕ) (r : Rows) : Type 0 whe
 -- the answer and the plan slice are as promised
 pub record Concludes (z : Shape) (t : Read) (plan plan′ : List ℕ) (r : Answer) : Type 0 where
   pub outcome : Outcome (cheapest (chartIn z t) (diagramIn z t)) (chartIn z t) (diagramIn z t) (length (reachedPairs (graphIn z t) (automatonIn z t))) plan plan′ r
-
--- the answer and every slice are as promised, where the checks come to o
-pub record Promised (o : Load) (before after : SweepSlices) (r : Answer) : Type 0 where
-  pub swept : Swept o (before .plan) (after .plan) (before .cost) (after .cost) r
-  pub via : Scratch o (before .via) (after .via)
-  pub nodes : Scratch o (before .nodes) (after .nodes)

@@ -1,12 +1,12 @@
 // The sweep of two files: the checks, the rows in turn, and the plan.
 ghost use mathlib.Core.Path.{_≡_};
 ghost use Rattle.definitions.specs.Answers.{ready};
-ghost use Rattle.definitions.specs.Promises.{sweepSlices, SweepCall};
+ghost use Rattle.definitions.specs.Promises.{sweepSlices, SweepPromise, SweepCall};
 ghost use Rattle.sweep_model.specs.Model.{rows, swept};
 ghost use Rattle.checks.specs.Tables.{read, Tables, chartIn, diagramIn};
 ghost use Rattle.checks.specs.Ready.{walk, Ready, graphIn, automatonIn};
 ghost use Rattle.sweep_rows.specs.Standing.{at};
-ghost use Rattle.sweep.specs.Runs.{Space, Blank, cleared, Promised};
+ghost use Rattle.sweep.specs.Runs.{Space, Blank, cleared};
 use crate::conclude::conclude;
 use chart_fields::ENDS;
 use chart_stages::fill_first_steps;
@@ -65,7 +65,7 @@ fn run<'a>(
         (let t = read (now (steps .entry)) (now (inner .entry)) in
         let before = sweepSlices (now (costs .entry)) (now (via .entry)) (now (nodes .entry)) (now (plan .entry)) in
         let after = sweepSlices (now (costs .exit)) (now (via .exit)) (now (nodes .exit)) (now (plan .exit)) in
-        Promised (ready (chartIn z t) (diagramIn z t)) before after r)
+        SweepPromise (ready (chartIn z t) (diagramIn z t)) before after r)
         ⌝ }
 {
     let mut first = [0u16; 257];
