@@ -13,6 +13,7 @@ use Rattle.definitions.specs.Fields.{part, only, fieldAt, stopped}
 use Rattle.definitions.specs.Charts.{ChartStep, noStep, stepFault, stepOf, lastFrom, stepFaultAfter, stepGrammar, scanSteps}
 use Rattle.definitions.specs.declared.Field.{Field}
 use Rattle.definitions.specs.declared.Field.the-variants.{Absent, Faulty, Whole}
+use Rattle.theory.specs.Basics.{true-not-false}
 use Rattle.fields.specs.Positions.{only-gives, body-less}
 use Rattle.fields.specs.Scans.{leftOf, left-less, reading-start, reading-done, reading-faulty, reading-bad, reading-step}
 use Rattle.chart_fields.specs.Bodies.{stepBody}
@@ -53,9 +54,6 @@ filled-grown before x ends count packed₀ packed packs small counted below sofa
       room = stored-room count packed x ends packs small (sofar .room) below;
     }
 
-true-false : true ≡ false → ⊥
-true-false e = let z : _≡_ {A = ℕ} 0 1 = cc in omega arith
-
 pub steps-start : (s : List ℕ) (first stages : ℕ) (packed : List (List ℕ)) → SoFar s first stages packed packed first 0 0
 unfolding heldSteps
 steps-start s first stages packed = record {
@@ -73,9 +71,9 @@ module _ (s : List ℕ) (stages : ℕ) (t : StepsRead) (packed : List (List ℕ)
       → ((first : ℕ) (packed₀ : List (List ℕ)) (sofar : SoFar s first stages packed₀ packed (t .place) (t .last) (t .steps)) → scanSteps s stages first ≡ stopped (sofar .before) number place)
       → Takes s stages t packed packed x
   stops number place x e is = rw e (record {
-    nearer = λ g. absurd (true-false (sym g));
+    nearer = λ g. absurd (true-not-false (sym g));
     stands = λ first packed₀ sofar. record {
-      goes = λ g. absurd (true-false (sym g));
+      goes = λ g. absurd (true-not-false (sym g));
       over = λ g.
           let q = is first packed₀ sofar in
           record { answer = rw (q, sofar .counted); filled = rw q (sofar .filled) };
@@ -116,7 +114,7 @@ module _ (s : List ℕ) (stages : ℕ) (t : StepsRead) (packed : List (List ℕ)
               filled-grown (sofar .before) (stepOf (part s a e)) ends (t .steps) packed₀ packed (packs ∙ ap (λ (y : StepBody). endsOf (y .from) (y .to)) read)
               (subst (λ (y : StepBody). y .from < 65536) read small) (sofar .counted) (step-below v stages (t .last) (t .steps) (part s a e) judged passes) (sofar .filled room);
         };
-        over = λ g. absurd (true-false g);
+        over = λ g. absurd (true-not-false g);
       };
     })
 
@@ -124,7 +122,7 @@ module _ (s : List ℕ) (stages : ℕ) (t : StepsRead) (packed : List (List ℕ)
 
 pub stands-begin : (s : List ℕ) (first stages : ℕ) (packed : List (List ℕ))
     → Stands s first stages packed packed (record { number = 0; place = first; steps = 0; last = 0; going = true })
-stands-begin s first stages packed = record { goes = λ g. steps-start s first stages packed; over = λ g. absurd (true-false g) }
+stands-begin s first stages packed = record { goes = λ g. steps-start s first stages packed; over = λ g. absurd (true-not-false g) }
 
 pub take-turn : (s : List ℕ) (first stages : ℕ) (packed₀ packed packed′ : List (List ℕ)) (t r : StepsRead) → Stands s first stages packed₀ packed t → t .going ≡ true
     → Takes s stages t packed packed′ r → Stands s first stages packed₀ packed′ r

@@ -9,7 +9,6 @@ use native.Mathlib.Nat.{mul-le-mul-right}
 use lib.ListN.{length}
 use borrow.Author.Tests.{le-leb, lt-leb}
 use Rattle.definitions.specs.Charts.{Chart, ChartStep, readChart}
-use Rattle.definitions.specs.Charts as charts
 use Rattle.definitions.specs.Diagrams.{Diagram, InnerNode, readDiagram}
 use Rattle.definitions.specs.Diagrams as diagrams
 use Rattle.definitions.specs.Plans.{graph}
@@ -109,8 +108,8 @@ module _ (s t : List ℕ) (work plan : ℕ) (x : ChartRead) (ex : x ≡ chart.ch
             (simp (le-leb (workNeed (readChart s .chart) (d .diagram)) work (omega (arith, need-is)), lt-leb (readChart s .chart .stages - 1) plan (omega (arith, stages-is)))))
             (e, λ q. omega arith)
 
-        module _ (steps steps₀ : List (List ℕ)) (inner inner₀ : List ℕ) (fc : chart.Filled (readChart s .chart .steps) steps₀ steps)
-            (fd : files.Filled (readDiagram t (x .steps) .diagram .nodes) inner₀ inner) (z : Shape)
+        module _ (steps steps₀ : List (List ℕ)) (inner : List ℕ) (fc : chart.Filled (readChart s .chart .steps) steps₀ steps)
+            (fd : files.Filled (readDiagram t (x .steps) .diagram .nodes) inner) (z : Shape)
             (zs : z .stages ≡ x .stages) (zb : z .start .0 ≡ x .start) (ze : z .end .0 ≡ x .end) (zc : z .steps ≡ x .steps) (zr : z .root .0 ≡ y .root) (zn : z .nodes ≡ y .nodes) where
           abbrev w : Read
           w = read steps inner

@@ -1,10 +1,10 @@
 -- The walk over the nodes: one law for each way out of a turn, and what the turns come to.
-use Prim.Native.Nat.{ℕ, _+_, _-_, _≤_, _<_}
+use Prim.Native.Nat.{ℕ, suc, _+_, _-_, _≤_, _<_}
 use mathlib.Core.Path.{_≡_, refl, sym, _∙_, ap}
 use mathlib.Core.Bool.{true, false}
-use mathlib.Core.List.{List, [], _∷_, _++_}
-use lib.ListN.{length, getD, set, length-append, length-set, List·getD-append}
-use lib.Seq.{getD-set-same, getD-set-other, getD-append-seam}
+use mathlib.Core.List.{List, [], _∷_, _++_, map, append-nil, append-assoc, map-append}
+use lib.ListN.{length, getD, take, set, length-append, length-set, List·getD-append}
+use lib.Seq.{getD-set-same, getD-set-other, getD-append-seam, take-suc-set}
 use native.Mathlib.Omega.{arith}
 use mir.Val.{Fits}
 use mir.Syntax.{w64}
@@ -12,14 +12,12 @@ use Rattle.definitions.specs.Fields.{two, part, only, fieldAt, stopped}
 use Rattle.definitions.specs.Diagrams.{InnerNode, noNode, nodeFault, innerNodeOf, nodeFaultAfter, nodeGrammar, scanNodes}
 use Rattle.definitions.specs.declared.Field.{Field}
 use Rattle.definitions.specs.declared.Field.the-variants.{Absent, Faulty, Whole}
-use Rattle.theory.specs.Basics.{either, lt-or-le, rest-kept}
+use Rattle.theory.specs.Basics.{true-not-false, either, lt-or-le, rest-kept}
 use Rattle.fields.specs.Positions.{only-gives, body-less}
 use Rattle.fields.specs.Scans.{leftOf, left-less, reading-start, reading-done, reading-faulty, reading-bad, reading-step}
-use Rattle.diagram_fields.specs.Words.{wordOf, stepOf, unpacked, node-word, nodesIn, step-at}
-use Rattle.diagram.specs.Tables.{heldNodes}
-use Rattle.diagram.specs.Held.{held-grown}
-use Rattle.diagram.specs.Files.{nodesHeld, Filled}
-use Rattle.diagram.specs.Turns.{Halfway, SoFar, Stands, Takes}
+use Rattle.diagram_fields.specs.Words.{wordOf}
+use Rattle.diagram.specs.Files.{Room}
+use Rattle.diagram.specs.Turns.{Stored, Halfway, SoFar, Stands, Takes}
 use Rattle.diagram.specs.declared.reader.NodesRead.{NodesRead}
 use Rattle.diagram.specs.Limits.{NodeFits, node-fits, nodeFault-same}
 
@@ -36,31 +34,25 @@ known-grown before x count step counted below long known k i l =
     ap (λ (n : ℕ). getD (set step (count + 2) (x .step)) n 0) q ∙ getD-set-same step (count + 2) (x .step) 0 (omega arith)
     ∙ ap (λ (y : InnerNode). y .step) (sym (getD-append-seam before x [] noNode)) ∙ ap (λ (n : ℕ). getD (before ++ x ∷ []) n noNode .step) (sym r))
 
--- a store elsewhere leaves a node's step
-step-kept : (words : List ℕ) (n w i : ℕ) → (i ≡ n → ⊥) → getD (nodesIn (set words n w) .step) i 0 ≡ getD (nodesIn words .step) i 0
-step-kept words n w i other = step-at (set words n w) i ∙ ap stepOf (getD-set-other words n i w 0 other) ∙ sym (step-at words i)
+-- no node yet
+pub nothing-stored : (words : List ℕ) → Room words → Stored [] words words
+nothing-stored words room = record { front = sym (append-nil (take 2 words)); rest = refl; room = room }
 
 -- the table of nodes holds it
-filled-grown : (before : List InnerNode) (x : InnerNode) (w count : ℕ) (words₀ words : List ℕ) → unpacked w ≡ x → length before ≡ count → count < 510
-    → Filled before words₀ words → Filled (before ++ x ∷ []) words₀ (set words (count + 2) w)
-filled-grown before x w count words₀ words is counted below sofar =
-    let long : length (before ++ x ∷ []) ≡ count + 1 = omega (arith, length-append before (x ∷ [])) in
-    let held : nodesHeld count words ≡ before = rw (← counted) (sofar .held) in
+stored-grown : (before : List InnerNode) (x : InnerNode) (count : ℕ) (words₀ words : List ℕ) → length before ≡ count → count < 510 → Stored before words₀ words
+    → Stored (before ++ x ∷ []) words₀ (set words (count + 2) (wordOf x))
+stored-grown before x count words₀ words counted below sofar =
+    let long : length (before ++ x ∷ []) + 2 ≡ suc (count + 2) = omega (arith, length-append before (x ∷ [])) in
+    let front : take (count + 2) words ≡ take 2 words₀ ++ map wordOf before = rw (← counted) (sofar .front) in
     record {
-      marked = record {
-        at-no = step-kept words (count + 2) w 0 (λ q. omega arith) ∙ sofar .marked .at-no;
-        at-yes = step-kept words (count + 2) w 1 (λ q. omega arith) ∙ sofar .marked .at-yes;
-      };
-      held = rw long (held-grown count words x w is (sofar .room .long) below ∙ ap (λ (l : List InnerNode). l ++ x ∷ []) held);
-      rest = rw long (rest-kept (count + 2) (count + 1 + 2) (count + 2) w words words₀ (omega arith) (omega arith) (rw (← counted) (sofar .rest)));
-      room = record { long = length-set words (count + 2) w ∙ sofar .room .long };
+      front = rw long
+          (take-suc-set words (count + 2) (wordOf x) (omega (arith, sofar .room .long)) ∙ ap (λ (l : List ℕ). l ++ wordOf x ∷ []) front
+          ∙ append-assoc (take 2 words₀) (map wordOf before) (wordOf x ∷ []) ∙ ap (λ (l : List ℕ). take 2 words₀ ++ l) (sym (map-append wordOf before (x ∷ []))));
+      rest = rw long (rest-kept (count + 2) (suc (count + 2)) (count + 2) (wordOf x) words words₀ (omega arith) (omega arith) (rw (← counted) (sofar .rest)));
+      room = record { long = length-set words (count + 2) (wordOf x) ∙ sofar .room .long };
     }
 
-true-false : true ≡ false → ⊥
-true-false e = let z : _≡_ {A = ℕ} 0 1 = cc in omega arith
-
 nodes-start : (s : List ℕ) (first steps : ℕ) (step words : List ℕ) → SoFar s first steps step words step words first 0
-unfolding heldNodes
 nodes-start s first steps step words = record {
   few = omega arith;
   halfway = λ long. record {
@@ -69,7 +61,7 @@ nodes-start s first steps step words = record {
     counted = refl;
     long = long;
     known = λ k i l. absurd (omega arith);
-    filled = λ room marked few. record { marked = marked; held = refl; rest = refl; room = room };
+    stored = nothing-stored words;
   };
 }
 
@@ -93,9 +85,6 @@ module _ (v steps count : ℕ) (stepAt : ℕ → ℕ) (b : List ℕ) (judged : v
   pub node-hi-below : two b 4 < 512
   node-hi-below = omega (arith, node-room .few, node-room .hi .below)
 
-  node-is : steps ≤ 1024 → unpacked (wordOf (innerNodeOf b)) ≡ innerNodeOf b
-  node-is few = node-word (innerNodeOf b) (omega (arith, node-room .exists)) node-lo-below node-hi-below
-
 -- the ways out of a turn from t
 module _ (s : List ℕ) (steps : ℕ) (t : NodesRead) (step words : List ℕ) (f : Field) (given : f ≡ fieldAt s (t .place) (only 18 6)) where
   -- the walk stops
@@ -103,13 +92,13 @@ module _ (s : List ℕ) (steps : ℕ) (t : NodesRead) (step words : List ℕ) (f
       → ((first : ℕ) (words₀ : List ℕ) (h : Halfway s first steps words₀ step words (t .place) (t .nodes)) → scanNodes s steps first ≡ stopped (h .before) number place)
       → Takes s steps t step words step words x
   stops number place x e is = rw e (record {
-    nearer = λ g. absurd (true-false (sym g));
+    nearer = λ g. absurd (true-not-false (sym g));
     stands = λ first step₀ words₀ sofar. record {
-      goes = λ g. absurd (true-false (sym g));
+      goes = λ g. absurd (true-not-false (sym g));
       over = λ g. record {
         few = sofar .few;
         answer = λ long. let h = sofar .halfway long in rw (is first words₀ h, h .counted);
-        filled = λ long room marked few. let h = sofar .halfway long in rw (is first words₀ h) (h .filled room marked few);
+        stored = λ long room. let h = sofar .halfway long in rw (is first words₀ h) (h .stored room);
       };
     };
   })
@@ -155,18 +144,17 @@ module _ (s : List ℕ) (steps : ℕ) (t : NodesRead) (step words : List ℕ) (f
                   counted = omega (arith, length-append (h .before) (x ∷ []), h .counted);
                   long = length-set step (t .nodes + 2) (x .step) ∙ h .long;
                   known = known-grown (h .before) x (t .nodes) step (h .counted) (fits .few) (h .long) (h .known);
-                  filled = λ room marked few.
-                      filled-grown (h .before) x (wordOf x) (t .nodes) words₀ words (node-is v steps (t .nodes) _ (part s a e) judged passes few) (h .counted) (fits .few) (h .filled room marked few);
+                  stored = λ room. stored-grown (h .before) x (t .nodes) words₀ words (h .counted) (fits .few) (h .stored room);
                 };
           };
-          over = λ g. absurd (true-false g);
+          over = λ g. absurd (true-not-false g);
         };
       })
 
 -- ---- the whole walk
 
 pub stands-begin : (s : List ℕ) (first steps : ℕ) (step words : List ℕ) → Stands s first steps step words step words (record { number = 0; place = first; nodes = 0; going = true })
-stands-begin s first steps step words = record { goes = λ g. nodes-start s first steps step words; over = λ g. absurd (true-false g) }
+stands-begin s first steps step words = record { goes = λ g. nodes-start s first steps step words; over = λ g. absurd (true-not-false g) }
 
 pub take-turn : (s : List ℕ) (first steps : ℕ) (step₀ words₀ step words step′ words′ : List ℕ) (t r : NodesRead) → Stands s first steps step₀ words₀ step words t → t .going ≡ true
     → Takes s steps t step words step′ words′ r → Stands s first steps step₀ words₀ step′ words′ r

@@ -1,9 +1,9 @@
 -- One law for each way out of `read_diagram`, and what it asks of the head's body.
 use Prim.Native.Nat.{ℕ, _+_, _≤_, _<_}
-use mathlib.Core.Path.{_≡_, refl, sym, _∙_, ap}
-use mathlib.Core.List.{List, []}
-use lib.ListN.{length, set, length-set}
-use lib.Seq.{getD-set-same, getD-set-other, drop-set-lt}
+use mathlib.Core.Path.{_≡_, refl, sym, _∙_, ap, ap₂}
+use mathlib.Core.List.{List, [], _∷_, _++_, map}
+use lib.ListN.{length, take, set, length-set, take-append-drop}
+use lib.Seq.{drop-set-lt}
 use native.Mathlib.Omega.{arith}
 use borrow.Author.Tests.{eq-eqb, ne-eqb, le-leb, lt-leb}
 use Rattle.definitions.specs.Basics.{pick}
@@ -12,10 +12,10 @@ use Rattle.definitions.specs.Diagrams.{InnerNode, diagramRead, withNodes, scanN
 use Rattle.definitions.specs.declared.Field.{Field}
 use Rattle.definitions.specs.declared.Field.the-variants.{Absent, Faulty, Whole}
 use Rattle.fields.specs.Positions.{body-length}
-use Rattle.diagram_fields.specs.Words.{wordOf, stepOf, node-word, MARK, leaf, nodesIn, step-at, Marked}
-use Rattle.diagram.specs.Tables.{heldNodes}
-use Rattle.diagram.specs.Files.{Room, Filled, nodesAnswer, diagramAnswer, Reads}
-use Rattle.diagram.specs.Turns.{Over}
+use Rattle.diagram_fields.specs.Words.{wordOf, leaf}
+use Rattle.diagram.specs.Files.{Room, tableWith, nodesAnswer, diagramAnswer, Reads}
+use Rattle.diagram.specs.Turns.{Stored, Over}
+use Rattle.diagram.proofs.Nodes.{nothing-stored}
 use Rattle.diagram.specs.declared.reader.NodesRead.{NodesRead}
 use Rattle.diagram.specs.declared.reader.DiagramRead.{DiagramRead}
 
@@ -23,31 +23,22 @@ use Rattle.diagram.specs.declared.reader.DiagramRead.{DiagramRead}
 abbrev marks : List ℕ → ℕ → List ℕ
 marks words w = set (set words 0 w) 1 w
 
+marks-front : (words : List ℕ) (w : ℕ) → length words ≡ 512 → take 2 (marks words w) ≡ w ∷ w ∷ []
+marks-front [] w h = absurd (omega arith)
+marks-front (a ∷ []) w h = absurd (omega arith)
+marks-front (a ∷ b ∷ r) w h = refl
+
 module _ (words : List ℕ) (w : ℕ) (is : w ≡ wordOf leaf) (room : Room words) where
   marks-room : Room (marks words w)
   marks-room = record { long = length-set (set words 0 w) 1 w ∙ length-set words 0 w ∙ room .long }
 
-  mark-is : stepOf w ≡ MARK
-  mark-is = ap stepOf is ∙ ap (λ (x : InnerNode). x .step) (node-word leaf (omega arith) (omega arith) (omega arith))
-
-  marks-marked : Marked (nodesIn (marks words w) .step)
-  marks-marked = record {
-    at-no = step-at (marks words w) 0
-        ∙ ap stepOf (getD-set-other (set words 0 w) 1 0 w 0 (λ q. omega arith) ∙ getD-set-same words 0 w 0 (omega (arith, room .long))) ∙ mark-is;
-    at-yes = step-at (marks words w) 1 ∙ ap stepOf (getD-set-same (set words 0 w) 1 w 0 (omega (arith, room .long, length-set words 0 w))) ∙ mark-is;
-  }
-
-  marks-filled : (passed : List InnerNode) (words′ : List ℕ) → Filled passed (marks words w) words′ → Filled passed words words′
-  marks-filled passed words′ f = record {
-    marked = f .marked;
-    held = f .held;
-    rest = f .rest ∙ drop-set-lt (length passed + 2) (set words 0 w) 1 w (omega arith) ∙ drop-set-lt (length passed + 2) words 0 w (omega arith);
-    room = f .room;
-  }
-
-  none-filled : Filled [] words (marks words w)
-  unfolding heldNodes
-  none-filled = marks-filled [] (marks words w) (record { marked = marks-marked; held = refl; rest = refl; room = marks-room })
+  -- nodes stored in the marked table
+  marks-table : (passed : List InnerNode) (words′ : List ℕ) → Stored passed (marks words w) words′ → words′ ≡ tableWith passed words
+  marks-table passed words′ f =
+      let n = length passed + 2 in
+      let front = f .front ∙ ap (λ (l : List ℕ). l ++ map wordOf passed) (marks-front words w (room .long) ∙ ap (λ (k : ℕ). k ∷ k ∷ []) is) in
+      let rest = f .rest ∙ drop-set-lt n (set words 0 w) 1 w (omega arith) ∙ drop-set-lt n words 0 w (omega arith) in
+      sym (take-append-drop n words′) ∙ ap₂ (λ (a b : List ℕ). a ++ b) front rest
 
 -- what `withNodes` chooses
 module _ (root : ℕ) (x : Scan InnerNode) where
@@ -67,7 +58,10 @@ module _ (s : List ℕ) (steps : ℕ) (words : List ℕ) (w : ℕ) (is : w ≡ w
   -- a head that is not whole
   no-head : (number : ℕ) (v : DiagramRead) → v ≡ diagramAnswer (diagramRead number 0 0 []) → readDiagram s steps ≡ diagramRead number 0 0 []
       → Reads s steps words (marks words w) v
-  no-head number v e q = record { answer = rw q e; filled = λ room few. rw q (none-filled words w is room) }
+  no-head number v e q = record {
+    answer = rw q e;
+    table = λ room. rw q (marks-table words w is room [] (marks words w) (nothing-stored (marks words w) (marks-room words w is room)));
+  }
 
   pub whole-absent : r ≡ Absent → (v : DiagramRead) → v ≡ diagramAnswer (diagramRead 2 0 0 []) → Reads s steps words (marks words w) v
   unfolding readDiagram onField
@@ -92,9 +86,8 @@ module _ (s : List ℕ) (steps : ℕ) (words : List ℕ) (w : ℕ) (is : w ≡ w
           let y = reads .answer long in
           record {
             answer = rw (read-is, choice y, y);
-            filled = λ room few.
-                rw (read-is, choice y)
-                (marks-filled words w is room (scanNodes s steps e .passed) words′ (reads .filled long (marks-room words w is room) (marks-marked words w is room) few));
+            table = λ room.
+                rw (read-is, choice y) (marks-table words w is room (scanNodes s steps e .passed) words′ (reads .stored long (marks-room words w is room)));
           }
 
       pub whole-bad : (x .number ≡ 0 → ⊥) → Reads s steps words words′ (record { number = x .number; place = x .place; root = root; nodes = x .nodes })

@@ -1,4 +1,4 @@
--- A diagram that the reader accepts is within the limits: it is ordered, its steps exist, it has at most 510 inner nodes, and its root is one of its nodes.
+-- A diagram that the reader accepts is within the limits: it is ordered, its steps exist, it has at most 510 inner nodes, and its root is one of its nodes; and it stands in the table.
 -- Assumes nothing.
 use Prim.Native.Nat.{ℕ, _+_, _-_, _≤_, _<_}
 use mathlib.Core.Path.{_≡_, refl, sym, ap}
@@ -17,6 +17,8 @@ use Rattle.definitions.specs.declared.Field.{Field}
 use Rattle.definitions.specs.declared.Field.the-variants.{Absent, Faulty, Whole}
 use Rattle.fields.specs.Scans.{scan-keeps}
 use Rattle.theory.specs.Basics.{either, lt-or-le, Order, less, same, more, order}
+use Rattle.diagram.specs.Files.{tableWith, Filled}
+use Rattle.diagram.specs.Held.{table-filled}
 use Rattle.diagram.specs.Limits.{Child, node-fits}
 
 abbrev diagram : ℕ → List InnerNode → Diagram
@@ -131,3 +133,8 @@ from-field s steps (Whole a b) e = rooted (two (part s a b) 0) steps (scanNodes 
 pub diagram-accepted : (s : List ℕ) (steps : ℕ) → readDiagram s steps .number ≡ 0 → Sound steps (readDiagram s steps .diagram)
 unfolding readDiagram
 diagram-accepted s steps = from-field s steps (fieldAt s 0 (only 17 2))
+
+-- an accepted diagram stands in the table
+pub accepted-filled : (s : List ℕ) (steps : ℕ) → readDiagram s steps .number ≡ 0 → steps ≤ 1024 → (words words′ : List ℕ)
+    → words′ ≡ tableWith (readDiagram s steps .diagram .nodes) words → Filled (readDiagram s steps .diagram .nodes) words′
+accepted-filled s steps passes few words words′ e = rw e (table-filled steps (readDiagram s steps .diagram) (diagram-accepted s steps passes) few words)

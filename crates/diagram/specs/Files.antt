@@ -1,14 +1,14 @@
 -- What the reader of the diagram file answers, and what it leaves in the table.
 -- Assumes nothing.
-use Prim.Native.Nat.{ℕ, _+_, _≤_}
+use Prim.Native.Nat.{ℕ, _+_}
 use mathlib.Core.Path.{_≡_}
 use mathlib.Core.Bool.{false}
-use mathlib.Core.List.{List}
+use mathlib.Core.List.{List, _∷_, _++_, map}
 use lib.ListN.{length, drop}
 use Rattle.definitions.specs.Fields.{Scan}
 use Rattle.definitions.specs.Diagrams.{InnerNode, readDiagram}
 use Rattle.definitions.specs.Diagrams as diagrams
-use Rattle.diagram_fields.specs.Words.{nodesIn, Marked}
+use Rattle.diagram_fields.specs.Words.{wordOf, leaf, nodesIn, Marked}
 use Rattle.diagram.specs.Tables.{heldNodes}
 use Rattle.diagram.specs.declared.reader.NodesRead.{NodesRead}
 use Rattle.diagram.specs.declared.reader.DiagramRead.{DiagramRead}
@@ -21,12 +21,14 @@ nodesHeld count words = heldNodes count (nodesIn words .step) (nodesIn words .lo
 pub record Room (words : List ℕ) : Type 0 where
   pub long : length words ≡ 512
 
--- the table before and after reading (words′): the nodes that passed stand in it, 0 and 1 are marked, and the other entries stay
-pub record Filled (passed : List InnerNode) (words words′ : List ℕ) : Type 0 where
-  pub marked : Marked (nodesIn words′ .step)
-  pub held : nodesHeld (length passed) words′ ≡ passed
-  pub rest : drop (length passed + 2) words′ ≡ drop (length passed + 2) words
-  pub room : Room words′
+-- the table after reading: the marked leaf at 0 and at 1, the nodes that passed from 2 on, and the other entries as they were
+abbrev pub tableWith : List InnerNode → List ℕ → List ℕ
+tableWith passed words = wordOf leaf ∷ wordOf leaf ∷ map wordOf passed ++ drop (length passed + 2) words
+
+-- nodes stand in a table, and its entries 0 and 1 are marked
+pub record Filled (nodes : List InnerNode) (words : List ℕ) : Type 0 where
+  pub marked : Marked (nodesIn words .step)
+  pub held : nodesHeld (length nodes) words ≡ nodes
 
 -- the answers, from what the definitions give
 abbrev pub nodesAnswer : Scan InnerNode → NodesRead
@@ -35,7 +37,7 @@ nodesAnswer x = record { number = x .number; place = x .place; nodes = length (x
 abbrev pub diagramAnswer : diagrams.DiagramRead → DiagramRead
 diagramAnswer x = record { number = x .number; place = x .place; root = x .diagram .root; nodes = length (x .diagram .nodes) }
 
--- The diagram file s over a chart of so many steps is read into the table. (A chart has at most 1,024)
+-- the diagram file s over a chart of so many steps is read into the table
 pub record Reads (s : List ℕ) (steps : ℕ) (words words′ : List ℕ) (r : DiagramRead) : Type 0 where
   pub answer : r ≡ diagramAnswer (readDiagram s steps)
-  pub filled : Room words → steps ≤ 1024 → Filled (readDiagram s steps .diagram .nodes) words words′
+  pub table : Room words → words′ ≡ tableWith (readDiagram s steps .diagram .nodes) words

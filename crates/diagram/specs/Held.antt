@@ -1,17 +1,17 @@
--- Laws of the tables, by index: what stands at a number is the inner node of that number; and how they grow by a store.
+-- Laws of the tables, by index: what stands at a number is the inner node of that number.
 -- Assumes nothing.
-use Prim.Native.Nat.{ℕ, _+_, _-_, _≤_, _<_}
-use mathlib.Core.Path.{_≡_, sym, _∙_, ap}
-use mathlib.Core.List.{List, [], _∷_, _++_}
-use lib.ListN.{length, getD, set}
-use lib.Seq.{getD-set-same, getD-set-other}
+use Prim.Native.Nat.{ℕ, suc, _+_, _-_, _≤_, _<_}
+use mathlib.Core.Path.{_≡_, refl, sym, _∙_, ap}
+use mathlib.Core.List.{List, map}
+use lib.ListN.{length, getD, drop, length-map, List·getD-append, List·getD-map}
+use lib.Seq.{ext-getD}
 use native.Mathlib.Omega.{arith}
 use Rattle.definitions.specs.Diagrams.{Diagram, InnerNode, noNode, size, inner}
-use Rattle.theory.specs.Limits.{Ordered}
-use Rattle.theory.specs.Basics.{length-map-run, getD-map-upto, upto-grown}
-use Rattle.diagram_fields.specs.Words.{unpacked, nodesIn, Marked, step-at, lo-at, hi-at}
+use Rattle.theory.specs.Limits.{Ordered, Sound}
+use Rattle.theory.specs.Basics.{length-map-run, getD-map-upto}
+use Rattle.diagram_fields.specs.Words.{wordOf, unpacked, node-word, nodesIn, Marked, step-at, lo-at, hi-at}
 use Rattle.diagram.specs.Tables.{heldNode, heldNodes, heldDiagram, Held}
-use Rattle.diagram.specs.Files.{nodesHeld}
+use Rattle.diagram.specs.Files.{nodesHeld, tableWith, Filled}
 
 module _ (count : ℕ) (step lo hi : List ℕ) where
   pub length-held : length (heldNodes count step lo hi) ≡ count
@@ -37,24 +37,35 @@ module _ (words : List ℕ) (n : ℕ) where
   node-at : heldNode (nodesIn words .step) (nodesIn words .lo) (nodesIn words .hi) n ≡ unpacked (getD words n 0)
   node-at = rw (step-at, lo-at, hi-at)
 
--- one more node stored
-module _ (count : ℕ) (words : List ℕ) (x : InnerNode) (w : ℕ) (is : unpacked w ≡ x) (long : length words ≡ 512) (below : count < 510) where
-  abbrev nodeIn : List ℕ → ℕ → InnerNode
-  nodeIn l n = heldNode (nodesIn l .step) (nodesIn l .lo) (nodesIn l .hi) n
+-- the table after reading, where the nodes are a diagram's over a chart
+module _ (steps : ℕ) (d : Diagram) (sound : Sound steps d) (chart : steps ≤ 1024) (words : List ℕ) where
+  abbrev table : List ℕ
+  table = tableWith (d .nodes) words
 
-  abbrev stored : List ℕ
-  stored = set words (count + 2) w
+  -- each node fits
+  word-is : (i : ℕ) → i < length (d .nodes) → unpacked (wordOf (getD (d .nodes) i noNode)) ≡ getD (d .nodes) i noNode
+  word-is i h =
+      let q : i + 2 - 2 ≡ i = omega arith in
+      let o = sound .ordered in
+      let few : i + 2 < 512 = omega (arith, sound .few) in
+      rw q at (node-word (inner d (i + 2)) (omega (arith, sound .exist (i + 2) (omega arith) (omega arith))) (omega (arith, o .lo-below (i + 2) (omega arith)))
+      (omega (arith, o .hi-below (i + 2) (omega arith))))
 
-  stored-before : (i : ℕ) → i < count → nodeIn stored (i + 2) ≡ nodeIn words (i + 2)
-  stored-before i l =
-      node-at stored (i + 2) ∙ ap unpacked (getD-set-other words (count + 2) (i + 2) w 0 (λ q. omega arith)) ∙ sym (node-at words (i + 2))
+  entry-is : (i : ℕ) → i < length (d .nodes) → getD table (i + 2) 0 ≡ wordOf (getD (d .nodes) i noNode)
+  entry-is i h =
+      let q : i + 2 ≡ suc (suc i) = omega arith in
+      rw q (List·getD-append (map wordOf (d .nodes)) (drop (length (d .nodes) + 2) words) 0 i (omega (arith, length-map (d .nodes) wordOf)) ∙ List·getD-map wordOf (d .nodes) i noNode)
 
-  stored-here : nodeIn stored (count + 2) ≡ x
-  stored-here = node-at stored (count + 2) ∙ ap unpacked (getD-set-same words (count + 2) w 0 (omega arith)) ∙ is
-
-  pub held-grown : nodesHeld (count + 1) stored ≡ nodesHeld count words ++ x ∷ []
+  pub table-filled : Filled (d .nodes) table
   unfolding heldNodes
-  held-grown = upto-grown (λ (i : ℕ). nodeIn words (i + 2)) (λ (i : ℕ). nodeIn stored (i + 2)) count x stored-before stored-here
+  table-filled = record {
+    marked = record { at-no = refl; at-yes = refl };
+    held =
+        ext-getD noNode (nodesHeld (length (d .nodes)) table) (d .nodes) (length-held (length (d .nodes)) (nodesIn table .step) (nodesIn table .lo) (nodesIn table .hi)) (λ i h.
+        let l : i < length (d .nodes) = omega (arith, length-held (length (d .nodes)) (nodesIn table .step) (nodesIn table .lo) (nodesIn table .hi)) in
+        getD-map-upto (λ (j : ℕ). heldNode (nodesIn table .step) (nodesIn table .lo) (nodesIn table .hi) (j + 2)) (length (d .nodes)) i noNode l
+        ∙ node-at table (i + 2) ∙ ap unpacked (entry-is i l) ∙ word-is i l);
+  }
 
 module _ (d : Diagram) (step lo hi : List ℕ) (held : Held d step lo hi) where
   module _ (n : ℕ) (h : 2 ≤ n) (l : n < size d) where

@@ -3,23 +3,29 @@
 use Prim.Native.Nat.{ℕ, _+_, _-_, _≤_, _<_}
 use mathlib.Core.Path.{_≡_}
 use mathlib.Core.Bool.{true, false}
-use mathlib.Core.List.{List}
-use lib.ListN.{length, getD}
+use mathlib.Core.List.{List, _++_, map}
+use lib.ListN.{length, getD, take, drop}
 use Rattle.definitions.specs.Diagrams.{InnerNode, noNode, nodeGrammar, scanNodes}
 use Rattle.fields.specs.Scans.{Reading}
-use Rattle.diagram_fields.specs.Words.{nodesIn, Marked}
-use Rattle.diagram.specs.Files.{Room, Filled, nodesAnswer}
+use Rattle.diagram_fields.specs.Words.{wordOf}
+use Rattle.diagram.specs.Files.{Room, nodesAnswer}
 use Rattle.diagram.specs.declared.reader.NodesRead.{NodesRead}
 
+-- the table so far: nodes stand in it from 2 on, what stood before them and behind them stays
+pub record Stored (before : List InnerNode) (words₀ words : List ℕ) : Type 0 where
+  pub front : take (length before + 2) words ≡ take 2 words₀ ++ map wordOf before
+  pub rest : drop (length before + 2) words ≡ drop (length before + 2) words₀
+  pub room : Room words
+
 -- What is read so far, and that the rest of the walk is still to come. Two tables are filled: `step` has the step of each node before, for the checks
--- of those to come, and `words` the nodes. (What `words` holds is said of a table with room, as its type says, whose entries 0 and 1 are marked)
+-- of those to come, and `words` the nodes. (What `words` holds is said of a table with room, as its type says)
 pub record Halfway (s : List ℕ) (first steps : ℕ) (words₀ step words : List ℕ) (at count : ℕ) : Type 0 where
   pub before : List InnerNode
   pub reading : Reading s (nodeGrammar steps) first at before
   pub counted : length before ≡ count
   pub long : length step ≡ 512
   pub known : (k : ℕ) → 2 ≤ k → k < count + 2 → getD step k 0 ≡ getD before (k - 2) noNode .step
-  pub filled : Room words₀ → Marked (nodesIn words₀ .step) → steps ≤ 1024 → Filled before words₀ words
+  pub stored : Room words₀ → Stored before words₀ words
 
 -- the same of a table of steps with room, as its type says
 pub record SoFar (s : List ℕ) (first steps : ℕ) (step₀ words₀ step words : List ℕ) (at count : ℕ) : Type 0 where
@@ -30,7 +36,7 @@ pub record SoFar (s : List ℕ) (first steps : ℕ) (step₀ words₀ step words
 pub record Over (s : List ℕ) (first steps : ℕ) (step₀ words₀ words : List ℕ) (r : NodesRead) : Type 0 where
   pub few : r .nodes ≤ 510
   pub answer : length step₀ ≡ 512 → r ≡ nodesAnswer (scanNodes s steps first)
-  pub filled : length step₀ ≡ 512 → Room words₀ → Marked (nodesIn words₀ .step) → steps ≤ 1024 → Filled (scanNodes s steps first .passed) words₀ words
+  pub stored : length step₀ ≡ 512 → Room words₀ → Stored (scanNodes s steps first .passed) words₀ words
 
 -- where the walk stands: it goes on, or it is over
 pub record Stands (s : List ℕ) (first steps : ℕ) (step₀ words₀ step words : List ℕ) (r : NodesRead) : Type 0 where

@@ -13,6 +13,7 @@ use Rattle.definitions.specs.Basics.{pick}
 use Rattle.definitions.specs.Fields.{two, part, Kind, foreign, exactly, isForeign, isPassedOver, lengthFits, only, fieldAt}
 use Rattle.definitions.specs.declared.Field.{Field}
 use Rattle.definitions.specs.declared.Field.the-variants.{Absent, Faulty, Whole}
+use Rattle.theory.specs.Basics.{true-not-false}
 use Rattle.theory.specs.Choices.{tests, past, both}
 
 -- ---- fields of any kind
@@ -141,13 +142,10 @@ pub record Tells (r : Bool) (s : List ℕ) (at tag len : ℕ) : Type 0 where
   pub has : r ≡ true → HasField s at tag len
   pub lacks : r ≡ false → HasField s at tag len → ⊥
 
-true-false : true ≡ false → ⊥
-true-false e = let z : _≡_ {A = ℕ} 0 1 = cc in omega arith
-
 -- with the tests of the code as premises
 module _ (s : List ℕ) (at tag len : ℕ) where
   tells-short : (at + (3 + len) ≤ length s → ⊥) → Tells false s at tag len
-  tells-short h = record { has = λ e. absurd (true-false (sym e)); lacks = λ e w. h (w .ends) }
+  tells-short h = record { has = λ e. absurd (true-not-false (sym e)); lacks = λ e w. h (w .ends) }
 
   pub tells-small : length s < 3 + len → Tells false s at tag len
   tells-small h = tells-short (λ e. omega arith)

@@ -1,6 +1,8 @@
 -- `checks::load` meets its contract: one law for each answer.
-use mathlib.Core.Path.{refl}
+use mathlib.Core.Path.{refl, sym, _∙_, ap}
 use native.Mathlib.Omega.{arith}
+use Rattle.diagram.specs.Accepted.{accepted-filled}
+use Rattle.diagram.specs.declared.reader.DiagramRead.{DiagramRead}
 use Rattle.checks.proofs.Passes.{few-steps, some-stages, chart-refused, rules-refused, few-nodes, few-pairs, work-refused, plan-refused, loaded}
 use borrow.Author.Needs.{needs}
 use Rattle.checks.proofs.load.Statement.{statement}
@@ -105,8 +107,9 @@ returns-5 c =
     let s : tie.Start = search in
     let fc = x .read-chart .ensures .1 (s .pre .of-steps) in
     let few = few-steps (s .args .chart .now) (s .args .rules .now) (s .args .work) (s .args .plan) _ (x .read-chart .ensures .0) (p .if1 .left) in
-    let fd = y .read-diagram .ensures .filled (s .pre .of-nodes) few in
-    loaded (s .args .chart .now) (s .args .rules .now) (s .args .work) (s .args .plan) _ (x .read-chart .ensures .0) (p .if1 .left) _ (y .read-diagram .ensures .answer) (q .if2 .left) _ _ _ _ fc fd _ refl refl refl refl refl refl _ refl refl refl refl (f .if3 .left) (c .if4 .left)
+    let read = y .read-diagram .ensures in
+    let fd = accepted-filled (s .args .rules .now) _ (sym (ap (λ (d : DiagramRead). d .number) (read .answer)) ∙ q .if2 .left) few _ _ (read .table (s .pre .of-nodes)) in
+    loaded (s .args .chart .now) (s .args .rules .now) (s .args .work) (s .args .plan) _ (x .read-chart .ensures .0) (p .if1 .left) _ (y .read-diagram .ensures .answer) (q .if2 .left) _ _ _ fc fd _ refl refl refl refl refl refl _ refl refl refl refl (f .if3 .left) (c .if4 .left)
 
 pub load-spec : {M : Type 1} → statement M
 load-spec =

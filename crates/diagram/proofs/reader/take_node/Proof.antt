@@ -2,7 +2,6 @@
 use Rattle.fields.specs.Positions.{body-laws}
 use Prim.Native.Nat.{_+_, _<_}
 use native.Mathlib.Omega.{arith}
-use Rattle.definitions.specs.Fields.{two}
 use Rattle.diagram.proofs.Nodes.{node-below, node-lo-below, node-hi-below, take-node, take-laws}
 use borrow.Author.Needs.{needs}
 use Rattle.diagram.proofs.reader.take_node.Statement.{statement}

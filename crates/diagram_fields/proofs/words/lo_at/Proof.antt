@@ -1,5 +1,5 @@
 -- `diagram_fields::lo_at` meets its contract.
-use mathlib.Core.Path.{_≡_, sym, _∙_}
+use mathlib.Core.Path.{sym, _∙_}
 use Rattle.diagram_fields.specs.Words.{lo-at}
 use borrow.Author.Needs.{needs}
 use Rattle.diagram_fields.proofs.words.lo_at.Statement.{statement}
