@@ -1,10 +1,8 @@
 // Plays the scripts of data/ and writes what the calls of the library answer to each case. data/readers.txt says how a
 // case is written; tools/vectors.py computes what must be written.
-mod read;
 mod script;
 mod searches;
 mod show;
-mod write;
 
 // Plays one script of at most 65,536 bytes.
 fn play(path: &[u8]) {

@@ -1,18 +1,18 @@
 // A script of cases: commands that make a file, take it for the chart or the diagram, or show what a call answers.
-use crate::read::Command;
-use crate::read::line_end;
-use crate::read::part;
-use crate::read::read_command;
-use crate::read::rest_of_line;
 use crate::searches::show_guided;
 use crate::searches::show_sweep;
 use crate::show::show_chart;
 use crate::show::show_diagram;
 use crate::show::show_field;
-use crate::write::LONGEST;
-use crate::write::add;
-use crate::write::copy;
-use crate::write::put;
+use script_files::read::Command;
+use script_files::read::line_end;
+use script_files::read::part;
+use script_files::read::read_command;
+use script_files::read::rest_of_line;
+use script_files::write::LONGEST;
+use script_files::write::add;
+use script_files::write::copy;
+use script_files::write::put;
 
 // The buffer has the file in the making at its start, and after it the chart and the diagram.
 const CHART: usize = LONGEST;
@@ -97,7 +97,27 @@ fn after(s: &[u8], c: Command) -> usize {
     c.next
 }
 
-// The next command, where one is left. After a label the file in the making is empty.
+// After a command with a label the file in the making is empty.
+fn shown_turn(s: &[u8], buf: &[u8], c: Command, z: State) -> State {
+    labelled(rest_of_line(s, c.next), c, buf, z);
+    State {
+        at: line_end(s, c.next),
+        file: 0,
+        chart: z.chart,
+        rules: z.rules,
+    }
+}
+
+fn made_turn(s: &[u8], buf: &mut [u8], c: Command, z: State) -> State {
+    State {
+        at: after(s, c),
+        chart: taken(c, b'w', buf, CHART, z.file, z.chart),
+        rules: taken(c, b'v', buf, RULES, z.file, z.rules),
+        file: made(c, buf, z),
+    }
+}
+
+// The next command, where one is left.
 fn turn(s: &[u8], buf: &mut [u8], z: State) -> State {
     let at = z.at;
     if s.len() <= at {
@@ -105,20 +125,9 @@ fn turn(s: &[u8], buf: &mut [u8], z: State) -> State {
     }
     let c = read_command(s, s[at], at + 1);
     if takes_label(c.letter) {
-        labelled(rest_of_line(s, c.next), c, buf, z);
-        return State {
-            at: line_end(s, c.next),
-            file: 0,
-            chart: z.chart,
-            rules: z.rules,
-        };
+        return shown_turn(s, buf, c, z);
     }
-    State {
-        at: after(s, c),
-        chart: taken(c, b'w', buf, CHART, z.file, z.chart),
-        rules: taken(c, b'v', buf, RULES, z.file, z.rules),
-        file: made(c, buf, z),
-    }
+    made_turn(s, buf, c, z)
 }
 
 // Every command of a script, in order.

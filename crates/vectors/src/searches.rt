@@ -2,13 +2,13 @@
 // changed that should stay. Of the command's numbers a is how many entries of each work slice are lent, b how many of the
 // plan slice, c what they are full of, d is 1 where the plan is free, and the work slice with the number e, from 1, has f
 // entries instead.
-use crate::read::Command;
 use crate::show::How;
 use crate::show::each;
 use crate::show::each_step;
 use crate::show::named;
 use crate::show::text;
 use definitions::Answer;
+use script_files::read::Command;
 
 // The longest slices: a few entries more than any files need.
 const MOST: usize = 131080;

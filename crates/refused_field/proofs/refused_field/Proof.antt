@@ -4,9 +4,6 @@ use borrow.Author.Needs.{needs}
 use Rattle.refused_field.specs.Refused.{refused-laws}
 use Rattle.refused_field.proofs.refused_field.Statement.{statement}
 use Rattle.refused_field.proofs.refused_field.Tie as tie
-use Rattle.refused_field.proofs.refused_field.Reads as reads
-use Rattle.refused_field.proofs.refused_field.Lts as lts
-use Rattle.refused_field.proofs.field_end.Reads as field-end-reads
 
 field-end-requires : tie.Need-field-end-requires
 field-end-requires c κs = search needs

@@ -1,3 +1,4 @@
+-- `chart::read_chart` meets its contract.
 use Rattle.fields.specs.Positions.{body-laws}
 use Rattle.chart.proofs.Whole.{chart-laws}
 use borrow.Author.Needs.{needs}

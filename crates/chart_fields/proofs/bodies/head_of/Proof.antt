@@ -1,10 +1,8 @@
+-- `chart_fields::head_of` meets its contract.
 use Rattle.chart_fields.proofs.Values.{head-read}
 use borrow.Author.Needs.{needs}
 use Rattle.chart_fields.proofs.bodies.head_of.Statement.{statement}
 use Rattle.chart_fields.proofs.bodies.head_of.Tie as tie
-use Rattle.chart_fields.proofs.bodies.head_of.Reads as reads
-use Rattle.chart_fields.proofs.bodies.head_of.Lts as lts
-use Rattle.field_numbers.proofs.read_u16.Reads as read-u16-reads
 
 read-u16-requires : tie.Need-read-u16-requires
 read-u16-requires c κs = search needs

@@ -1,11 +1,8 @@
+-- `chart_fields::step_fault` meets its contract.
 use borrow.Author.Needs.{needs}
 use Rattle.chart_fields.proofs.Values.{step-laws}
 use Rattle.chart_fields.proofs.bodies.step_fault.Statement.{statement}
 use Rattle.chart_fields.proofs.bodies.step_fault.Tie as tie
-use Rattle.chart_fields.proofs.bodies.step_fault.Reads as reads
-use Rattle.chart_fields.proofs.bodies.step_fault.Lts as lts
-use Rattle.field_numbers.proofs.read_u16.Reads as read-u16-reads
-use Rattle.field_numbers.proofs.read_u32.Reads as read-u32-reads
 
 returns : tie.Need-returns
 returns c = search step-laws

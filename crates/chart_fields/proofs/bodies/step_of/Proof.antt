@@ -1,11 +1,8 @@
+-- `chart_fields::step_of` meets its contract.
 use borrow.Author.Needs.{needs}
 use Rattle.chart_fields.proofs.Values.{step-read}
 use Rattle.chart_fields.proofs.bodies.step_of.Statement.{statement}
 use Rattle.chart_fields.proofs.bodies.step_of.Tie as tie
-use Rattle.chart_fields.proofs.bodies.step_of.Reads as reads
-use Rattle.chart_fields.proofs.bodies.step_of.Lts as lts
-use Rattle.field_numbers.proofs.read_u16.Reads as read-u16-reads
-use Rattle.field_numbers.proofs.read_u32.Reads as read-u32-reads
 
 read-u16-requires : tie.Need-read-u16-requires
 read-u16-requires c κs = search needs

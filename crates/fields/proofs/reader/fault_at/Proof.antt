@@ -3,9 +3,6 @@ use borrow.Author.Needs.{needs}
 use Rattle.fields.specs.Positions.{field-laws}
 use Rattle.fields.proofs.reader.fault_at.Statement.{statement}
 use Rattle.fields.proofs.reader.fault_at.Tie as tie
-use Rattle.fields.proofs.reader.fault_at.Reads as reads
-use Rattle.fields.proofs.reader.fault_at.Lts as lts
-use Rattle.field_numbers.proofs.read_u16.Reads as read-u16-reads
 
 returns : tie.Need-returns
 returns c = search field-laws

@@ -4,9 +4,6 @@ use borrow.Author.Needs.{needs}
 use Rattle.fields.specs.Positions.{tell-laws, tells-header}
 use Rattle.fields.proofs.reader.is_whole.Statement.{statement}
 use Rattle.fields.proofs.reader.is_whole.Tie as tie
-use Rattle.fields.proofs.reader.is_whole.Reads as reads
-use Rattle.fields.proofs.reader.is_whole.Lts as lts
-use Rattle.fields.proofs.reader.header.Reads as header-reads
 
 add-field : tie.Need-add-field
 add-field c = search needs

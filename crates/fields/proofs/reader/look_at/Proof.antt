@@ -5,10 +5,6 @@ use borrow.Author.Needs.{needs}
 use Rattle.fields.specs.Positions.{HasField, only-has}
 use Rattle.fields.proofs.reader.look_at.Statement.{statement}
 use Rattle.fields.proofs.reader.look_at.Tie as tie
-use Rattle.fields.proofs.reader.look_at.Reads as reads
-use Rattle.fields.proofs.reader.look_at.Lts as lts
-use Rattle.fields.proofs.reader.fault_at.Reads as fault-at-reads
-use Rattle.fields.proofs.reader.is_whole.Reads as is-whole-reads
 
 abbrev start-of : tie.Then1 → tie.Start
 start-of c = search

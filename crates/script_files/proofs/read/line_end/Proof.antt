@@ -1,10 +1,10 @@
--- `vectors::read::line_end` is safe and ends: each turn leaves fewer bytes.
+-- `script_files::read::line_end` is safe and ends: each turn leaves fewer bytes.
 -- Assumes nothing.
 use borrow.Author.Needs.{needs}
 use Prim.Native.Nat.{_-_}
 use lib.ListN.{length}
-use Rattle.vectors.proofs.read.line_end.Statement.{statement}
-use Rattle.vectors.proofs.read.line_end.Tie as tie
+use Rattle.script_files.proofs.read.line_end.Statement.{statement}
+use Rattle.script_files.proofs.read.line_end.Tie as tie
 
 abbrev Inv-loop : tie.InvT-loop
 Inv-loop s at end₀ end = Unit {0}

@@ -1,11 +1,11 @@
--- `vectors::write::put_many` is safe and ends: the buffer keeps its length, and each turn leaves fewer fields.
+-- `script_files::write::put_many` is safe and ends: the buffer keeps its length, and each turn leaves fewer fields.
 -- Assumes nothing.
 use borrow.Author.Needs.{needs}
 use mathlib.Core.Path.{_≡_}
 use Prim.Native.Nat.{_≤_, _-_}
 use lib.ListN.{length}
-use Rattle.vectors.proofs.write.put_many.Statement.{statement}
-use Rattle.vectors.proofs.write.put_many.Tie as tie
+use Rattle.script_files.proofs.write.put_many.Statement.{statement}
+use Rattle.script_files.proofs.write.put_many.Tie as tie
 
 abbrev Inv-loop : tie.InvT-loop
 Inv-loop buf₀ at c next₀ i₀ i-end buf next i = (i ≤ i-end) × (length buf ≡ length buf₀)

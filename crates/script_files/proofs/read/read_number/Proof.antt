@@ -1,10 +1,10 @@
--- `vectors::read::read_number` is safe and ends: each turn leaves fewer bytes.
+-- `script_files::read::read_number` is safe and ends: each turn leaves fewer bytes.
 -- Assumes nothing.
 use borrow.Author.Needs.{needs}
 use Prim.Native.Nat.{_-_}
 use lib.ListN.{length}
-use Rattle.vectors.proofs.read.read_number.Statement.{statement}
-use Rattle.vectors.proofs.read.read_number.Tie as tie
+use Rattle.script_files.proofs.read.read_number.Statement.{statement}
+use Rattle.script_files.proofs.read.read_number.Tie as tie
 
 abbrev Inv-loop : tie.InvT-loop
 Inv-loop s at next₀ value₀ next value = Unit {0}

@@ -1,11 +1,11 @@
--- `vectors::write::put_low` is safe and ends: the buffer keeps its length, and each turn leaves fewer bytes.
+-- `script_files::write::put_low` is safe and ends: the buffer keeps its length, and each turn leaves fewer bytes.
 -- Assumes nothing.
 use borrow.Author.Needs.{needs}
 use mathlib.Core.Path.{_≡_}
 use Prim.Native.Nat.{_≤_, _-_}
 use lib.ListN.{length}
-use Rattle.vectors.proofs.write.put_low.Statement.{statement}
-use Rattle.vectors.proofs.write.put_low.Tie as tie
+use Rattle.script_files.proofs.write.put_low.Statement.{statement}
+use Rattle.script_files.proofs.write.put_low.Tie as tie
 
 abbrev Inv-loop : tie.InvT-loop
 Inv-loop buf₀ at number bytes next₀ left₀ counter₀ buf next left counter = (counter ≤ bytes) × (length buf ≡ length buf₀)

@@ -1,11 +1,11 @@
--- `vectors::write::copy` is safe and ends: the buffer keeps its length, and each turn leaves fewer bytes.
+-- `script_files::write::copy` is safe and ends: the buffer keeps its length, and each turn leaves fewer bytes.
 -- Assumes nothing.
 use borrow.Author.Needs.{needs}
 use mathlib.Core.Path.{_≡_}
 use Prim.Native.Nat.{_≤_, _-_}
 use lib.ListN.{length}
-use Rattle.vectors.proofs.write.copy.Statement.{statement}
-use Rattle.vectors.proofs.write.copy.Tie as tie
+use Rattle.script_files.proofs.write.copy.Statement.{statement}
+use Rattle.script_files.proofs.write.copy.Tie as tie
 
 abbrev Inv-loop : tie.InvT-loop
 Inv-loop buf₀ from to i₀ buf i = (i ≤ 12288) × (length buf ≡ length buf₀)

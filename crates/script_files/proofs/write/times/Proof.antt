@@ -1,11 +1,11 @@
--- `vectors::write::times` is safe and meets its contract: two numbers below 65,536 have a product of four bytes.
+-- `script_files::write::times` is safe and meets its contract: two numbers below 65,536 have a product of four bytes.
 -- Assumes nothing.
 use borrow.Author.Needs.{needs}
 use lib.Dec.{lit<}
 use Prim.Native.Nat.{ℕ, _*_, _≤_}
 use native.Mathlib.Nat.{mul-le-mul, lt-of-le-of-lt}
-use Rattle.vectors.proofs.write.times.Statement.{statement}
-use Rattle.vectors.proofs.write.times.Tie as tie
+use Rattle.script_files.proofs.write.times.Statement.{statement}
+use Rattle.script_files.proofs.write.times.Tie as tie
 
 product : {a b : ℕ} → a ≤ 65535 → b ≤ 65535 → a * b ≤ 4294836225
 product h g = mul-le-mul h g
