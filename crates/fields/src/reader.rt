@@ -8,7 +8,6 @@ ghost use Rattle.definitions.specs.Fields.{two, only, fieldAt};
 ghost use Rattle.fields.specs.Positions.{HasField, Tells};
 use definitions::Field;
 use field_numbers::read_u16;
-use field_numbers::read_u32;
 use field_numbers::wide;
 
 // A file, and the place of its next field.
@@ -17,14 +16,11 @@ pub struct Reader<'a> {
     pub at: usize,
 }
 
-// A field's tag and length as one number. Where a byte follows, the four are loaded at once.
+// A field's tag and length as one number.
 fn header(s: &[u8], at: usize) -> u32
     requires { ⌜ at + 2 < length (now s) ⌝ }
     ensures { λ r. ⌜ r ≡ getD (now (s .entry)) at 0 + 256 * two (now (s .entry)) (at + 1) ⌝ }
 {
-    if at + 3 < s.len() {
-        return read_u32(s, at) % 16777216;
-    }
     wide(s[at]) as u32 + 256 * read_u16(s, at + 1) as u32
 }
 
