@@ -17,7 +17,6 @@ use Rattle.definitions.specs.declared.Answer.{Answer}
 use Rattle.definitions.specs.declared.Shape.{Shape}
 use Rattle.chart_stages.specs.FirstSteps.{FirstTable}
 use Rattle.chart_stages.specs.Estimates.{EstimateTable}
-use Rattle.nodes.specs.Walks.{Finishing}
 use Rattle.node_estimates.specs.Estimates.{Estimated}
 use Rattle.rows.specs.Rows.{rowStarts}
 use Rattle.trace.specs.Trails.{Trail, trail-short}
@@ -34,7 +33,7 @@ use Rattle.guided_ends.specs.declared.Ended.{Ended}
 use Rattle.guided_ends.specs.Ends.{Trails, Ending, Concludes}
 use Rattle.guided.specs.Runs.{estimateIn, workOf, Room, Runs}
 use Rattle.guided.proofs.Planning.{outcome-some, outcome-none}
-use Rattle.guided.proofs.Preparing.{sound, run-narrow, run-guide, run-shown, run-prepared}
+use Rattle.guided.proofs.Preparing.{sound, run-narrow, run-guide, run-shown, run-guides}
 
 module _ {z : Shape} {t : Read} (in-tables : Tables z t) {byStage byNode : List ℕ} (es : EstimateTable (chartIn z t) byStage)
     (en : Estimated (t .inner .step) (t .inner .lo) (t .inner .hi) (t .steps .cost) (z .nodes) byNode)
@@ -59,8 +58,8 @@ module _ {z : Shape} {t : Read} (in-tables : Tables z t) {byStage byNode : List 
           none-begun C D (sound in-tables) (run-guide in-tables) (x .log)
           (estimate-none (run-guide in-tables) (z .start .0) (z .root .0) rest (sound in-tables .root-inside) (run-shown in-tables es en er) q)
 
-  module _ (q : rest ≡ NONE → ⊥) {first row : List ℕ} {yes-at : List Bool} (ef : FirstTable (z .steps) (z .stages) (t .steps .from) first)
-      (ew : row ≡ rowStarts (z .stages) (z .nodes + 2)) (ey : Finishing (t .inner .lo) (z .nodes) yes-at) {x : GuidedSlices} (room : Room z x) where
+  module _ (q : rest ≡ NONE → ⊥) {first row : List ℕ} (ef : FirstTable (z .steps) (z .stages) (t .steps .from) first)
+      (ew : row ≡ rowStarts (z .stages) (z .nodes + 2)) {x : GuidedSlices} (room : Room z x) where
     abbrev on : Walk
     on = walk t first row
 
@@ -74,16 +73,16 @@ module _ {z : Shape} {t : Read} (in-tables : Tables z t) {byStage byNode : List 
     until-end = estimate-until C D (in-tables .valid)
 
     -- what the search asks
-    abbrev pub run-start : Start z on (estimates byStage byNode) yes-at rest (workOf x) (x .log)
+    abbrev pub run-start : Start z on (estimates byStage byNode) rest (workOf x) (x .log)
     run-start = record {
-      prepared = run-prepared in-tables es en ef ew ey;
+      by = run-guides in-tables es en ef ew;
       space = room .space;
       has = has-estimate;
       inside = λ s n m e. omega (arith, until-end s n m e, in-tables .valid .end-inside);
     }
 
     -- the search is done
-    module _ {y : Work} {log′ : List ℕ} {e : Ended} (s : Searched (run-prepared in-tables es en ef ew ey .by) (workOf x) (x .log) y log′ e)
+    module _ {y : Work} {log′ : List ℕ} {e : Ended} (s : Searched (run-guides in-tables es en ef ew) (workOf x) (x .log) y log′ e)
         (via-long : length (y .via) ≡ length (x .via)) where
       trail-in : {via : List ℕ} {width node : ℕ} {w : List ℕ} → Trail via (t .steps .from) width (z .start .0) (z .end .0) node w → length w ≤ length (x .plan)
       trail-in w = omega (arith, trail-short w, in-tables .valid .end-inside, room .plan-fits)

@@ -21,7 +21,7 @@ use Rattle.chart_stages.specs.FirstSteps.{SortedTable, FirstTable}
 use Rattle.chart_stages.specs.HeldGraph.{held-sorted}
 use Rattle.chart_stages.specs.Estimates.{EstimateTable}
 use Rattle.chart_stages.specs.Leaving.{Staged}
-use Rattle.nodes.specs.Walks.{Falls, Finishing}
+use Rattle.nodes.specs.Walks.{Falls}
 use Rattle.nodes.specs.Falling.{lo-falls, hi-falls}
 use Rattle.node_estimates.specs.Estimates.{Priced, Costs, Estimated}
 use Rattle.node_estimates.specs.Prices.{costs-of, priced}
@@ -30,8 +30,8 @@ use Rattle.checks.specs.Tables.{Read, chartIn, diagramIn, Tables}
 use Rattle.checks.specs.Ready.{walk, graphIn, automatonIn, count-is, width-is, sound-in, few-stages, few-nodes, cost-at}
 use Rattle.guided_model.specs.State.{Guide}
 use Rattle.guided_model.specs.Guides.{guide}
+use Rattle.guided_expand.specs.Guides.{Guides}
 use Rattle.guided_offers.specs.Estimates.{estimates, paired, Holds}
-use Rattle.guided_loop.specs.Search.{Prepared}
 use Rattle.guided.specs.Runs.{estimateIn}
 
 -- the larger of two entries is that of the larger estimate, since none is shown by the largest number
@@ -102,14 +102,6 @@ module _ {z : Shape} {t : Read} (in-tables : Tables z t) where
     pub run-shown : {rest : ℕ} → rest ≡ paired (estimates byStage byNode) (z .start .0) (z .root .0) → rest ≡ shown (estimateIn z t (z .start .0) (z .root .0))
     run-shown e = e ∙ run-holds (z .start .0) (z .root .0) (omega arith) (run-root .0) (omega (arith, sound .root-inside, width))
 
-    abbrev pub run-prepared : {first row : List ℕ} {yes-at : List Bool} → FirstTable (z .steps) (z .stages) (t .steps .from) first → row ≡ rowStarts (z .stages) (z .nodes + 2)
-        → Finishing (t .inner .lo) (z .nodes) yes-at → Prepared z (walk t first row) (estimates byStage byNode) yes-at
-    run-prepared f r y = record {
-      by = record {
-        ready = record { tables = in-tables; firsts = f; rows = r };
-        h = estimateIn z t;
-        guide = run-guide;
-        holds = run-holds;
-      };
-      accepts = λ n h. y .is D (t .inner .step) (t .inner .hi) (in-tables .held) (omega (arith, width-is z t in-tables)) n h;
-    }
+    abbrev pub run-guides : {first row : List ℕ} → FirstTable (z .steps) (z .stages) (t .steps .from) first → row ≡ rowStarts (z .stages) (z .nodes + 2)
+        → Guides z (walk t first row) (estimates byStage byNode)
+    run-guides f r = record { ready = record { tables = in-tables; firsts = f; rows = r }; h = estimateIn z t; guide = run-guide; holds = run-holds }

@@ -16,7 +16,6 @@ use guided_ends::conclude;
 use guided_loop::search;
 use guided_offers::pair_estimate;
 use node_estimates::fill_diagram_estimates;
-use nodes::fill_finishing;
 use rows::fill_row_starts;
 
 // The guided search of a chart and a diagram that stand in tables.
@@ -57,8 +56,6 @@ fn run<'a>(
     }
     let mut row = [0u32; 256];
     fill_row_starts(&mut row, z.stages as usize, z.nodes + 2);
-    let mut yes = [false; 512];
-    fill_finishing(&mut yes, inner, z.nodes);
     let ended = search(
         keys,
         via,
@@ -72,7 +69,6 @@ fn run<'a>(
         inner,
         &by_stage,
         &by_node,
-        &yes,
         z,
         rest,
     );

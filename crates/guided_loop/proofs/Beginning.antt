@@ -61,9 +61,9 @@ module _ {z : Shape} {on : Walk} {t : Estimates} (by : Guides z on t) where
   begin-is e =
       omega (arith, e, row-start z on (by .ready) (z .start .0) (tables .valid .start-inside), ap (λ (k : ℕ). z .start .0 * k) width)
 
-module _ {z : Shape} {on : Walk} {t : Estimates} {yes-at : List Bool} {rest : ℕ} {x : Work} {log : List ℕ} (b : Start z on t yes-at rest x log) where
+module _ {z : Shape} {on : Walk} {t : Estimates} {rest : ℕ} {x : Work} {log : List ℕ} (b : Start z on t rest x log) where
   abbrev by : Guides z on t
-  by = b .prepared .by
+  by = b .by
 
   -- no block is filled
   abbrev none-filled : List Bool
@@ -137,9 +137,9 @@ module _ {z : Shape} {on : Walk} {t : Estimates} {yes-at : List Bool} {rest : �
           (subst (Contains (queueOf begun)) (begins e) (first-opened .here)) (λ k w. only-begin k w ∙ begins e) (omega (arith, pairs-are by, b .space .log-fits))
 
       -- the loop may begin
-      abbrev pub begin-begun : Begun z on t yes-at begin begun log
+      abbrev pub begin-begun : Begun z on t begin begun log
       begin-begun = record {
-        prepared = b .prepared;
+        by = b .by;
         begins = begins e;
         turning = record {
           queue = first-opened .queue;
@@ -159,5 +159,5 @@ module _ {z : Shape} {on : Walk} {t : Estimates} {yes-at : List Bool} {rest : �
         stack-past = first-opened .past .stack-past;
       }
 
-      pub begin-searched : {x″ : Work} {log″ : List ℕ} {r : Ended} → Searched (b .prepared .by) (begun .slices) log x″ log″ r → Searched (b .prepared .by) x log x″ log″ r
+      pub begin-searched : {x″ : Work} {log″ : List ℕ} {r : Ended} → Searched (b .by) (begun .slices) log x″ log″ r → Searched (b .by) x log x″ log″ r
       begin-searched s = record { goal = s .goal; no-goal = s .no-goal; past = past-more begin-past (s .past) }

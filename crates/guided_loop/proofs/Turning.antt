@@ -35,17 +35,16 @@ use Rattle.guided_expand.specs.Guides.{Guides, few-pairs}
 use Rattle.guided_places.specs.declared.Pair.{Pair}
 use Rattle.guided_expand.specs.declared.steps.Source.{Source}
 use Rattle.guided_expand.specs.Opening.{Opens, Opened, Opening}
-use Rattle.guided_places.specs.Places.{stageAt, Placed}
-use Rattle.guided_loop.specs.Search.{Prepared, Turning, Searched}
+use Rattle.guided_places.specs.Places.{GoalAt, stageAt, Placed}
+use Rattle.guided_loop.specs.Search.{Turning, Searched}
+use Rattle.nodes.specs.Walks.{Falls}
+use Rattle.nodes.specs.Falling.{lo-falls}
 use Rattle.guided_ends.specs.declared.Ended.{Ended}
 use Rattle.guided_places.proofs.Placing.{at-begin, at-step}
 use Rattle.guided_loop.proofs.Beginning.{g, a, tables, sound, width, narrow, pairs-are}
 
-module _ {z : Shape} {on : Walk} {t : Estimates} {yes-at : List Bool} (prepared : Prepared z on t yes-at)
-    {x₀ : Work} {log₀ : List ℕ} {x : Progress} {log : List ℕ} {floor count : ℕ} (w : Turning (prepared .by) x₀ log₀ x log floor count) where
-  abbrev by : Guides z on t
-  by = prepared .by
-
+module _ {z : Shape} {on : Walk} {t : Estimates} (by : Guides z on t)
+    {x₀ : Work} {log₀ : List ℕ} {x : Progress} {log : List ℕ} {floor count : ℕ} (w : Turning (by) x₀ log₀ x log floor count) where
   abbrev h : Estimate
   h = by .h
 
@@ -148,6 +147,10 @@ module _ {z : Shape} {on : Walk} {t : Estimates} {yes-at : List Bool} (prepared 
           let e : y - stage * a by .size ≡ n = omega (arith, is .1) in
           subst₂ (λ (i j : ℕ). Located (g by) (a by) y i j) (sym (is .0)) e (located-at .1)
 
+      -- its node can be finished
+      pub turn-falls : Falls (on .read .inner .lo) n
+      turn-falls = lo-falls D (on .read .inner .step) (on .read .inner .lo) (on .read .inner .hi) (tables by .held) n (turn-located .node)
+
       pub turn-inside : (s < 256) × (n < 512)
       turn-inside = (
         omega (arith, turn-located .stage, few-stages z (on .read) (tables by)),
@@ -171,7 +174,7 @@ module _ {z : Shape} {on : Walk} {t : Estimates} {yes-at : List Bool} (prepared 
         abbrev pub turn-source : Source
         turn-source = record { pair = pair; cost = key - r; key = key }
 
-        pub turn-opens : Opens (prepared .by) turn-source (pairsIn z) x′
+        pub turn-opens : Opens (by) turn-source (pairsIn z) x′
         turn-opens = record {
           all = refl;
           fits = w .fits;
@@ -183,22 +186,25 @@ module _ {z : Shape} {on : Walk} {t : Estimates} {yes-at : List Bool} (prepared 
         }
 
         abbrev pub turn-asks : Opening on t turn-source (pairsIn z) x′
-        turn-asks = record { z = z; by = prepared .by; opens = turn-opens }
+        turn-asks = record { z = z; by = by; opens = turn-opens }
 
-        module _ {goal-at : Bool} (eg : goal-at ≡ (eqb s (z .end .0) && getD yes-at n false))
+        module _ {goal-at : Bool} (tested : GoalAt (on .read .inner .lo) (z .end .0) s n goal-at)
             {count′ : ℕ} {log′ : List ℕ} (logged : (count′ ≡ count + 1) × (log′ ≡ set log count y)) where
+          eg : goal-at ≡ (eqb s (z .end .0) && a by .accepts n)
+          eg = tested .is D (on .read .inner .step) (on .read .inner .hi) (tables by .held) (turn-located .node)
+
           -- a goal pair
           pub turn-goal : goal-at ≡ true → {e : Ended} → e .node .0 ≡ n → e .cost ≡ key - r → e .count ≡ count′ → e .found ≡ true
               → Searched by x₀ log₀ (x′ .slices) log′ e
           turn-goal q {e} nn ec ek ef =
-              let v = both (eqb s (z .end .0)) (getD yes-at n false) (sym eg ∙ q) in
+              let v = both (eqb s (z .end .0)) (a by .accepts n) (sym eg ∙ q) in
               record {
                 goal = λ i. rw (nn, ec, ek)
                     (subst₂ (λ (k : ℕ) (l : List ℕ). GoalSettled C D h (by .guide .base) (x .slices .via) (on .read .steps .from) n (key - r) k log₀ l)
                     (sym (logged .0)) (sym (logged .1))
                     (running-goal C D (sound by) (by .guide) (w .running) smallest s n (key - r) (on .read .steps .from)
                     (λ f j. from-at z (on .read) (tables by) f (omega (arith, count-is z (on .read) (tables by))))
-                    turn-located (eqb-true s (z .end .0) (v .0)) (sym (prepared .accepts n (turn-located .node)) ∙ v .1) spent-is));
+                    turn-located (eqb-true s (z .end .0) (v .0)) (v .1) spent-is));
                 no-goal = λ i. absurd (true-not-false (sym ef ∙ i));
                 past = past-more (w .past) taken-past;
               }
@@ -207,17 +213,17 @@ module _ {z : Shape} {on : Walk} {t : Estimates} {yes-at : List Bool} (prepared 
               taken-past = record { keys-past = refl; via-past = refl; heap-past = k .past .heap-past; pos-past = k .past .pos-past; stack-past = refl }
 
           no-goal : goal-at ≡ false → goalAt (g by) (a by) h y ≡ false
-          no-goal q = go (eqb s (z .end .0)) refl (getD yes-at n false) refl
+          no-goal q = go (eqb s (z .end .0)) refl (a by .accepts n) refl
             where
-              go : (i : Bool) → eqb s (z .end .0) ≡ i → (j : Bool) → getD yes-at n false ≡ j → goalAt (g by) (a by) h y ≡ false
+              go : (i : Bool) → eqb s (z .end .0) ≡ i → (j : Bool) → a by .accepts n ≡ j → goalAt (g by) (a by) h y ≡ false
               go false d j f = no-goal-stage (g by) (a by) h y s n turn-located (λ m. eqb-false s (z .end .0) d m)
-              go true d false f = no-goal-node (g by) (a by) h y s n turn-located (sym (prepared .accepts n (turn-located .node)) ∙ f)
+              go true d false f = no-goal-node (g by) (a by) h y s n turn-located f
               go true d true f = let b : true ≡ false = sym (ap₂ (λ (i j : Bool). i && j) d f) ∙ sym eg ∙ q in absurd (true-not-false b)
 
           -- no goal pair: the steps from it were offered
           pub turn-more : goal-at ≡ false → {x″ : Progress} → length (x″ .slices .via) ≡ length (x .slices .via)
-              → Opened (prepared .by) turn-source (getD (on .first) s 0) (getD (on .first) (s + 1) 0) x′ x″
-              → Turning (prepared .by) x₀ log₀ x″ log′ key count′
+              → Opened (by) turn-source (getD (on .first) s 0) (getD (on .first) (s + 1) 0) x′ x″
+              → Turning (by) x₀ log₀ x″ log′ key count′
           turn-more q {x″} l o = record {
             queue = o .kept .queue;
             fits = omega (arith, w .fits);

@@ -2,11 +2,10 @@
 -- Assumes nothing.
 use Prim.Native.Nat.{ℕ, _≤_, _<_}
 use mathlib.Core.Path.{_≡_}
-use mathlib.Core.Bool.{Bool, true, false}
+use mathlib.Core.Bool.{true, false}
 use mathlib.Core.List.{List}
 use mathlib.Core.Option.{some}
-use lib.ListN.{length, getD}
-use Rattle.definitions.specs.Diagrams.{size}
+use lib.ListN.{length}
 use Rattle.definitions.specs.declared.Shape.{Shape}
 use Rattle.theory.specs.Product.{startPair}
 use Rattle.queue.specs.Queue.{Queue}
@@ -19,11 +18,6 @@ use Rattle.guided_expand.specs.Progress.{Progress, queueOf, seenIn}
 use Rattle.guided_expand.specs.Guides.{Guides}
 use Rattle.guided_ends.specs.declared.Ended.{Ended}
 
--- all tables of the search
-pub record Prepared (z : Shape) (on : Walk) (t : Estimates) (yes-at : List Bool) : Type 0 where
-  pub by : Guides z on t
-  pub accepts : (n : ℕ) → n < size (diagramIn z (on .read)) → getD yes-at n false ≡ automatonIn z (on .read) .accepts n
-
 -- each slice has an entry for each pair
 pub record Space (z : Shape) (x : Work) (log : List ℕ) : Type 0 where
   pub keys-fit : pairsIn z ≤ length (x .keys)
@@ -34,11 +28,11 @@ pub record Space (z : Shape) (x : Work) (log : List ℕ) : Type 0 where
   pub log-fits : pairsIn z ≤ length log
 
 -- the pair of start and root has the estimate `rest`, and only pairs of the chart's stages have one
-pub record Start (z : Shape) (on : Walk) (t : Estimates) (yes-at : List Bool) (rest : ℕ) (x : Work) (log : List ℕ) : Type 0 where
-  pub prepared : Prepared z on t yes-at
+pub record Start (z : Shape) (on : Walk) (t : Estimates) (rest : ℕ) (x : Work) (log : List ℕ) : Type 0 where
+  pub by : Guides z on t
   pub space : Space z x log
-  pub has : prepared .by .h (z .start .0) (z .root .0) ≡ some rest
-  pub inside : (s n m : ℕ) → prepared .by .h s n ≡ some m → s < z .stages
+  pub has : by .h (z .start .0) (z .root .0) ≡ some rest
+  pub inside : (s n m : ℕ) → by .h s n ≡ some m → s < z .stages
 
 module _ {z : Shape} {on : Walk} {t : Estimates} (by : Guides z on t) where
   -- between two turns: from the slices x₀ and log₀ it came to x and log, in which `count` pairs are settled, the last one at the key `floor`, and those of the queue are open
@@ -57,7 +51,7 @@ module _ {z : Shape} {on : Walk} {t : Estimates} (by : Guides z on t) where
     pub past : Past (pairsIn z) x x′
 
 -- nothing is settled yet, the pairs of the queue are open, and `begin` is the pair of start and root
-pub record Begun (z : Shape) (on : Walk) (t : Estimates) (yes-at : List Bool) (begin : ℕ) (x : Progress) (log : List ℕ) : Type 0 where
-  pub prepared : Prepared z on t yes-at
+pub record Begun (z : Shape) (on : Walk) (t : Estimates) (begin : ℕ) (x : Progress) (log : List ℕ) : Type 0 where
+  pub by : Guides z on t
   pub begins : begin ≡ startPair (graphIn z (on .read)) (automatonIn z (on .read))
-  pub turning : Turning (prepared .by) (x .slices) log x log 0 0
+  pub turning : Turning by (x .slices) log x log 0 0

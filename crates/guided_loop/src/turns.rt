@@ -32,7 +32,6 @@ pub fn search<'a>(
     inner: &'a [u32; 512],
     by_stage: &'a [u32; 256],
     by_node: &'a [u32; 512],
-    yes: &'a [bool; 512],
     z: Shape,
     rest: u32,
 ) -> Ended
@@ -40,15 +39,15 @@ pub fn search<'a>(
         (let before = work (now keys) (now via) (now heap) (now pos) (now stack) in
         let on = walk (read (now steps) (now inner)) (now first) (now row) in
         let estimated = estimates (now «by_stage») (now «by_node») in
-        Start z on estimated (now yes) rest before (now log))
+        Start z on estimated rest before (now log))
         ⌝ }
     ensures { λ r. ⌜
         (let before = work (now (keys .entry)) (now (via .entry)) (now (heap .entry)) (now (pos .entry)) (now (stack .entry)) in
         let after = work (now (keys .exit)) (now (via .exit)) (now (heap .exit)) (now (pos .exit)) (now (stack .exit)) in
         let on = walk (read (now (steps .entry)) (now (inner .entry))) (now (first .entry)) (now (row .entry)) in
         let estimated = estimates (now («by_stage» .entry)) (now («by_node» .entry)) in
-        (x : Start z on estimated (now (yes .entry)) rest before (now (log .entry)))
-        → Searched (x .prepared .by) before (now (log .entry)) after (now (log .exit)) r)
+        (x : Start z on estimated rest before (now (log .entry)))
+        → Searched (x .by) before (now (log .entry)) after (now (log .exit)) r)
         ⌝ }
 {
     let pairs = z.stages as usize * (z.nodes + 2);
@@ -68,7 +67,7 @@ pub fn search<'a>(
         count = log_pair(log, count, x);
         let at = pair_of(via, &steps[ENDS], row, begin, z.start, x);
         let spent = floor - pair_estimate(by_stage, by_node, at.stage, at.node);
-        if is_goal(yes, z.end, at) {
+        if is_goal(inner, z.end, at) {
             found = true;
             node = at.node;
             cost = spent;

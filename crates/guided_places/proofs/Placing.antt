@@ -7,9 +7,11 @@ use mathlib.Core.List.{List}
 use lib.Dec.{eqb}
 use lib.ListN.{getD}
 use borrow.Author.Tests.{eq-eqb, ne-eqb}
+use Rattle.definitions.specs.Diagrams.{finish}
 use Rattle.theory.specs.Basics.{pick-true, pick-false}
+use Rattle.nodes.specs.Walks.{Finishes}
 use Rattle.via_marks.specs.Marks.{stepIn}
-use Rattle.guided_places.specs.Places.{stageAt, Placed}
+use Rattle.guided_places.specs.Places.{GoalAt, stageAt, Placed}
 
 module _ (via to : List ℕ) (begin start x : ℕ) where
   pub at-begin : x ≡ begin → stageAt via to begin start x ≡ start
@@ -36,8 +38,9 @@ module _ {via to row : List ℕ} {begin start x : ℕ} (p : Placed via to row be
     placed-step = subst InRow (sym placed-stage) (p .stage, p .from-row, p .in-row)
 
 -- the goal test
-pub goal-there : (s end : ℕ) (b : Bool) → s ≡ end → b ≡ (eqb s end && b)
-goal-there s end b q = sym (ap (λ (t : Bool). t && b) (eq-eqb s end q))
+module _ (lo : List ℕ) (end s n : ℕ) where
+  pub goal-there : s ≡ end → (b : Bool) → Finishes lo n b → GoalAt lo end s n b
+  goal-there q b f = record { is = λ d step hi h l. f .is d step hi h l ∙ sym (ap (λ (t : Bool). t && eqb (finish d n) 1) (eq-eqb s end q)) }
 
-pub goal-elsewhere : (s end : ℕ) (b : Bool) → (s ≡ end → ⊥) → false ≡ (eqb s end && b)
-goal-elsewhere s end b q = sym (ap (λ (t : Bool). t && b) (ne-eqb s end q))
+  pub goal-elsewhere : (s ≡ end → ⊥) → GoalAt lo end s n false
+  goal-elsewhere q = record { is = λ d step hi h l. sym (ap (λ (t : Bool). t && eqb (finish d n) 1) (ne-eqb s end q)) }

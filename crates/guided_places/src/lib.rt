@@ -1,15 +1,16 @@
 // One settled pair of the guided search: its stage and its node, whether it is a goal pair, and its entry in the log.
 ghost use mathlib.Core.Path.{_≡_};
-ghost use mathlib.Core.Bool.{false, _&&_};
 ghost use Prim.Native.Nat.{_+_, _≤_, _<_};
-ghost use lib.Dec.{eqb};
 ghost use lib.ListN.{length, getD, set};
 ghost use Rattle.chart_fields.specs.Ends.{tos};
-ghost use Rattle.guided_places.specs.Places.{stageAt, Placed};
+ghost use Rattle.guided_places.specs.Places.{GoalAt, stageAt, Placed};
+ghost use Rattle.diagram_fields.specs.Words.{nodesIn};
+ghost use Rattle.nodes.specs.Walks.{Falls};
 use chart_fields::to_at;
 use convert::wide;
 use definitions::Node;
 use definitions::Stage;
+use nodes::finishes;
 use via_marks::step_in;
 
 // A pair of a stage and a node.
@@ -54,12 +55,12 @@ pub fn pair_of<'a>(
 }
 
 // Whether an opened pair is a goal pair: it is one of the end stage, and its node finishes at 1.
-pub fn is_goal(yes: &[bool; 512], end: Stage, at: Pair) -> bool
-    requires { ⌜ at .node .0 < 512 ⌝ }
-    ensures { λ r. ⌜ r ≡ eqb (at .stage .0) (end .0) && getD (now (yes .entry)) (at .node .0) false ⌝ }
+pub fn is_goal(inner: &[u32; 512], end: Stage, at: Pair) -> bool
+    requires { ⌜ Falls (nodesIn (now inner) .lo) (at .node .0) ⌝ }
+    ensures { λ r. ⌜ GoalAt (nodesIn (now (inner .entry)) .lo) (end .0) (at .stage .0) (at .node .0) r ⌝ }
 {
     if at.stage.0 == end.0 {
-        return yes[at.node.0 as usize];
+        return finishes(inner, at.node);
     }
     false
 }

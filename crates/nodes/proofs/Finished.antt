@@ -1,6 +1,6 @@
--- The loop of `fill_finishing`: its invariant, with one law for each way on.
+-- The loops of `finishes` and of `fill_finishing`: their invariants, with one law for each way on.
 use Prim.Native.Nat.{ℕ, zero, suc, _+_, _≤_, _<_}
-use mathlib.Core.Path.{_≡_, sym, _∙_, ap}
+use mathlib.Core.Path.{_≡_, refl, sym, _∙_, ap}
 use mathlib.Core.Bool.{Bool, true, false}
 use mathlib.Core.List.{List}
 use lib.Dec.{eqb}
@@ -13,12 +13,38 @@ use Rattle.theory.specs.Limits.{Ordered}
 use Rattle.theory.specs.Diagrams.{finish-leaf, finish-inner}
 use Rattle.diagram.specs.Tables.{Held}
 use Rattle.diagram.specs.Held.{held-lo}
-use Rattle.nodes.specs.Walks.{Falls, Finishing}
+use Rattle.nodes.specs.Walks.{Falls, Finishes, Finishing}
 use Rattle.nodes.proofs.Children.{child-below}
 
 -- an inner node of a held diagram finishes where the node at its lo does
 finish-lo : (d : Diagram) (step lo hi : List ℕ) → Held d step lo hi → (n : ℕ) → 2 ≤ n → n < size d → finish d n ≡ finish d (getD lo n 0)
 finish-lo d step lo hi h n i l = finish-inner d (h .ordered) n i ∙ ap (finish d) (held-lo d step lo hi h n i l)
+
+-- ---- one node
+
+-- the walk from node n has come to m
+pub record Walked (lo : List ℕ) (n m : ℕ) : Type 0 where
+  pub below : m ≤ n
+  pub same : (d : Diagram) (step hi : List ℕ) → Held d step lo hi → n < size d → finish d n ≡ finish d m
+
+module _ (lo : List ℕ) (n : ℕ) where
+  pub walk-start : Walked lo n n
+  walk-start = record { below = omega arith; same = λ d step hi h l. refl }
+
+  module _ (falls : Falls lo n) (m : ℕ) (w : Walked lo n m) where
+    pub walk-next : 2 ≤ m → (v : ℕ) → v ≡ getD lo m 0 → Walked lo n v
+    walk-next i v is = record {
+      below = omega (arith, falls .below m i (w .below), w .below);
+      same = λ d step hi h l. w .same d step hi h l ∙ finish-lo d step lo hi h m i (omega (arith, w .below)) ∙ ap (finish d) (sym is);
+    }
+
+    pub walk-less : 2 ≤ m → (v : ℕ) → v ≡ getD lo m 0 → v < m
+    walk-less i v is = omega (arith, falls .below m i (w .below))
+
+    pub walk-done : m < 2 → Finishes lo n (eqb m 1)
+    walk-done i = record { is = λ d step hi h l. sym (ap (λ (k : ℕ). eqb k 1) (w .same d step hi h l ∙ finish-leaf d (h .ordered) m i)) }
+
+-- ---- all nodes
 
 -- the entries of the nodes below n are right
 pub record Passed (lo : List ℕ) (count : ℕ) (yes : List Bool) (n : ℕ) : Type 0 where

@@ -38,6 +38,10 @@ pub record Advances (step lo hi : List ℕ) (e n r : ℕ) : Type 0 where
 abbrev pub BranchesTo : List ℕ → List ℕ → ℕ → ℕ → ℕ → Type 0
 BranchesTo step hi e m r = (lo : List ℕ) (n : ℕ) → Lowers step lo e n m → Advances step lo hi e n r
 
+-- whether node n finishes at 1, whatever the tables of steps and his hold
+pub record Finishes (lo : List ℕ) (n : ℕ) (r : Bool) : Type 0 where
+  pub is : (d : Diagram) (step hi : List ℕ) → Held d step lo hi → n < size d → r ≡ eqb (finish d n) 1
+
 -- a table says of each node of a diagram of at most `count` inner nodes whether it finishes at 1
 pub record Finishing (lo : List ℕ) (count : ℕ) (r : List Bool) : Type 0 where
   pub is : (d : Diagram) (step hi : List ℕ) → Held d step lo hi → length (d .nodes) ≤ count

@@ -5,4 +5,5 @@ pub use walks::Lowered;
 pub use walks::branch;
 pub use walks::descend_to;
 pub use walks::fill_finishing;
+pub use walks::finishes;
 pub use walks::lowered_at;

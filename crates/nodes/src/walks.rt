@@ -3,7 +3,7 @@ ghost use mathlib.Core.Path.{_≡_};
 ghost use Prim.Native.Nat.{_+_, _≤_, _<_};
 ghost use lib.ListN.{length};
 ghost use Rattle.diagram_fields.specs.Words.{MARK, Marked, nodesIn};
-ghost use Rattle.nodes.specs.Walks.{Falls, Tests, Lowers, BranchesTo, Finishing};
+ghost use Rattle.nodes.specs.Walks.{Falls, Tests, Lowers, BranchesTo, Finishes, Finishing};
 use definitions::Node;
 use definitions::Step;
 use diagram_fields::hi_at;
@@ -61,6 +61,18 @@ pub fn branch(inner: &[u32; 512], e: Step, at: Lowered) -> Node
         return Node(hi_at(inner, at.node.0 as usize));
     }
     at.node
+}
+
+// Whether a node finishes at 1: to lo until 0 or 1.
+pub fn finishes(inner: &[u32; 512], n: Node) -> bool
+    requires { ⌜ Falls (nodesIn (now inner) .lo) (n .0) ⌝ }
+    ensures { λ r. ⌜ Finishes (nodesIn (now (inner .entry)) .lo) (n .0) r ⌝ }
+{
+    let mut m = n.0;
+    while 2 <= m {
+        m = lo_at(inner, m as usize);
+    }
+    m == 1
 }
 
 // Fills the table: for each node of a diagram of `count` inner nodes, whether it finishes at 1.

@@ -1,7 +1,7 @@
 -- `guided::run` meets its contract.
 use mathlib.Core.Path.{refl}
 use native.Mathlib.Omega.{arith}
-use Rattle.guided.proofs.Preparing.{run-lo, run-nodes, run-sorted, run-staged, run-narrow, run-root}
+use Rattle.guided.proofs.Preparing.{run-nodes, run-sorted, run-staged, run-narrow, run-root}
 use Rattle.guided.proofs.Finding.{runs-none, run-start, found-traceable, found-runs}
 use borrow.Author.Needs.{needs}
 use Rattle.guided.proofs.run.run.Statement.{statement}
@@ -11,10 +11,7 @@ use Rattle.guided.proofs.run.run.Tie as tie
 abbrev searched-of : tie.After-conclude → tie.After-search
 searched-of c = search
 
-abbrev yes-of : tie.After-search → tie.After-fill-finishing
-yes-of c = search
-
-abbrev row-of : tie.After-fill-finishing → tie.After-fill-row-starts
+abbrev row-of : tie.After-search → tie.After-fill-row-starts
 row-of c = search
 
 abbrev some-of : tie.After-fill-row-starts → tie.Else1
@@ -91,8 +88,8 @@ fill-row-starts-requires c κs =
     let narrow = run-narrow (start .pre .0) in
     (refl, narrow .0, narrow .1)
 
-fill-finishing-requires : tie.Need-fill-finishing-requires
-fill-finishing-requires c κs =
+search-requires : tie.Need-search-requires
+search-requires c κs =
     let row : tie.After-fill-row-starts = search in
     let some = some-of row in
     let rest = rest-of some in
@@ -100,26 +97,13 @@ fill-finishing-requires c κs =
     let by-stage = by-stage-of by-node in
     let first = first-of by-stage in
     let start = start-of first in
-    (run-lo (start .pre .0), search needs)
-
-search-requires : tie.Need-search-requires
-search-requires c κs =
-    let yes : tie.After-fill-finishing = search in
-    let row = row-of yes in
-    let some = some-of row in
-    let rest = rest-of some in
-    let by-node = by-node-of rest in
-    let by-stage = by-stage-of by-node in
-    let first = first-of by-stage in
-    let start = start-of first in
     run-start (start .pre .0) (by-stage .chart-estimates .ensures) (by-node .fill-diagram-estimates .ensures) (rest .pair-estimate .ensures)
-    (some .if1 .left) (first .fill-first-steps .ensures) (row .fill-row-starts .ensures) (yes .fill-finishing .ensures) (start .pre .1)
+    (some .if1 .left) (first .fill-first-steps .ensures) (row .fill-row-starts .ensures) (start .pre .1)
 
 conclude-requires : tie.Need-conclude-requires
 conclude-requires c κs =
     let searched : tie.After-search = search in
-    let yes = yes-of searched in
-    let row = row-of yes in
+    let row = row-of searched in
     let some = some-of row in
     let rest = rest-of some in
     let by-node = by-node-of rest in
@@ -127,9 +111,9 @@ conclude-requires c κs =
     let first = first-of by-stage in
     let start = start-of first in
     let begun = run-start (start .pre .0) (by-stage .chart-estimates .ensures) (by-node .fill-diagram-estimates .ensures) (rest .pair-estimate .ensures)
-    (some .if1 .left) (first .fill-first-steps .ensures) (row .fill-row-starts .ensures) (yes .fill-finishing .ensures) (start .pre .1) in
+    (some .if1 .left) (first .fill-first-steps .ensures) (row .fill-row-starts .ensures) (start .pre .1) in
     found-traceable (start .pre .0) (by-stage .chart-estimates .ensures) (by-node .fill-diagram-estimates .ensures) (rest .pair-estimate .ensures)
-    (some .if1 .left) (first .fill-first-steps .ensures) (row .fill-row-starts .ensures) (yes .fill-finishing .ensures) (start .pre .1)
+    (some .if1 .left) (first .fill-first-steps .ensures) (row .fill-row-starts .ensures) (start .pre .1)
     (searched .search .ensures begun) (searched .search .kept .1 .0)
 
 same-length : tie.Need-same-length
@@ -160,8 +144,7 @@ returns-2 : tie.Need-returns-2
 returns-2 c =
     let ended : tie.After-conclude = search in
     let searched = searched-of ended in
-    let yes = yes-of searched in
-    let row = row-of yes in
+    let row = row-of searched in
     let some = some-of row in
     let rest = rest-of some in
     let by-node = by-node-of rest in
@@ -169,9 +152,9 @@ returns-2 c =
     let first = first-of by-stage in
     let start = start-of first in
     let begun = run-start (start .pre .0) (by-stage .chart-estimates .ensures) (by-node .fill-diagram-estimates .ensures) (rest .pair-estimate .ensures)
-    (some .if1 .left) (first .fill-first-steps .ensures) (row .fill-row-starts .ensures) (yes .fill-finishing .ensures) (start .pre .1) in
+    (some .if1 .left) (first .fill-first-steps .ensures) (row .fill-row-starts .ensures) (start .pre .1) in
     found-runs (start .pre .0) (by-stage .chart-estimates .ensures) (by-node .fill-diagram-estimates .ensures) (rest .pair-estimate .ensures)
-    (some .if1 .left) (first .fill-first-steps .ensures) (row .fill-row-starts .ensures) (yes .fill-finishing .ensures) (start .pre .1)
+    (some .if1 .left) (first .fill-first-steps .ensures) (row .fill-row-starts .ensures) (start .pre .1)
     (searched .search .ensures begun) (searched .search .kept .1 .0)
     (ended .conclude .ensures) (ended .conclude .kept .1 .1 .1 .1 .1 .0)
 
@@ -190,7 +173,6 @@ run-spec =
     cast-fill-row-starts
     add-fill-row-starts
     fill-row-starts-requires
-    fill-finishing-requires
     search-requires
     conclude-requires
     same-length

@@ -13,16 +13,16 @@ use Rattle.guided_expand.specs.Progress.{progress}
 use Rattle.guided_expand.specs.Guides.{few-pairs}
 use Rattle.guided_loop.specs.Search.{Turning, Begun}
 use Rattle.guided_loop.proofs.Beginning.{narrow, start-small, begin-block, begin-asks, begin-begun, begin-searched}
-use Rattle.guided_loop.proofs.Turning.{turn-takes, turn-none, turn-room, turn-logs, turn-placed, turn-inside, turn-estimate, turn-asks, turn-goal, turn-more}
+use Rattle.guided_loop.proofs.Turning.{turn-takes, turn-none, turn-room, turn-logs, turn-placed, turn-inside, turn-falls, turn-estimate, turn-asks, turn-goal, turn-more}
 use Rattle.guided_loop.proofs.turns.search.Statement.{statement}
 use Rattle.guided_loop.proofs.turns.search.Tie as tie
 
 -- the loop was begun, and whatever it was begun by, this many turns are done
 abbrev Inv-search : tie.InvT-search
-Inv-search keys₀ via₀ heap₀ pos₀ stack₀ log₀ steps first row inner by-stage by-node yes' z rest pairs begin filled₀ counts₀ floor₀ count₀ found₀ node₀ cost₀ keys via heap pos stack log filled counts floor count found node cost =
-    Begun z (walk (read steps inner) first row) (estimates by-stage by-node) yes' begin (progress (work keys₀ via₀ heap₀ pos₀ stack₀) filled₀ counts₀) log₀
-    × ((x : Begun z (walk (read steps inner) first row) (estimates by-stage by-node) yes' begin (progress (work keys₀ via₀ heap₀ pos₀ stack₀) filled₀ counts₀) log₀)
-    → Turning (x .prepared .by) (work keys₀ via₀ heap₀ pos₀ stack₀) log₀ (progress (work keys via heap pos stack) filled counts) log floor count)
+Inv-search keys₀ via₀ heap₀ pos₀ stack₀ log₀ steps first row inner by-stage by-node z rest pairs begin filled₀ counts₀ floor₀ count₀ found₀ node₀ cost₀ keys via heap pos stack log filled counts floor count found node cost =
+    Begun z (walk (read steps inner) first row) (estimates by-stage by-node) begin (progress (work keys₀ via₀ heap₀ pos₀ stack₀) filled₀ counts₀) log₀
+    × ((x : Begun z (walk (read steps inner) first row) (estimates by-stage by-node) begin (progress (work keys₀ via₀ heap₀ pos₀ stack₀) filled₀ counts₀) log₀)
+    → Turning (x .by) (work keys₀ via₀ heap₀ pos₀ stack₀) log₀ (progress (work keys via heap pos stack) filled counts) log floor count)
     × (count ≤ pairsIn z)
     × (found ≡ false)
     × (length keys ≡ length keys₀)
@@ -33,7 +33,7 @@ Inv-search keys₀ via₀ heap₀ pos₀ stack₀ log₀ steps first row inner b
     × (length log ≡ length log₀)
 
 abbrev μ-search : tie.MeasureT-search
-μ-search keys₀ via₀ heap₀ pos₀ stack₀ log₀ steps first row inner by-stage by-node yes' z rest pairs begin filled₀ counts₀ floor₀ count₀ found₀ node₀ cost₀ keys via heap pos stack log filled counts floor count found node cost = pairsIn z - count
+μ-search keys₀ via₀ heap₀ pos₀ stack₀ log₀ steps first row inner by-stage by-node z rest pairs begin filled₀ counts₀ floor₀ count₀ found₀ node₀ cost₀ keys via heap pos stack log filled counts floor count found node cost = pairsIn z - count
 
 -- the places before a place
 abbrev start-of : tie.After-pair-at Inv-search μ-search → tie.Start Inv-search μ-search
@@ -81,17 +81,17 @@ cast-pairs c = search needs
 add-pairs : tie.Need-add-pairs Inv-search μ-search
 add-pairs c =
     let start : tie.Start Inv-search μ-search = search in
-    omega (arith, narrow (start .pre .prepared .by))
+    omega (arith, narrow (start .pre .by))
 
 mul-pairs : tie.Need-mul-pairs Inv-search μ-search
 mul-pairs c =
     let start : tie.Start Inv-search μ-search = search in
-    omega (arith, few-pairs (start .pre .prepared .by .ready))
+    omega (arith, few-pairs (start .pre .by .ready))
 
 pair-at-requires : tie.Need-pair-at-requires Inv-search μ-search
 pair-at-requires c κs =
     let start : tie.Start Inv-search μ-search = search in
-    start-small (start .pre .prepared .by)
+    start-small (start .pre .by)
 
 open-block-requires : tie.Need-open-block-requires Inv-search μ-search
 open-block-requires c κs =
@@ -126,7 +126,7 @@ take-requires c κs =
     let head : tie.At-search Inv-search μ-search = search in
     let begun = head .search .inv .0 in
     let w = head .search .inv .1 begun in
-    turn-takes (begun .prepared) w (more .if1 .taken)
+    turn-takes (begun .by) w (more .if1 .taken)
 
 log-pair-requires : tie.Need-log-pair-requires Inv-search μ-search
 log-pair-requires c κs =
@@ -134,7 +134,7 @@ log-pair-requires c κs =
     let head = head-of taken in
     let begun = head .search .inv .0 in
     let w = head .search .inv .1 begun in
-    turn-logs (begun .prepared) w (begun .begins) (taken .take .ensures)
+    turn-logs (begun .by) w (begun .begins) (taken .take .ensures)
 
 index-1-pair-of : tie.Need-index-1-pair-of Inv-search μ-search
 index-1-pair-of c = search needs
@@ -145,7 +145,7 @@ pair-of-requires c κs =
     let head = head-of taken in
     let begun = head .search .inv .0 in
     let w = head .search .inv .1 begun in
-    turn-placed (begun .prepared) w (begun .begins) (taken .take .ensures)
+    turn-placed (begun .by) w (begun .begins) (taken .take .ensures)
 
 pair-estimate-requires : tie.Need-pair-estimate-requires Inv-search μ-search
 pair-estimate-requires c κs =
@@ -155,7 +155,7 @@ pair-estimate-requires c κs =
     let head = head-of taken in
     let begun = head .search .inv .0 in
     let w = head .search .inv .1 begun in
-    turn-inside (begun .prepared) w (begun .begins) (taken .take .ensures) (at .pair-of .result) (at .pair-of .ensures)
+    turn-inside (begun .by) w (begun .begins) (taken .take .ensures) (at .pair-of .result) (at .pair-of .ensures)
 
 sub-spent : tie.Need-sub-spent Inv-search μ-search
 sub-spent c =
@@ -166,7 +166,7 @@ sub-spent c =
     let head = head-of taken in
     let begun = head .search .inv .0 in
     let w = head .search .inv .1 begun in
-    turn-estimate (begun .prepared) w (begun .begins) (taken .take .ensures) (at .pair-of .result) (at .pair-of .ensures) (rest .pair-estimate .ensures)
+    turn-estimate (begun .by) w (begun .begins) (taken .take .ensures) (at .pair-of .result) (at .pair-of .ensures) (rest .pair-estimate .ensures)
 
 is-goal-requires : tie.Need-is-goal-requires Inv-search μ-search
 is-goal-requires c κs =
@@ -176,7 +176,7 @@ is-goal-requires c κs =
     let head = head-of taken in
     let begun = head .search .inv .0 in
     let w = head .search .inv .1 begun in
-    turn-inside (begun .prepared) w (begun .begins) (taken .take .ensures) (at .pair-of .result) (at .pair-of .ensures) .1
+    turn-falls (begun .by) w (begun .begins) (taken .take .ensures) (at .pair-of .result) (at .pair-of .ensures)
 
 settle-requires : tie.Need-settle-requires Inv-search μ-search
 settle-requires c κs =
@@ -187,7 +187,7 @@ settle-requires c κs =
     let head = head-of taken in
     let begun = head .search .inv .0 in
     let w = head .search .inv .1 begun in
-    turn-asks (begun .prepared) w (begun .begins) (taken .take .ensures) (at .pair-of .result) (at .pair-of .ensures) (rest .pair-estimate .ensures)
+    turn-asks (begun .by) w (begun .begins) (taken .take .ensures) (at .pair-of .result) (at .pair-of .ensures) (rest .pair-estimate .ensures)
 
 search-less : tie.Need-search-less Inv-search μ-search
 search-less c =
@@ -201,7 +201,7 @@ search-less c =
     let head = head-of taken in
     let begun = head .search .inv .0 in
     let w = head .search .inv .1 begun in
-    omega (arith, turn-room (begun .prepared) w (begun .begins) (taken .take .ensures), logged .log-pair .ensures .0)
+    omega (arith, turn-room (begun .by) w (begun .begins) (taken .take .ensures), logged .log-pair .ensures .0)
 
 search-again : tie.Need-search-again Inv-search μ-search
 search-again c =
@@ -218,10 +218,10 @@ search-again c =
     let kept = settled .settle .kept in (
       begun,
       (λ x.
-          let asked = turn-asks (x .prepared) (head .search .inv .1 x) (x .begins) (taken .take .ensures) (at .pair-of .result) (at .pair-of .ensures) (rest .pair-estimate .ensures) in
-          turn-more (x .prepared) (head .search .inv .1 x) (x .begins) (taken .take .ensures) (at .pair-of .result) (at .pair-of .ensures) (rest .pair-estimate .ensures)
+          let asked = turn-asks (x .by) (head .search .inv .1 x) (x .begins) (taken .take .ensures) (at .pair-of .result) (at .pair-of .ensures) (rest .pair-estimate .ensures) in
+          turn-more (x .by) (head .search .inv .1 x) (x .begins) (taken .take .ensures) (at .pair-of .result) (at .pair-of .ensures) (rest .pair-estimate .ensures)
           (goal .is-goal .ensures) (logged .log-pair .ensures) (no .if2 .left) (kept .1 .0) (settled .settle .ensures asked)),
-      omega (arith, turn-room (begun .prepared) w (begun .begins) (taken .take .ensures), logged .log-pair .ensures .0),
+      omega (arith, turn-room (begun .by) w (begun .begins) (taken .take .ensures), logged .log-pair .ensures .0),
       head .search .inv .3,
       kept .0 ∙ head .search .inv .4,
       kept .1 .0 ∙ head .search .inv .5,
@@ -277,7 +277,7 @@ returns c =
     λ x.
     let begun = begin-begun x (first .pair-at .ensures) (block .open-block .kept .0) (block .open-block .ensures) (none .empty .ensures) (opened .insert .ensures) in
     begin-searched x (first .pair-at .ensures) (block .open-block .kept .0) (block .open-block .ensures) (none .empty .ensures) (opened .insert .ensures)
-    (turn-none (x .prepared) (head .search .inv .1 begun) (c .if1 .left) (head .search .inv .3) refl)
+    (turn-none (x .by) (head .search .inv .1 begun) (c .if1 .left) (head .search .inv .3) refl)
 
 same-length-7 : tie.Need-same-length-7 Inv-search μ-search
 same-length-7 c =
@@ -334,7 +334,7 @@ returns-2 c =
     λ x.
     let begun = begin-begun x (first .pair-at .ensures) (block .open-block .kept .0) (block .open-block .ensures) (none .empty .ensures) (opened .insert .ensures) in
     begin-searched x (first .pair-at .ensures) (block .open-block .kept .0) (block .open-block .ensures) (none .empty .ensures) (opened .insert .ensures)
-    (turn-goal (x .prepared) (head .search .inv .1 begun) (begun .begins) (taken .take .ensures) (at .pair-of .result) (at .pair-of .ensures) (rest .pair-estimate .ensures)
+    (turn-goal (x .by) (head .search .inv .1 begun) (begun .begins) (taken .take .ensures) (at .pair-of .result) (at .pair-of .ensures) (rest .pair-estimate .ensures)
     (goal .is-goal .ensures) (logged .log-pair .ensures) (yes .if2 .taken) refl refl refl refl)
 
 pub search-spec : {M : Type 1} → statement M
