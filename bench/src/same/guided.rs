@@ -86,8 +86,6 @@ impl Search<'_> {
     /// The first goal pair settled, and how many pairs were.
     fn run(&mut self, first_key: u32, log: &mut [u32]) -> (Option<usize>, usize) {
         let tables = self.tables;
-        let mut finishes = [false; BY_NODE];
-        tables.mark_finishing(&mut finishes);
         let start = tables.row(tables.start) + tables.root;
         self.clear(start);
         self.keys[start] = first_key;
@@ -99,7 +97,7 @@ impl Search<'_> {
             count += 1;
             let stage = self.stage_of(pair);
             let node = pair - tables.row(stage);
-            if stage == tables.end && finishes[node] {
+            if stage == tables.end && tables.finishes(node) {
                 return (Some(pair), count);
             }
             self.open_followers(pair, stage, node);

@@ -189,6 +189,14 @@ impl Tables {
         self.row(from_of(self.ends[via_step(via)])) + via_node(via)
     }
 
+    /// Whether a node finishes at 1.
+    pub fn finishes(&self, mut node: usize) -> bool {
+        while node > 1 {
+            node = self.nodes[node].lo();
+        }
+        node == 1
+    }
+
     /// Marks the nodes that finish at 1; handed in without marks. Children stand before their nodes.
     pub fn mark_finishing(&self, finishes: &mut [bool; BY_NODE]) {
         finishes[1] = true;
