@@ -1,13 +1,10 @@
 -- The loops over the steps that leave a stage and over the stages, in terms of the tables: one law for each way on.
 -- Assumes nothing.
-use Prim.Native.Nat.{ℕ, _+_, _-_, _≤_, _<_}
+use Prim.Native.Nat.{ℕ, _+_, _-_, _≤_, _<_, min}
 use mathlib.Core.Path.{_≡_, sym, _∙_}
 use mathlib.Core.List.{List}
-use mathlib.Core.Logic.{inl, inr}
 use lib.ListN.{length, getD, set, replicate}
 use native.Mathlib.Omega.{arith}
-use mir.Val.{Fits}
-use mir.Syntax.{w32}
 use Rattle.definitions.specs.Basics.{NONE}
 use Rattle.definitions.specs.Ways.{Graph}
 use Rattle.definitions.specs.Plans.{graph, chartEstimate}
@@ -16,13 +13,8 @@ use Rattle.chart.specs.Tables.{Steps, chartIn}
 use Rattle.chart.specs.Held.{held-count, held-to, held-cost}
 use Rattle.chart_stages.specs.FirstSteps.{Firsts, first-leaves, first-rises, first-inside}
 use Rattle.chart_stages.specs.HeldGraph.{held-firsts}
-use Rattle.chart_stages.specs.Estimates.{EstimateTable, WayFrom, WayBy, Shows, Told, Adds, SmallerSum, told-start, told-turn, told-is, by-none, by-adds, by-turn, by-all}
+use Rattle.chart_stages.specs.Estimates.{EstimateTable, WayFrom, WayBy, Shows, Told, told-start, told-turn, told-is, by-none, by-turn, by-all}
 use Rattle.chart_stages.specs.Leaving.{Staged, Leaving}
-
--- a sum that is looked at fits
-pub sum-fits : (c rest : ℕ) → Adds c rest → (rest ≡ NONE → ⊥) → Fits w32 (c + rest)
-sum-fits c rest (inl e) n = absurd (n e)
-sum-fits c rest (inr h) n = record { fits = omega arith }
 
 -- ---- the steps that leave a stage
 
@@ -56,12 +48,9 @@ module _ {t : Steps} {start until : ℕ} {estimates : List ℕ} (x : Leaving t s
     pub to-below : s < 256
     to-below = omega (arith, to-is, x .valid .inside e (leaves .0), x .valid .few-stages)
 
-    pub step-adds : Adds (getD (t .cost) e 0) (getD estimates s 0)
-    step-adds = rw (← to-is, ← cost-is) (by-adds g (x .valid) (x .s) e (leaves .0) (leaves .1) estimates (x .told))
-
-    pub step-turn : {known r : ℕ} → Shows (WayBy g e (x .s)) known
-        → SmallerSum known (getD (t .cost) e 0) (getD estimates s 0) r → Shows (WayBy g (e + 1) (x .s)) r
-    step-turn {known} {r} k l = by-turn g (x .valid) (x .s) e (leaves .0) (leaves .1) estimates (x .told) known r k (rw (to-is, cost-is) l)
+    pub step-turn : {known r : ℕ} → Shows (WayBy g e (x .s)) known → known ≤ NONE
+        → r ≡ min known (getD (t .cost) e 0 + getD estimates s 0) → Shows (WayBy g (e + 1) (x .s)) r
+    step-turn {known} {r} k h l = by-turn g (x .valid) (x .s) e (leaves .0) (leaves .1) estimates (x .told) known r k h (rw (to-is, cost-is) l)
 
   pub steps-done : {e r : ℕ} → e ≡ until → Shows (WayBy g e (x .s)) r → Shows (WayFrom g (x .s)) r
   steps-done {e} {r} q k = by-all g (x .valid) (x .s) (x .early) r (rw (← (q ∙ x .ends)) k)

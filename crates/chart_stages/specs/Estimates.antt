@@ -51,39 +51,22 @@ Shows P v = (o : Option ℕ) × IsLeast P o × (v ≡ shown o)
 pub record Told (g : Graph) (s : ℕ) (estimates : List ℕ) : Type 0 where
   pub at : (t : ℕ) → s ≤ t → t < 256 → Shows (WayFrom g t) (getD estimates t 0)
 
--- a cost can be added to the rest: there is none, or the sum is below its mark
-abbrev pub Adds : ℕ → ℕ → Type 0
-Adds c rest = (rest ≡ NONE) ⊎ (c + rest < NONE)
-
--- the smaller of what is known and of c more than the rest, where NONE shows none
-pub record SmallerSum (known c rest r : ℕ) : Type 0 where
-  pub kept : rest ≡ NONE → r ≡ known
-  pub less : rest < NONE → r ≡ min known (c + rest)
-
 -- P is what is known, Q the rest
 module _ (P Q : ℕ → Type 0) (few : (m : ℕ) → Q m → m ≤ 510000000) (c : ℕ) (small : c ≤ 510000000) where
-  smaller-shown : (a b : Option ℕ) (known rest r : ℕ) → IsLeast P a → IsLeast Q b → known ≡ shown a → rest ≡ shown b → SmallerSum known c rest r
+  smaller-shown : (a b : Option ℕ) (known rest r : ℕ) → IsLeast Q b → known ≡ shown a → rest ≡ shown b → known ≤ NONE → r ≡ min known (c + rest)
       → r ≡ shown (smaller a (sumOf (some c) b))
   unfolding smaller sumOf
-  smaller-shown none none known rest r p q ek er l = omega (arith, l .kept er)
-  smaller-shown (some x) none known rest r p q ek er l = omega (arith, l .kept er)
-  smaller-shown none (some y) known rest r p q ek er l = omega (arith, few y (q .0), l .less (omega (arith, few y (q .0))))
-  smaller-shown (some x) (some y) known rest r p q ek er l = omega (arith, few y (q .0), l .less (omega (arith, few y (q .0))))
+  smaller-shown none none known rest r q ek er h l = omega arith
+  smaller-shown (some x) none known rest r q ek er h l = omega arith
+  smaller-shown none (some y) known rest r q ek er h l = omega (arith, few y (q .0))
+  smaller-shown (some x) (some y) known rest r q ek er h l = omega arith
 
-  shows-smaller : (known rest r : ℕ) → Shows P known → Shows Q rest → SmallerSum known c rest r → Shows (λ m. P m ⊎ More c Q m) r
-  shows-smaller known rest r p q l = (
+  shows-smaller : (known rest r : ℕ) → Shows P known → Shows Q rest → known ≤ NONE → r ≡ min known (c + rest) → Shows (λ m. P m ⊎ More c Q m) r
+  shows-smaller known rest r p q h l = (
     smaller (p .0) (sumOf (some c) (q .0)),
     least-either P (More c Q) (p .0) (sumOf (some c) (q .0)) (p .1) (least-more c Q (q .0) (q .1)),
-    smaller-shown (p .0) (q .0) known rest r (p .1) (q .1) (p .2) (q .2) l,
+    smaller-shown (p .0) (q .0) known rest r (q .1) (p .2) (q .2) h l,
   )
-
-  -- where there is a rest, the sum is below the mark
-  rest-adds : (rest : ℕ) → Shows Q rest → Adds c rest
-  rest-adds rest q = go (q .0) (q .1) (q .2)
-    where
-      go : (b : Option ℕ) → IsLeast Q b → rest ≡ shown b → Adds c rest
-      go none h e = inl e
-      go (some y) h e = inr (omega (arith, few y (h .0)))
 
 shows-same : (P Q : ℕ → Type 0) (v : ℕ) → ((m : ℕ) → P m → Q m) → ((m : ℕ) → Q m → P m) → Shows P v → Shows Q v
 shows-same P Q v f h s = (s .0, least-same P Q (s .0) f h (s .1), s .2)
@@ -169,13 +152,11 @@ module _ (g : Graph) (v : Valid g) where
         rest : Shows (WayFrom g (g .to e)) (getD estimates (g .to e) 0)
         rest = told .at (g .to e) (omega (arith, v .forward e i)) (omega (arith, v .inside e i, v .few-stages))
 
-        pub by-adds : Adds (g .cost e) (getD estimates (g .to e) 0)
-        by-adds = rest-adds (WayBy g e s) (WayFrom g (g .to e)) (cheap (g .to e)) (g .cost e) (step-cheap g v e i) (getD estimates (g .to e) 0) rest
-
-        pub by-turn : (known r : ℕ) → Shows (WayBy g e s) known → SmallerSum known (g .cost e) (getD estimates (g .to e) 0) r → Shows (WayBy g (e + 1) s) r
-        by-turn known r k l =
+        pub by-turn : (known r : ℕ) → Shows (WayBy g e s) known → known ≤ NONE → r ≡ min known (g .cost e + getD estimates (g .to e) 0)
+            → Shows (WayBy g (e + 1) s) r
+        by-turn known r k h l =
             shows-same _ (WayBy g (e + 1) s) r joined split
-            (shows-smaller (WayBy g e s) (WayFrom g (g .to e)) (cheap (g .to e)) (g .cost e) (step-cheap g v e i) known (getD estimates (g .to e) 0) r k rest l)
+            (shows-smaller (WayBy g e s) (WayFrom g (g .to e)) (cheap (g .to e)) (g .cost e) (step-cheap g v e i) known (getD estimates (g .to e) 0) r k rest h l)
 
     -- before the end each way begins with a step that leaves the stage
     pub by-all : s < g .end → (r : ℕ) → Shows (WayBy g (firstStep g (s + 1)) s) r → Shows (WayFrom g s) r

@@ -2,5 +2,5 @@
 mod estimates;
 mod first;
 
-pub use estimates::chart_estimates;
+pub use estimates::fill_chart_estimates;
 pub use first::fill_first_steps;

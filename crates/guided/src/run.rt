@@ -4,7 +4,7 @@ ghost use Rattle.checks.specs.Tables.{read, Tables};
 ghost use Rattle.guided.specs.Runs.{Room, Runs};
 use chart_fields::COST;
 use chart_fields::ENDS;
-use chart_stages::chart_estimates;
+use chart_stages::fill_chart_estimates;
 use chart_stages::fill_first_steps;
 use checks::load;
 use checks::refusal;
@@ -47,7 +47,8 @@ fn run<'a>(
 {
     let mut first = [0u16; 257];
     fill_first_steps(&mut first, &steps[ENDS], z.steps, z.stages);
-    let by_stage = chart_estimates(z, steps, &first);
+    let mut by_stage = [NONE; 256];
+    fill_chart_estimates(&mut by_stage, z, steps, &first);
     let mut by_node = [0u32; 512];
     fill_diagram_estimates(&mut by_node, z, inner, &steps[COST]);
     let rest = pair_estimate(&by_stage, &by_node, z.start, z.root);

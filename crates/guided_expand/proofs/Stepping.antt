@@ -204,10 +204,10 @@ module _ {steps : Steps} {row : List ℕ} {t : Estimates} {from : Source} {pairs
             abbrev pub leads-ask : Offering (from .key) y v (x .slices) (x .counts)
             leads-ask = record { p = pairsIn z; queue = l .opens .queue; pair = inside; fits = l .opens .fits; above = above; low = low; offerable = may-offer }
 
-            pub leads-some : {mark : ℕ} {w : Work} {c : Counts} → mark ≡ packed e n → length (w .keys) ≡ length (x .slices .keys)
+            pub leads-some : {mark : ℕ} {w : Work} {c : Counts} → mark ≡ packed entered e n → length (w .keys) ≡ length (x .slices .keys)
                 → Relaxes (pairsIn z) (from .key) y v mark (x .slices) (x .counts) w c → Opened (l .by) from e (e + 1) x (progress w (x .filled) c)
             leads-some {mark} {w} {c} em long r = record {
-              expanded = step-relaxed g a h s n spent e rest y v mark (seenIn (pairsIn z) x) (seenIn (pairsIn z) (progress w (x .filled) c)) exists (l .leaves) has pair-is key-is em
+              expanded = step-relaxed g a h s n spent e rest y v mark (seenIn (pairsIn z) x) (seenIn (pairsIn z) (progress w (x .filled) c)) exists (l .leaves) has pair-is key-is (em ∙ ap (λ (t : ℕ). packed t e n) to-stage)
                   (relaxed-seen (pairsIn z) (x .filled) (x .slices .keys) y has-key filled (w .keys) long (r .relaxed));
               kept = r .kept;
               blocks = refl;

@@ -85,7 +85,7 @@ fn offer<'a>(
         source.key,
         y,
         v,
-        packed(e, source.pair.node),
+        packed(stage, e, source.pair.node),
     )
 }
 

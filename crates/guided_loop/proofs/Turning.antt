@@ -16,12 +16,11 @@ use Rattle.definitions.specs.Promises.{goalAt}
 use Rattle.definitions.specs.declared.Shape.{Shape}
 use Rattle.theory.specs.Basics.{either, same-or-not, both, true-not-false}
 use Rattle.theory.specs.Product.{startPair}
-use Rattle.via_marks.specs.Marks.{stepIn}
 use Rattle.queue.specs.declared.Counts.{Counts}
 use Rattle.queue.specs.Queue.{state, Contains, Queue, Taken}
 use Rattle.queue.proofs.Facts.{contains-none, contains-pair, keys-fit}
 use Rattle.checks.specs.Tables.{chartIn, diagramIn, pairsIn}
-use Rattle.checks.specs.Ready.{Walk, count-is, few-stages, from-at, to-at, first-all, row-start}
+use Rattle.checks.specs.Ready.{Walk, count-is, few-stages, from-at, first-all, row-start}
 use Rattle.guided_model.specs.State.{Smallest, Without, costSoFar}
 use Rattle.guided_model.specs.Moves.{Frontier}
 use Rattle.guided_model.specs.Chosen.{opened-low, chosen-frontier}
@@ -40,7 +39,7 @@ use Rattle.guided_loop.specs.Search.{Turning, Searched}
 use Rattle.nodes.specs.Walks.{Falls}
 use Rattle.nodes.specs.Falling.{lo-falls}
 use Rattle.guided_ends.specs.declared.Ended.{Ended}
-use Rattle.guided_places.proofs.Placing.{at-begin, at-step}
+use Rattle.guided_places.proofs.Placing.{at-begin, at-mark}
 use Rattle.guided_loop.proofs.Beginning.{g, a, tables, sound, width, narrow, pairs-are}
 
 module _ {z : Shape} {on : Walk} {t : Estimates} (by : Guides z on t)
@@ -103,31 +102,28 @@ module _ {z : Shape} {on : Walk} {t : Estimates} (by : Guides z on t)
 
     -- where it stands
     abbrev stage : ℕ
-    stage = stageAt (x .slices .via) (on .read .steps .to) begin (z .start .0) y
+    stage = stageAt (x .slices .via) begin (z .start .0) y
 
     abbrev At : ℕ → Type 0
     At s = (s * a by .size ≤ y) × Located (g by) (a by) y s (y - s * a by .size)
 
-    by-step : (y ≡ begin → ⊥) → (stepIn (getD (x .slices .via) y 0) < 1024) × At stage
-    by-step q =
-        let e = stepIn (getD (x .slices .via) y 0) in
+    by-mark : (y ≡ begin → ⊥) → At stage
+    by-mark q =
         let v = located-via (by .guide) (w .running .searching) smallest (omega (arith, width by, narrow by)) (λ r. q (r ∙ sym eb)) in
-        let to-is : getD (on .read .steps .to) e 0 ≡ g by .to e = to-at z (on .read) (tables by) e (omega (arith, v .0, count-is z (on .read) (tables by))) in
-        (omega (arith, v .0, tables by .valid .few), subst At (sym to-is ∙ sym (at-step (x .slices .via) (on .read .steps .to) begin (z .start .0) y q)) (v .1, v .2))
+        subst At (sym (at-mark (x .slices .via) begin (z .start .0) y q)) v
 
     located-at : At stage
     located-at =
         either (same-or-not y begin)
-        (λ q. subst At (sym (at-begin (x .slices .via) (on .read .steps .to) begin (z .start .0) y q)) (located-start (by .guide) (w .running .searching) smallest (q ∙ eb)))
-        (λ q. by-step q .1)
+        (λ q. subst At (sym (at-begin (x .slices .via) begin (z .start .0) y q)) (located-start (by .guide) (w .running .searching) smallest (q ∙ eb)))
+        by-mark
 
     row-at : getD (on .row) stage 0 ≡ stage * a by .size
     row-at = row-start z on (by .ready) stage (located-at .1 .stage) ∙ ap (λ (i : ℕ). stage * i) (sym (width by))
 
-    pub turn-placed : Placed (x .slices .via) (on .read .steps .to) (on .row) begin (z .start .0) y
+    pub turn-placed : Placed (x .slices .via) (on .row) begin (z .start .0) y
     turn-placed = record {
       fits = omega (arith, k .pair, w .fits);
-      by-step = λ q. by-step q .0;
       stage = omega (arith, located-at .1 .stage, few-stages z (on .read) (tables by));
       from-row = omega (arith, row-at, located-at .0);
       in-row = omega (arith, row-at, located-at .0, located-at .1 .node, width by, narrow by);

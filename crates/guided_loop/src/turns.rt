@@ -4,7 +4,6 @@ ghost use Rattle.checks.specs.Ready.{walk};
 ghost use Rattle.guided_offers.specs.Estimates.{estimates};
 ghost use Rattle.guided_offers.specs.Work.{work};
 ghost use Rattle.guided_loop.specs.Search.{Start, Searched};
-use chart_fields::ENDS;
 use definitions::Node;
 use definitions::Shape;
 use guided_ends::Ended;
@@ -65,7 +64,7 @@ pub fn search<'a>(
         let x = next.pair;
         floor = next.key;
         count = log_pair(log, count, x);
-        let at = pair_of(via, &steps[ENDS], row, begin, z.start, x);
+        let at = pair_of(via, row, begin, z.start, x);
         let spent = floor - pair_estimate(by_stage, by_node, at.stage, at.node);
         if is_goal(inner, z.end, at) {
             found = true;

@@ -104,7 +104,7 @@ module _ (g : Graph) (a : Automaton) (h : Estimate) where
       pub leaves : g .from step ≡ s
       pub enters : k ≡ pair a (g .to step) (a .next step n)
       pub has : h (g .to step) (a .next step n) ≡ some rest
-      pub fell : Fell (spent + g .cost step + rest) (packed step n) now after k
+      pub fell : Fell (spent + g .cost step + rest) (packed (g .to step) step n) now after k
 
     abbrev pub Moved : Marks → Marks → Type 0
     Moved now after = (k : ℕ) → Stayed now after k ⊎ FellBy now after k
@@ -136,7 +136,7 @@ module _ (g : Graph) (a : Automaton) (h : Estimate) where
           leaves = f .leaves;
           enters = f .enters;
           has = f .has;
-          fell = deeper (spent + g .cost (f .step) + f .rest) (packed (f .step) n) le (f .fell);
+          fell = deeper (spent + g .cost (f .step) + f .rest) (packed (g .to (f .step)) (f .step) n) le (f .fell);
         }
 
         go : Stayed now after k ⊎ FellBy now after k → Stayed after later k ⊎ FellBy after later k
@@ -182,7 +182,7 @@ module _ (g : Graph) (a : Automaton) (h : Estimate) where
 
     -- an edge is a step
     moved-step : (e rest y v mark : ℕ) (now after : Marks)
-        → e < g .count → g .from e ≡ s → h (g .to e) (a .next e n) ≡ some rest → y ≡ pair a (g .to e) (a .next e n) → v ≡ spent + g .cost e + rest → mark ≡ packed e n
+        → e < g .count → g .from e ≡ s → h (g .to e) (a .next e n) ≡ some rest → y ≡ pair a (g .to e) (a .next e n) → v ≡ spent + g .cost e + rest → mark ≡ packed (g .to e) e n
         → Relaxed y v mark now after → Moved now after
     moved-step e rest y v mark now after i l has ey ev em x k =
         either (same-or-not k y) (λ q. rw q (either (x .at-target) (λ t. inl t) (λ t. inr (by t)))) (λ q. inl (x .at-others k q))
@@ -208,7 +208,7 @@ module _ (g : Graph) (a : Automaton) (h : Estimate) where
 
     -- or it has one
     pub step-relaxed : (e rest y v mark : ℕ) (now after : Marks)
-        → e < g .count → g .from e ≡ s → h (g .to e) (a .next e n) ≡ some rest → y ≡ pair a (g .to e) (a .next e n) → v ≡ spent + g .cost e + rest → mark ≡ packed e n
+        → e < g .count → g .from e ≡ s → h (g .to e) (a .next e n) ≡ some rest → y ≡ pair a (g .to e) (a .next e n) → v ≡ spent + g .cost e + rest → mark ≡ packed (g .to e) e n
         → Relaxed y v mark now after → Expanded e (e + 1) now after
     step-relaxed e rest y v mark now after i l has ey ev em r = record {
       moved = moved-step e rest y v mark now after i l has ey ev em r;

@@ -16,7 +16,7 @@ use Rattle.theory.specs.Ways.{step-cheap}
 use Rattle.theory.specs.Basics.{either, true-not-false}
 use Rattle.theory.specs.Pairs.{pair-inside, pair-of, stageOf-inside, goal-parts}
 use Rattle.theory.specs.Product.{startPair}
-use Rattle.via_marks.specs.Marks.{stepIn}
+use Rattle.via_marks.specs.Marks.{stageIn, stage-packed}
 use Rattle.guided_model.specs.State.{Guide, Marks, Smallest, Openable, costSoFar, Came, Searching}
 use Rattle.guided_model.specs.Bounds.{stage-is, node-is, node-inside, openable, step-rises}
 use Rattle.guided_model.specs.Chosen.{chosen-key, chosen-stage, chosen-cheap, chosen-inside}
@@ -95,19 +95,19 @@ module _ {g : Graph} {a : Automaton} {h : Estimate} (u : Guide g a h) where
     pub located-start : x ≡ startPair g a → (g .start * a .size ≤ x) × Located g a x (g .start) (x - g .start * a .size)
     located-start q = located (g .start) (stage-is a (g .start) (a .root) x (u .lawful .root-inside) q)
 
-    -- else the stage that the step in `via` enters
+    -- else the stage in `via`
     pub located-via : a .size ≤ 512 → (x ≡ startPair g a → ⊥)
-        → (stepIn (getD (now .via) x 0) < g .count) × (g .to (stepIn (getD (now .via) x 0)) * a .size ≤ x) × Located g a x (g .to (stepIn (getD (now .via) x 0))) (x - g .to (stepIn (getD (now .via) x 0)) * a .size)
+        → (stageIn (getD (now .via) x 0) * a .size ≤ x) × Located g a x (stageIn (getD (now .via) x 0)) (x - stageIn (getD (now .via) x 0) * a .size)
     located-via w f = by (either (s .came x (inr (o .is-open))) (λ q. absurd (f q)) (λ c. c))
       where
         by : Came g a h now log x
-            → (stepIn (getD (now .via) x 0) < g .count) × (g .to (stepIn (getD (now .via) x 0)) * a .size ≤ x) × Located g a x (g .to (stepIn (getD (now .via) x 0))) (x - g .to (stepIn (getD (now .via) x 0)) * a .size)
+            → (stageIn (getD (now .via) x 0) * a .size ≤ x) × Located g a x (stageIn (getD (now .via) x 0)) (x - stageIn (getD (now .via) x 0) * a .size)
         by c =
             let m = nodeOf a (c .source) in
             let j = node-inside u (c .source) in
-            let e : stepIn (getD (now .via) x 0) ≡ c .step = omega (arith, c .packs) in
-            let t = located (g .to (c .step)) (stage-is a (g .to (c .step)) (a .next (c .step) m) x (u .lawful .next-inside (c .step) m (c .exists) j) (c .enters)) in
-            rw e (c .exists, t .0, t .1)
+            let few : c .step < 1024 = omega (arith, c .exists, u .valid .few) in
+            let e = stage-packed (g .to (c .step)) (c .step) m (getD (now .via) x 0) (c .packs) few (omega (arith, j)) in
+            rw e (located (g .to (c .step)) (stage-is a (g .to (c .step)) (a .next (c .step) m) x (u .lawful .next-inside (c .step) m (c .exists) j) (c .enters)))
 
     -- its cost so far, and what settling it rests on, where the tables show r for its estimate
     pub chosen-settling : (t n r : ℕ) → Located g a x t n → r ≡ shown (h t n)

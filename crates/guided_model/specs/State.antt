@@ -95,7 +95,7 @@ module _ (g : Graph) (a : Automaton) (h : Estimate) where
   pub keyed-same : (keys keys′ : List ℕ) (p : ℕ) → getD keys′ p 0 ≡ getD keys p 0 → Keyed keys p → Keyed keys′ p
   keyed-same keys keys′ p q k = keyed keys′ p (costSoFar keys p) (k .rest) (k .has) (q ∙ k .sums)
 
-  -- p came by a step from a settled pair, `via` has the step and the node that it left, and the costs so far differ by the step's cost
+  -- p came by a step from a settled pair, `via` has its stage, the step and the node that it left, and the costs so far differ by the step's cost
   pub record Came (now : Marks) (log : List ℕ) (p : ℕ) : Type 0 where
     pub source : ℕ
     pub step : ℕ
@@ -103,7 +103,7 @@ module _ (g : Graph) (a : Automaton) (h : Estimate) where
     pub exists : step < g .count
     pub leaves : g .from step ≡ stageOf a source
     pub enters : p ≡ pair a (g .to step) (a .next step (nodeOf a source))
-    pub packs : getD (now .via) p 0 ≡ packed step (nodeOf a source)
+    pub packs : getD (now .via) p 0 ≡ packed (g .to step) step (nodeOf a source)
     pub costs : costSoFar (now .keys) p ≡ costSoFar (now .keys) source + g .cost step
 
   -- What holds between two turns

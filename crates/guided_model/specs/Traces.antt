@@ -13,6 +13,7 @@ use Rattle.theory.specs.Ways.{snoc-way, snoc-end, snoc-cost, snoc-stands}
 use Rattle.theory.specs.BestFirst.{here as begin-here}
 use Rattle.theory.specs.Pairs.{WayTo, pair-apart, pair-of}
 use Rattle.theory.specs.Product.{startPair}
+use Rattle.via_marks.specs.Marks.{packed}
 use Rattle.trace.specs.Trails.{Trail, begin, more}
 use Rattle.guided_model.specs.State.{Guide, Marks, In, costSoFar, Came, Searching}
 use Rattle.guided_model.specs.Bounds.{reach-stage, node-inside}
@@ -61,7 +62,7 @@ module _ {g : Graph} {a : Automaton} {h : Estimate} (u : Guide g a h)
             stand = snoc-stands a e (x .steps) (a .root) ∙ ap (a .next e) (x .stand) ∙ sym (p .1);
             costs = omega (arith, snoc-cost g e (x .steps), x .costs, c .costs, ap (λ (q : ℕ). cost q) (source-at (pair a t n) c));
           },
-          more {s = t} {n = n} {e = e} {m = m} {w = x .steps} (omega (arith, c .leaves, p .0)) (omega (arith, c .exists, u .valid .few)) j (omega (arith, p .0)) (c .packs) (w .1),
+          more {s = t} {n = n} {e = e} {m = m} {w = x .steps} (omega (arith, c .leaves, p .0)) (omega (arith, c .exists, u .valid .few)) j (omega (arith, p .0)) (c .packs ∙ ap (λ (q : ℕ). packed q e m) (sym (p .0))) (w .1),
         )
 
     trace : (k t n : ℕ) → t < k → n < a .size → In log (pair a t n) ⊎ now .Open (pair a t n) → Traced from t n

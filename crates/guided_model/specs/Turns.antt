@@ -207,7 +207,7 @@ module _ {g : Graph} {a : Automaton} {h : Estimate} (u : Guide g a h) where
           exists = f .exists;
           leaves = f .leaves ∙ sym (stage-is a t n x inside is);
           enters = f .enters ∙ ap (λ (m : ℕ). pair a (g .to (f .step)) (a .next (f .step) m)) (sym (node-is a t n x inside is));
-          packs = f .fell .new-via ∙ ap (λ (m : ℕ). packed (f .step) m) (sym (node-is a t n x inside is));
+          packs = f .fell .new-via ∙ ap (λ (m : ℕ). packed (g .to (f .step)) (f .step) m) (sym (node-is a t n x inside is));
           costs = omega (arith, fell-cost k f, settled-cost x (in-last log x));
         }))
 

@@ -10,32 +10,32 @@ use borrow.Author.Tests.{eq-eqb, ne-eqb}
 use Rattle.definitions.specs.Diagrams.{finish}
 use Rattle.theory.specs.Basics.{pick-true, pick-false}
 use Rattle.nodes.specs.Walks.{Finishes}
-use Rattle.via_marks.specs.Marks.{stepIn}
+use Rattle.via_marks.specs.Marks.{stageIn}
 use Rattle.guided_places.specs.Places.{GoalAt, stageAt, Placed}
 
-module _ (via to : List ℕ) (begin start x : ℕ) where
-  pub at-begin : x ≡ begin → stageAt via to begin start x ≡ start
+module _ (via : List ℕ) (begin start x : ℕ) where
+  pub at-begin : x ≡ begin → stageAt via begin start x ≡ start
   unfolding stageAt
   at-begin q = pick-true _ _ _ (eq-eqb x begin q)
 
-  pub at-step : (x ≡ begin → ⊥) → stageAt via to begin start x ≡ getD to (stepIn (getD via x 0)) 0
+  pub at-mark : (x ≡ begin → ⊥) → stageAt via begin start x ≡ stageIn (getD via x 0)
   unfolding stageAt
-  at-step q = pick-false _ _ _ (ne-eqb x begin q)
+  at-mark q = pick-false _ _ _ (ne-eqb x begin q)
 
-module _ {via to row : List ℕ} {begin start x : ℕ} (p : Placed via to row begin start x) where
+module _ {via row : List ℕ} {begin start x : ℕ} (p : Placed via row begin start x) where
   abbrev InRow : ℕ → Type 0
   InRow s = (s < 256) × (getD row s 0 ≤ x) × (x < getD row s 0 + 512)
 
   pub placed-begin : x ≡ begin → InRow start
-  placed-begin q = subst InRow (at-begin via to begin start x q) (p .stage, p .from-row, p .in-row)
+  placed-begin q = subst InRow (at-begin via begin start x q) (p .stage, p .from-row, p .in-row)
 
-  -- step e leads to stage s
-  module _ (q : x ≡ begin → ⊥) {e s : ℕ} (w : e ≡ stepIn (getD via x 0)) (led : s ≡ getD to e 0) where
-    pub placed-stage : s ≡ stageAt via to begin start x
-    placed-stage = led ∙ ap (λ (k : ℕ). getD to k 0) w ∙ sym (at-step via to begin start x q)
+  -- the mark has stage s
+  module _ (q : x ≡ begin → ⊥) {s : ℕ} (has : s ≡ stageIn (getD via x 0)) where
+    pub placed-stage : s ≡ stageAt via begin start x
+    placed-stage = has ∙ sym (at-mark via begin start x q)
 
-    pub placed-step : InRow s
-    placed-step = subst InRow (sym placed-stage) (p .stage, p .from-row, p .in-row)
+    pub placed-mark : InRow s
+    placed-mark = subst InRow (sym placed-stage) (p .stage, p .from-row, p .in-row)
 
 -- the goal test
 module _ (lo : List ℕ) (end s n : ℕ) where

@@ -9,20 +9,19 @@ use lib.ListN.{length, getD}
 use Rattle.definitions.specs.Basics.{pick}
 use Rattle.definitions.specs.Diagrams.{Diagram, size, finish}
 use Rattle.diagram.specs.Tables.{Held}
-use Rattle.via_marks.specs.Marks.{stepIn}
+use Rattle.via_marks.specs.Marks.{stageIn}
 
 -- whether a pair of stage s and node n is one of the end stage whose node finishes at 1, in each diagram that stands in the tables
 pub record GoalAt (lo : List ℕ) (end s n : ℕ) (r : Bool) : Type 0 where
   pub is : (d : Diagram) (step hi : List ℕ) → Held d step lo hi → n < size d → r ≡ eqb s end && eqb (finish d n) 1
 
--- the stage of pair x: the start stage, where x is the pair `begin` of start and root; else the stage that the step in `via` enters
-unfoldable pub stageAt : List ℕ → List ℕ → ℕ → ℕ → ℕ → ℕ
-stageAt via to begin start x = pick (eqb x begin) start (getD to (stepIn (getD via x 0)) 0)
+-- the stage of pair x: the start stage, where x is the pair `begin` of start and root; else the stage in `via`
+unfoldable pub stageAt : List ℕ → ℕ → ℕ → ℕ → ℕ
+stageAt via begin start x = pick (eqb x begin) start (stageIn (getD via x 0))
 
 -- the pair stands in a row of that stage
-pub record Placed (via to row : List ℕ) (begin start x : ℕ) : Type 0 where
+pub record Placed (via row : List ℕ) (begin start x : ℕ) : Type 0 where
   pub fits : x < length via
-  pub by-step : (x ≡ begin → ⊥) → stepIn (getD via x 0) < 1024
-  pub stage : stageAt via to begin start x < 256
-  pub from-row : getD row (stageAt via to begin start x) 0 ≤ x
-  pub in-row : x < getD row (stageAt via to begin start x) 0 + 512
+  pub stage : stageAt via begin start x < 256
+  pub from-row : getD row (stageAt via begin start x) 0 ≤ x
+  pub in-row : x < getD row (stageAt via begin start x) 0 + 512

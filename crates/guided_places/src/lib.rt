@@ -2,16 +2,14 @@
 ghost use mathlib.Core.Path.{_≡_};
 ghost use Prim.Native.Nat.{_+_, _≤_, _<_};
 ghost use lib.ListN.{length, getD, set};
-ghost use Rattle.chart_fields.specs.Ends.{tos};
 ghost use Rattle.guided_places.specs.Places.{GoalAt, stageAt, Placed};
 ghost use Rattle.diagram_fields.specs.Words.{nodesIn};
 ghost use Rattle.nodes.specs.Walks.{Falls};
-use chart_fields::to_at;
 use convert::wide;
 use definitions::Node;
 use definitions::Stage;
 use nodes::finishes;
-use via_marks::step_in;
+use via_marks::stage_in;
 
 // A pair of a stage and a node.
 pub struct Pair {
@@ -31,27 +29,24 @@ fn pair_in(row: &[u32; 256], s: Stage, x: usize) -> Pair
     }
 }
 
-// The stage and the node of the opened pair x. Its stage is the one that the step in `via` enters, so no division by the
-// size of a row is needed.
+// The stage and the node of the opened pair x. Its stage stands in `via`, so no division by the size of a row is needed.
 pub fn pair_of<'a>(
     via: &'a [u32],
-    ends: &'a [u32; 1024],
     row: &'a [u32; 256],
     begin: usize,
     start: Stage,
     x: usize,
 ) -> Pair
-    requires { ⌜ Placed (now via) (tos (now ends)) (now row) begin (start .0) x ⌝ }
+    requires { ⌜ Placed (now via) (now row) begin (start .0) x ⌝ }
     ensures { λ r. ⌜
-        (r .stage .0 ≡ stageAt (now (via .entry)) (tos (now (ends .entry))) begin (start .0) x)
+        (r .stage .0 ≡ stageAt (now (via .entry)) begin (start .0) x)
         × (getD (now (row .entry)) (r .stage .0) 0 + r .node .0 ≡ x)
         ⌝ }
 {
     if x == begin {
         return pair_in(row, start, x);
     }
-    let e = step_in(via[x]).0 as usize;
-    pair_in(row, to_at(ends, e), x)
+    pair_in(row, stage_in(via[x]), x)
 }
 
 // Whether an opened pair is a goal pair: it is one of the end stage, and its node finishes at 1.

@@ -1,12 +1,11 @@
 -- The loop of `fill_diagram_estimates`: its invariant, with one law for each way on.
-use Prim.Native.Nat.{ℕ, zero, suc, _+_, _*_, _≤_, _<_}
+use Prim.Native.Nat.{ℕ, zero, suc, _+_, _*_, _≤_, _<_, min}
 use mathlib.Core.Path.{_≡_, _∙_, subst}
 use mathlib.Core.List.{List}
 use mathlib.Core.Option.{Option, none, some}
 use lib.ListN.{length, getD, set, length-set}
 use lib.Seq.{getD-set-same, getD-set-other}
 use native.Mathlib.Omega.{arith}
-use native.Mathlib.Decide.{decLt}
 use borrow.Author.Count.{below-more}
 use Rattle.definitions.specs.Basics.{NONE, smaller, sumOf}
 use Rattle.definitions.specs.Charts.{Chart}
@@ -19,7 +18,7 @@ use Rattle.theory.specs.Estimates.{diagramEstimate-leaf, diagramEstimate-inner}
 use Rattle.diagram.specs.Tables.{Held}
 use Rattle.nodes.specs.Walks.{Falls}
 use Rattle.diagram.specs.Held.{held-step, held-lo, held-hi}
-use Rattle.node_estimates.specs.Estimates.{Priced, Joins, Costs, Estimated}
+use Rattle.node_estimates.specs.Estimates.{Priced, Costs, Estimated}
 use Rattle.nodes.proofs.Children.{child-below}
 
 -- each inner node below adds at most one step's cost, so that an estimate of node n is at most 1,000,000 × n, far below the mark
@@ -36,20 +35,16 @@ shows-is n v none s = s
 shows-is n v (some m) s = s .0
 
 -- what is joined of two nodes below n
-module _ (k low high r i j n : ℕ) (join : Joins low high k r) (cheap : k ≤ 1000000) (li : i < n) (lj : j < n) (few : n < 512) where
+module _ (k low high r i j n : ℕ) (join : r ≡ min low (high + k)) (cheap : k ≤ 1000000) (li : i < n) (lj : j < n) (few : n < 512) where
   joined-small : Small i low → Small j high → Small n r
-  joined-small si sj g = go (decLt (high + k) NONE)
-    where
-      go : Dec (high + k < NONE) → r ≤ 1000000 * n
-      go (yes h) = either (lt-or-le low (high + k)) (λ q. omega (arith, join .both h, si (omega arith))) (λ q. omega (arith, join .both h, sj (omega arith)))
-      go (no h) = omega (arith, join .alone (omega arith), si (omega (arith, join .alone (omega arith))))
+  joined-small si sj g = either (lt-or-le low (high + k)) (λ q. omega (arith, join, si (omega (arith, join)))) (λ q. omega (arith, join, sj (omega (arith, join))))
 
   joined-shows : (l h : Option ℕ) → Shows i low l → Shows j high h → Shows n r (smaller l (sumOf (some k) h))
   unfolding smaller sumOf
-  joined-shows none none sl sh = omega (arith, join .alone (omega arith))
-  joined-shows (some x) none sl sh = omega (arith, join .alone (omega arith))
-  joined-shows none (some y) sl sh = omega (arith, join .both (omega arith))
-  joined-shows (some x) (some y) sl sh = omega (arith, join .both (omega arith))
+  joined-shows none none sl sh = omega (arith, join)
+  joined-shows (some x) none sl sh = omega (arith, join)
+  joined-shows none (some y) sl sh = omega (arith, join)
+  joined-shows (some x) (some y) sl sh = omega (arith, join)
 
 -- the entries of the nodes below n are right
 pub record Estimating (step lo hi cost : List ℕ) (count : ℕ) (r : List ℕ) (n : ℕ) : Type 0 where
@@ -104,12 +99,12 @@ module _ (step lo hi cost : List ℕ) (count : ℕ) where
       estimating-step k is = omega (arith, priced .inside n (found .inner) l)
 
       module _ (los : Falls lo (count + 1)) (his : Falls hi (count + 1)) (k low high v : ℕ) (ek : k ≡ getD step n 0) (el : low ≡ getD lo n 0) (eh : high ≡ getD hi n 0)
-          (joins : Joins (getD r low 0) (getD r high 0) (getD cost k 0) v) where
-        join : Joins (getD r (getD lo n 0) 0) (getD r (getD hi n 0) 0) (getD cost (getD step n 0) 0) v
+          (joins : v ≡ min (getD r low 0) (getD r high 0 + getD cost k 0)) where
+        join : v ≡ min (getD r (getD lo n 0) 0) (getD r (getD hi n 0) 0 + getD cost (getD step n 0) 0)
         join =
-            subst (λ (i : ℕ). Joins (getD r i 0) (getD r (getD hi n 0) 0) (getD cost (getD step n 0) 0) v) el
-            (subst (λ (i : ℕ). Joins (getD r low 0) (getD r i 0) (getD cost (getD step n 0) 0) v) eh
-            (subst (λ (i : ℕ). Joins (getD r low 0) (getD r high 0) (getD cost i 0) v) ek joins))
+            subst (λ (i : ℕ). v ≡ min (getD r i 0) (getD r (getD hi n 0) 0 + getD cost (getD step n 0) 0)) el
+            (subst (λ (i : ℕ). v ≡ min (getD r low 0) (getD r i 0 + getD cost (getD step n 0) 0)) eh
+            (subst (λ (i : ℕ). v ≡ min (getD r low 0) (getD r high 0 + getD cost i 0)) ek joins))
 
         -- the stored value at n, and the others as they were
         here : getD (set r n v) n 0 ≡ v

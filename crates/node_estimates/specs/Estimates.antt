@@ -1,6 +1,6 @@
 -- The diagram's estimates in a table.
 -- Assumes nothing.
-use Prim.Native.Nat.{ℕ, _+_, _*_, _≤_, _<_, min}
+use Prim.Native.Nat.{ℕ, _+_, _*_, _≤_, _<_}
 use mathlib.Core.Path.{_≡_}
 use mathlib.Core.List.{List}
 use mathlib.Core.Option.{some}
@@ -17,11 +17,6 @@ use Rattle.diagram.specs.Tables.{Held}
 pub record Priced (step cost : List ℕ) (count : ℕ) : Type 0 where
   pub inside : (n : ℕ) → 2 ≤ n → n < count + 2 → getD step n 0 < 1024
   pub cheap : (n : ℕ) → 2 ≤ n → n < count + 2 → getD cost (getD step n 0) 0 ≤ 1000000
-
--- a node's estimate from that at its lo, that at its hi and the cost of its step, where NONE stands for none
-pub record Joins (low high cost r : ℕ) : Type 0 where
-  pub alone : NONE ≤ high + cost → r ≡ low
-  pub both : high + cost < NONE → r ≡ min low (high + cost)
 
 -- a table has what it costs to set each variable of a chart
 abbrev pub Costs : Chart → List ℕ → Type 0

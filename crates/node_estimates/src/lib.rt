@@ -1,10 +1,12 @@
 // The diagram estimates of the nodes of a rule diagram that stands in a table.
 ghost use mathlib.Core.Path.{_≡_};
-ghost use Prim.Native.Nat.{_+_, _<_};
+ghost use Prim.Native.Nat.{_+_, _<_, min};
 ghost use lib.ListN.{length, getD};
 ghost use Rattle.diagram_fields.specs.Words.{nodesIn};
 ghost use Rattle.nodes.specs.Walks.{Falls};
-ghost use Rattle.node_estimates.specs.Estimates.{Priced, Joins, Estimated};
+ghost use Rattle.node_estimates.specs.Estimates.{Priced, Estimated};
+use convert::lesser;
+use convert::wide;
 use definitions::NONE;
 use definitions::Node;
 use definitions::Shape;
@@ -13,18 +15,13 @@ use diagram_fields::hi_at;
 use diagram_fields::lo_at;
 use diagram_fields::step_at;
 
-// The smaller of two estimates, one of them with a cost added. A sum that is no number below NONE counts as none.
+// The smaller of two estimates, one of them with a cost added. A sum is wider than an estimate, so one with none, which is
+// the largest of them, is never the smaller.
 fn join(low: u32, high: u32, cost: u32) -> u32
-    ensures { λ r. ⌜ Joins low high cost r ⌝ }
+    ensures { λ r. ⌜ r ≡ min low (high + cost) ⌝ }
 {
-    if NONE - high <= cost {
-        return low;
-    }
-    let through = high + cost;
-    if through < low {
-        return through;
-    }
-    low
+    let through = wide(high) + wide(cost);
+    lesser(wide(low), through) as u32
 }
 
 // An inner node's estimate: the smaller of that at lo and that at hi with the cost of its step.
@@ -38,7 +35,7 @@ fn inner_estimate<'a>(
     requires { ⌜ (e .0 < 1024) × (lo .0 < 512) × (hi .0 < 512) ⌝ }
     ensures { λ r. ⌜
         (let by = now (estimates .entry) in
-        Joins (getD by (lo .0) 0) (getD by (hi .0) 0) (getD (now (cost .entry)) (e .0) 0) r)
+        r ≡ min (getD by (lo .0) 0) (getD by (hi .0) 0 + getD (now (cost .entry)) (e .0) 0))
         ⌝ }
 {
     let low = estimates[lo.0 as usize];

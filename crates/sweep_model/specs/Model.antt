@@ -50,7 +50,7 @@ module _ (width : ℕ) where
 module _ (g : Graph) (a : Automaton) where
   -- node n, at cost v, by step e
   unfoldable pub relaxStep : ℕ → ℕ → ℕ → Rows → Rows
-  relaxStep n v e r = pick (eqb (a .next e n) 0) r (offer (g .to e * a .size) (g .to e) (a .next e n) (v + g .cost e) (packed e n) r)
+  relaxStep n v e r = pick (eqb (a .next e n) 0) r (offer (g .to e * a .size) (g .to e) (a .next e n) (v + g .cost e) (packed (g .to e) e n) r)
 
   -- node n, at cost v, by k steps from e on
   unfoldable pub relaxSteps : ℕ → ℕ → ℕ → ℕ → Rows → Rows

@@ -70,9 +70,9 @@ module _ (g : Graph) (a : Automaton) (v : Valid g) (l : Lawful g a) (s n e x : �
   y-low = omega (arith, entry-low g a v r (suc s) s n source, step-cheap g v e he)
 
   -- a table whose cost and via have the offer in them
-  module _ (r′ : Rows) (ec : r′ .cost ≡ set (r .cost) q y) (ev : r′ .via ≡ set (r .via) q (packed e n)) where
+  module _ (r′ : Rows) (ec : r′ .cost ≡ set (r .cost) q y) (ev : r′ .via ≡ set (r .via) q (packed S e n)) where
     pub data At (s′ n′ : ℕ) : Type 0 where
-      here : s′ ≡ S → n′ ≡ T → costAt (a .size) r′ s′ n′ ≡ y → getD (r′ .via) (pair a s′ n′) 0 ≡ packed e n → At s′ n′
+      here : s′ ≡ S → n′ ≡ T → costAt (a .size) r′ s′ n′ ≡ y → getD (r′ .via) (pair a s′ n′) 0 ≡ packed S e n → At s′ n′
       other : (s′ ≡ S → n′ ≡ T → ⊥) → costAt (a .size) r′ s′ n′ ≡ costAt (a .size) r s′ n′ → getD (r′ .via) (pair a s′ n′) 0 ≡ getD (r .via) (pair a s′ n′) 0 → At s′ n′
 
     at : (s′ n′ : ℕ) → n′ < a .size → At s′ n′
@@ -81,10 +81,10 @@ module _ (g : Graph) (a : Automaton) (v : Valid g) (l : Lawful g a) (s n e x : �
         (λ p. let b = pair-apart a s′ n′ S T h node-inside p in
         here (b .0) (b .1)
         (ap (λ (z : List ℕ). getD z (pair a s′ n′) 0) ec ∙ ap (λ (i : ℕ). getD (set (r .cost) q y) i 0) p ∙ getD-set-same (r .cost) q y 0 (omega (arith, tab .cost-fits, pair-fits)))
-        (ap (λ (z : List ℕ). getD z (pair a s′ n′) 0) ev ∙ ap (λ (i : ℕ). getD (set (r .via) q (packed e n)) i 0) p ∙ getD-set-same (r .via) q (packed e n) 0 (omega (arith, tab .via-fits, pair-fits))))
+        (ap (λ (z : List ℕ). getD z (pair a s′ n′) 0) ev ∙ ap (λ (i : ℕ). getD (set (r .via) q (packed S e n)) i 0) p ∙ getD-set-same (r .via) q (packed S e n) 0 (omega (arith, tab .via-fits, pair-fits))))
         (λ p. other (λ b c. p (ap₂ (λ (i j : ℕ). pair a i j) b c))
         (ap (λ (z : List ℕ). getD z (pair a s′ n′) 0) ec ∙ getD-set-other (r .cost) q (pair a s′ n′) y 0 p)
-        (ap (λ (z : List ℕ). getD z (pair a s′ n′) 0) ev ∙ getD-set-other (r .via) q (pair a s′ n′) (packed e n) 0 p))
+        (ap (λ (z : List ℕ). getD z (pair a s′ n′) 0) ev ∙ getD-set-other (r .via) q (pair a s′ n′) (packed S e n) 0 p))
 
     -- the rows up to s are as they were
     cost-before : (s′ n′ : ℕ) → s′ ≤ s → n′ < a .size → costAt (a .size) r′ s′ n′ ≡ costAt (a .size) r s′ n′
@@ -104,7 +104,7 @@ module _ (g : Graph) (a : Automaton) (v : Valid g) (l : Lawful g a) (s n e x : �
           came = inr (record {
             step = e;
             node = n;
-            packs = f;
+            packs = f ∙ ap (λ (t : ℕ). packed t e n) (sym b);
             exists = he;
             leaves = omega arith;
             enters = sym b;
@@ -165,20 +165,20 @@ module _ (g : Graph) (a : Automaton) (v : Valid g) (l : Lawful g a) (s n e x : �
     past′ : length (r′ .nodes) ≡ length (r .nodes) → drop (pairs g a) (r′ .nodes) ≡ drop (pairs g a) (r .nodes) → length (r′ .counts) ≡ length (r .counts) → Past g a r r′
     past′ nl nd cl = record {
       cost-past = ap (drop (pairs g a)) ec ∙ drop-set-lt (pairs g a) (r .cost) q y pair-fits;
-      via-past = ap (drop (pairs g a)) ev ∙ drop-set-lt (pairs g a) (r .via) q (packed e n) pair-fits;
+      via-past = ap (drop (pairs g a)) ev ∙ drop-set-lt (pairs g a) (r .via) q (packed S e n) pair-fits;
       nodes-past = nd;
       cost-long = ap length ec ∙ length-set (r .cost) q y;
-      via-long = ap length ev ∙ length-set (r .via) q (packed e n);
+      via-long = ap length ev ∙ length-set (r .via) q (packed S e n);
       nodes-long = nl;
       counts-long = cl;
     }
 
   -- the pair has a higher cost already
-  better : costAt (a .size) r S T < NONE → y < costAt (a .size) r S T → Offered g a s S T y r (lowered q y (packed e n) r)
+  better : costAt (a .size) r S T < NONE → y < costAt (a .size) r S T → Offered g a s S T y r (lowered q y (packed S e n) r)
   better k h = record {
     table = record {
       cost-fits = omega (arith, tab .cost-fits, length-set (r .cost) q y);
-      via-fits = omega (arith, tab .via-fits, length-set (r .via) q (packed e n));
+      via-fits = omega (arith, tab .via-fits, length-set (r .via) q (packed S e n));
       nodes-fits = tab .nodes-fits;
       counts-fits = tab .counts-fits;
       cell = cell′ r′ refl refl;
@@ -198,7 +198,7 @@ module _ (g : Graph) (a : Automaton) (v : Valid g) (l : Lawful g a) (s n e x : �
   }
     where
       r′ : Rows
-      r′ = lowered q y (packed e n) r
+      r′ = lowered q y (packed S e n) r
 
       was : (s′ n′ : ℕ) → n′ < a .size → costAt (a .size) r′ s′ n′ < NONE → At r′ refl refl s′ n′ → costAt (a .size) r s′ n′ < NONE
       was s′ n′ i b (here c d f z) = omega (arith, ap₂ (λ (i j : ℕ). costAt (a .size) r i j) c d)
@@ -223,7 +223,7 @@ module _ (g : Graph) (a : Automaton) (v : Valid g) (l : Lawful g a) (s n e x : �
     place-fits = pair-inside g a S k₀ stage-inside roomy
 
     abbrev r″ : Rows
-    r″ = lowered q y (packed e n) (joined (S * a .size) S T r)
+    r″ = lowered q y (packed S e n) (joined (S * a .size) S T r)
 
     data In (s′ j : ℕ) : Type 0 where
       joins : s′ ≡ S → j ≡ k₀ → nodeAt (a .size) r″ s′ j ≡ T → In s′ j
@@ -327,7 +327,7 @@ module _ (g : Graph) (a : Automaton) (v : Valid g) (l : Lawful g a) (s n e x : �
     fresh = record {
       table = record {
         cost-fits = omega (arith, tab .cost-fits, length-set (r .cost) q y);
-        via-fits = omega (arith, tab .via-fits, length-set (r .via) q (packed e n));
+        via-fits = omega (arith, tab .via-fits, length-set (r .via) q (packed S e n));
         nodes-fits = omega (arith, tab .nodes-fits, length-set (r .nodes) (pair a S k₀) T);
         counts-fits = omega (arith, tab .counts-fits, length-set (r .counts) S (k₀ + 1));
         cell = cell′ r″ refl refl;
@@ -351,7 +351,7 @@ module _ (g : Graph) (a : Automaton) (v : Valid g) (l : Lawful g a) (s n e x : �
         node-before t m i (stays b c) = c
 
   -- what an offer leaves, in each case
-  pub offered : Offered g a s S T y r (offer (S * a .size) S T y (packed e n) r)
+  pub offered : Offered g a s S T y r (offer (S * a .size) S T y (packed S e n) r)
   unfolding offer pick
   offered = go (leb (costAt (a .size) r S T) y) refl (eqb (costAt (a .size) r S T) NONE) refl
     where
@@ -359,7 +359,7 @@ module _ (g : Graph) (a : Automaton) (v : Valid g) (l : Lawful g a) (s n e x : �
       in-table = tab .cell S T stage-inside node-inside
 
       go : (b : Bool) → leb (costAt (a .size) r S T) y ≡ b → (c : Bool) → eqb (costAt (a .size) r S T) NONE ≡ c
-          → Offered g a s S T y r (pick b r (pick c (lowered q y (packed e n) (joined (S * a .size) S T r)) (lowered q y (packed e n) r)))
+          → Offered g a s S T y r (pick b r (pick c (lowered q y (packed S e n) (joined (S * a .size) S T r)) (lowered q y (packed S e n) r)))
       go true d c f = record { table = tab; later = later-same g a s r; past = past-same g a r; taken = leb-true (costAt (a .size) r S T) y d }
       go false d true f = fresh (eqb-true (costAt (a .size) r S T) NONE f)
       go false d false f =

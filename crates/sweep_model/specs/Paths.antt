@@ -1,7 +1,7 @@
 -- The plan of a reached pair: its trail is a way from the start to it, at its cost.
 -- Assumes nothing.
 use Prim.Native.Nat.{ℕ, zero, suc, _+_, _*_, _≤_, _<_}
-use mathlib.Core.Path.{_≡_, refl, sym, _∙_, ap₂, subst, subst₂}
+use mathlib.Core.Path.{_≡_, refl, sym, _∙_, ap, ap₂, subst, subst₂}
 use mathlib.Core.List.{List, [], _∷_}
 use mathlib.Core.Logic.{_⊎_, inl, inr}
 use native.Mathlib.Omega.{arith}
@@ -33,7 +33,7 @@ module _ (g : Graph) (a : Automaton) (v : Valid g) (below : ℕ) (r : Rows) (t :
   unfolding way-start
   start-traced = record { way = way-start g a; trail = begin }
 
-  step-traced : (s n e m k : ℕ) → e < g .count → m < a .size → g .to e ≡ s → getD (r .via) (s * a .size + n) 0 ≡ packed e m → a .next e m ≡ n
+  step-traced : (s n e m k : ℕ) → e < g .count → m < a .size → g .to e ≡ s → getD (r .via) (s * a .size + n) 0 ≡ packed s e m → a .next e m ≡ n
       → Traced g a (r .via) from (g .from e) m k → Traced g a (r .via) from s n (k + g .cost e)
   unfolding way-next
   step-traced s n e m k he hm hs hv hn x =
@@ -43,7 +43,7 @@ module _ (g : Graph) (a : Automaton) (v : Valid g) (below : ℕ) (r : Rows) (t :
       let rest = subst (λ (i : ℕ). Trail (r .via) from (a .size) (g .start) i m (x .way .steps)) (sym f) (x .trail) in
       let u : Traced g a (r .via) from (g .to e) (a .next e m) (k + g .cost e) = record {
         way = way-next g a (g .from e) m k e (x .way) he refl;
-        trail = more {s = g .to e} {n = a .next e m} {e = e} {m = m} (omega (arith, x .way .ends)) (omega (arith, v .few)) hm (omega arith) (ap₂ (λ (i j : ℕ). getD (r .via) (i * a .size + j) 0) hs hn ∙ hv) rest;
+        trail = more {s = g .to e} {n = a .next e m} {e = e} {m = m} (omega (arith, x .way .ends)) (omega (arith, v .few)) hm (omega arith) (ap₂ (λ (i j : ℕ). getD (r .via) (i * a .size + j) 0) hs hn ∙ hv ∙ ap (λ (i : ℕ). packed i e m) (sym hs)) rest;
       } in
       traced-at g a (r .via) from (g .to e) (a .next e m) (k + g .cost e) s n (k + g .cost e) hs hn refl u
 

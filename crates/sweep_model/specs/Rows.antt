@@ -27,7 +27,7 @@ module _ (g : Graph) (a : Automaton) where
   pub record Via (r : Rows) (below s n : ℕ) : Type 0 where
     pub step : ℕ
     pub node : ℕ
-    pub packs : getD (r .via) (pair a s n) 0 ≡ packed step node
+    pub packs : getD (r .via) (pair a s n) 0 ≡ packed s step node
     pub exists : step < g .count
     pub leaves : g .from step < below
     pub enters : g .to step ≡ s

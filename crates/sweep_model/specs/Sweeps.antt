@@ -44,7 +44,7 @@ module _ (g : Graph) (a : Automaton) (v : Valid g) (l : Lawful g a) where
     step-made e r t c he hf = go (eqb (a .next e n) 0) refl
       where
         go : (b : Bool) → eqb (a .next e n) 0 ≡ b
-            → Relaxed s (λ m y f. (m ≡ n) × (y ≡ x) × (f ≡ e)) r (pick b r (offer (g .to e * a .size) (g .to e) (a .next e n) (x + g .cost e) (packed e n) r))
+            → Relaxed s (λ m y f. (m ≡ n) × (y ≡ x) × (f ≡ e)) r (pick b r (offer (g .to e * a .size) (g .to e) (a .next e n) (x + g .cost e) (packed (g .to e) e n) r))
         go true q = record {
           table = t;
           later = later-same g a s r;
@@ -60,7 +60,7 @@ module _ (g : Graph) (a : Automaton) (v : Valid g) (l : Lawful g a) where
               made = λ m y f k z. omega (
                 arith,
                 o .taken,
-                ap₂ (λ (i j : ℕ). costAt (a .size) (offer (g .to e * a .size) (g .to e) (a .next e n) (x + g .cost e) (packed e n) r) (g .to j) (a .next j i)) (k .0) (k .2),
+                ap₂ (λ (i j : ℕ). costAt (a .size) (offer (g .to e * a .size) (g .to e) (a .next e n) (x + g .cost e) (packed (g .to e) e n) r) (g .to j) (a .next j i)) (k .0) (k .2),
                 ap (g .cost) (k .2),
               );
             }

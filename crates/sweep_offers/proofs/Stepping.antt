@@ -23,9 +23,9 @@ module _ (c : Steps) (row : List ℕ) (e n v t : ℕ) (r : Rows) where
   unfolding stepped
   stepped-none h = sym (pick-true _ _ _ (eq-eqb t 0 h))
 
-  pub stepped-offer : (s base mark : ℕ) (r′ : Rows) → (t ≡ 0 → ⊥) → s ≡ getD (c .to) e 0 → base ≡ getD row s 0 → mark ≡ packed e n
+  pub stepped-offer : (s base mark : ℕ) (r′ : Rows) → (t ≡ 0 → ⊥) → s ≡ getD (c .to) e 0 → base ≡ getD row s 0 → mark ≡ packed s e n
       → r′ ≡ offer base s t (v + getD (c .cost) e 0) mark r → r′ ≡ stepped c row e n v t r
   unfolding stepped
   stepped-offer s base mark r′ h p b m q =
       q ∙ ap₂ (λ (i j : ℕ). offer i s t (v + getD (c .cost) e 0) j r) b m
-      ∙ ap (λ (s : ℕ). offer (getD row s 0) s t (v + getD (c .cost) e 0) (packed e n) r) p ∙ sym (pick-false _ _ _ (ne-eqb t 0 h))
+      ∙ ap (λ (s : ℕ). offer (getD row s 0) s t (v + getD (c .cost) e 0) (packed s e n) r) p ∙ sym (pick-false _ _ _ (ne-eqb t 0 h))

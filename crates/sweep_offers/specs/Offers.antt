@@ -22,7 +22,7 @@ pub record Open (base s t : ℕ) (r : Rows) : Type 0 where
 -- what node n at cost v leaves by step e to node t, by the tables of steps and of row starts
 unfoldable pub stepped : Steps → List ℕ → ℕ → ℕ → ℕ → ℕ → Rows → Rows
 stepped c row e n v t r =
-    pick (eqb t 0) r (offer (getD row (getD (c .to) e 0) 0) (getD (c .to) e 0) t (v + getD (c .cost) e 0) (packed e n) r)
+    pick (eqb t 0) r (offer (getD row (getD (c .to) e 0) 0) (getD (c .to) e 0) t (v + getD (c .cost) e 0) (packed (getD (c .to) e 0) e n) r)
 
 -- it can be done
 pub record Offering (c : Steps) (row : List ℕ) (e n v t : ℕ) (r : Rows) : Type 0 where

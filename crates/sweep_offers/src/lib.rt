@@ -79,7 +79,7 @@ pub fn relax_step<'a>(
     let step = e.0 as usize;
     let s = to_at(&steps[ENDS], step);
     let base = wide(row[s.0 as usize]);
-    let mark = packed(e, n);
+    let mark = packed(s, e, n);
     let total = v + steps[COST][step];
     offer(costs, via, nodes, counts, base, s, t, total, mark);
 }

@@ -106,9 +106,9 @@ module _ {z : Shape} {on : Walk} {s n v begin until : ℕ} {r₀ r : Rows} {e m 
       stepped-is : stepped (on .read .steps) row e n v t r ≡ relaxStep g a n v e r
       unfolding stepped relaxStep
       stepped-is =
-          ap (λ (i : ℕ). pick (eqb i 0) r (offer (getD row (getD to e 0) 0) (getD to e 0) i (v + getD cost e 0) (packed e n) r)) et
-          ∙ ap (λ (i : ℕ). pick (eqb (a .next e n) 0) r (offer i (getD to e 0) (a .next e n) (v + getD cost e 0) (packed e n) r)) base-is
-          ∙ ap₂ (λ (i j : ℕ). pick (eqb (a .next e n) 0) r (offer (g .to e * a .size) i (a .next e n) (v + j) (packed e n) r)) to-is cost-is
+          ap (λ (i : ℕ). pick (eqb i 0) r (offer (getD row (getD to e 0) 0) (getD to e 0) i (v + getD cost e 0) (packed (getD to e 0) e n) r)) et
+          ∙ ap (λ (i : ℕ). pick (eqb (a .next e n) 0) r (offer i (getD to e 0) (a .next e n) (v + getD cost e 0) (packed (getD to e 0) e n) r)) base-is
+          ∙ ap₂ (λ (i j : ℕ). pick (eqb (a .next e n) 0) r (offer (g .to e * a .size) i (a .next e n) (v + j) (packed i e n) r)) to-is cost-is
 
       entry : Entry g a r (suc s) s n
       entry = either (standing .table .cell s n (standing .stage) (standing .node)) (λ u. absurd (omega (arith, standing .costs, standing .low))) (λ x. x)

@@ -9,8 +9,7 @@ use native.Mathlib.Numerals.{add-one}
 use lib.ListN.{length, getD, set, drop}
 use lib.Seq.{append-snoc, drop-cons, set-at}
 use Rattle.rows.specs.Rows.{row-at}
-use Rattle.theory.specs.Packing.{first-packed, second-packed}
-use Rattle.via_marks.specs.Marks.{packed, stepIn}
+use Rattle.via_marks.specs.Marks.{packed, stepIn, step-packed, node-packed}
 use Rattle.trace.specs.Trails.{CameFrom, Trail, begin, more, trail-short, Traceable}
 use Rattle.trace.specs.declared.Predecessor.{Predecessor}
 
@@ -35,7 +34,7 @@ module _ (via from : List ℕ) (width start : ℕ) where
     pub exists : e < 1024
     pub node : m < width
     pub down : getD from e 0 < s
-    pub packs : getD via (s * width + n) 0 ≡ packed e m
+    pub packs : getD via (s * width + n) 0 ≡ packed s e m
     pub trail : Way (getD from e 0) m rest
 
   pub last-step : {s n : ℕ} {w : List ℕ} → start < s → Way s n w → Last s n w
@@ -91,24 +90,21 @@ module _ {via from row : List ℕ} {start s₀ n₀ : ℕ} (t : Traceable via fr
           let inside : s < t .stages = omega (arith, f .down, t .stage) in
           omega (arith, place, f .node, t .fits, mul-le-mul-right width inside)
 
-      packs : getD via at 0 ≡ packed (last .e) (last .m)
+      packs : getD via at 0 ≡ packed s (last .e) (last .m)
       packs = ap (λ (i : ℕ). getD via i 0) place ∙ last .packs
 
       small : last .m < 512
       small = omega (arith, last .node, t .narrow)
 
       step-is : stepIn (getD via at 0) ≡ last .e
-      step-is = first-packed 512 (last .e) (last .m) (getD via at 0) packs small
-
-      pub follow-packed : stepIn (getD via at 0) < 1024
-      follow-packed = omega (arith, step-is, last .exists)
+      step-is = step-packed s (last .e) (last .m) (getD via at 0) packs (last .exists) small
 
       module _ {p : Predecessor} (c : CameFrom from (getD via at 0) p) where
         by-last : p .step .0 ≡ last .e
         by-last = c .by-step ∙ step-is
 
         node-is : p .node .0 ≡ last .m
-        node-is = c .of-node ∙ second-packed 512 (last .e) (last .m) (getD via at 0) packs small
+        node-is = c .of-node ∙ node-packed s (last .e) (last .m) (getD via at 0) packs (last .exists) small
 
         stage-is : p .stage .0 ≡ getD from (last .e) 0
         stage-is = c .of-stage ∙ ap (λ (i : ℕ). getD from i 0) by-last

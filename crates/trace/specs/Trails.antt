@@ -19,7 +19,7 @@ pub record CameFrom (from : List ℕ) (mark : ℕ) (p : Predecessor) : Type 0 wh
 -- leads there and the node that it leaves, `from` the stage that it leaves
 pub data Trail (via from : List ℕ) (width start : ℕ) : ℕ → ℕ → List ℕ → Type 0 where
   begin : {n : ℕ} → Trail via from width start start n []
-  more : {s n e m : ℕ} {w : List ℕ} → start < s → e < 1024 → m < width → getD from e 0 < s → getD via (s * width + n) 0 ≡ packed e m
+  more : {s n e m : ℕ} {w : List ℕ} → start < s → e < 1024 → m < width → getD from e 0 < s → getD via (s * width + n) 0 ≡ packed s e m
       → Trail via from width start (getD from e 0) m w → Trail via from width start s n (w ++ e ∷ [])
 
 -- it climbs from stage to stage

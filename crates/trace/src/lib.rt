@@ -4,7 +4,6 @@ ghost use Prim.Native.Nat.{_+_, _-_, _≤_, _<_};
 ghost use lib.ListN.{length, getD, take, drop};
 ghost use mathlib.Core.List.{_++_, reverse};
 ghost use Rattle.chart_fields.specs.Ends.{froms};
-ghost use Rattle.via_marks.specs.Marks.{stepIn};
 ghost use Rattle.trace.specs.Trails.{CameFrom, Traceable};
 use chart_fields::from_at;
 use convert::wide;
@@ -31,7 +30,6 @@ pub fn pair_at(row: &[u32; 256], s: Stage, n: Node) -> usize
 
 // What a pair was reached from, by the mark that it keeps.
 fn came_from(ends: &[u32; 1024], mark: u32) -> Predecessor
-    requires { ⌜ stepIn mark < 1024 ⌝ }
     ensures { λ r. ⌜ CameFrom (froms (now (ends .entry))) mark r ⌝ }
 {
     let step = step_in(mark);

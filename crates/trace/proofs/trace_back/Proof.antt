@@ -7,7 +7,7 @@ use lib.ListN.{length, drop, length-reverse}
 use borrow.Author.Needs.{needs}
 use Rattle.chart_fields.specs.Ends.{froms}
 use Rattle.trace.specs.Trails.{Traceable}
-use Rattle.trace.proofs.Steps.{Follows, follow-start, follow-stage, follow-fits, follow-packed, follow-less, follow-more, follow-done, put-on}
+use Rattle.trace.proofs.Steps.{Follows, follow-start, follow-stage, follow-fits, follow-less, follow-more, follow-done, put-on}
 use Rattle.trace.proofs.trace_back.Statement.{statement}
 use Rattle.trace.proofs.trace_back.Tie as tie
 
@@ -49,13 +49,7 @@ shared-slice-read-came-from c =
     follow-fits trail (head .loop .inv .0 trail .1) (turn .if1 .taken) (found .pair-at .ensures)
 
 came-from-requires : tie.Need-came-from-requires Inv-loop μ-loop
-came-from-requires c κs =
-    let found : tie.After-pair-at Inv-loop μ-loop = search in
-    let turn : tie.Then1 Inv-loop μ-loop = search in
-    let head : tie.At-loop Inv-loop μ-loop = search in
-    let start : tie.Start Inv-loop μ-loop = search in
-    let trail = start .pre .0 in
-    follow-packed trail (head .loop .inv .0 trail .1) (turn .if1 .taken) (found .pair-at .ensures)
+came-from-requires c κs = search needs
 
 mul-plan : tie.Need-mul-plan Inv-loop μ-loop
 mul-plan c =

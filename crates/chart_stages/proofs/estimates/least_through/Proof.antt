@@ -1,27 +1,32 @@
 -- `chart_stages::least_through` meets its contract: what is known shows the least cost of the ways by the steps below e.
 use Prim.Native.Nat.{_-_, _≤_}
 use native.Mathlib.Omega.{arith}
+use Rattle.definitions.specs.Basics.{NONE}
 use Rattle.definitions.specs.Plans.{graph}
 use Rattle.chart.specs.Tables.{stepsIn, chartIn}
 use Rattle.chart_stages.specs.Estimates.{WayBy, Shows}
 use Rattle.chart_stages.specs.Leaving.{Leaving}
-use Rattle.chart_stages.proofs.Estimating.{steps-rise, steps-end, none-yet, to-below, step-adds, step-turn, steps-done}
+use Rattle.chart_stages.proofs.Estimating.{steps-rise, steps-end, none-yet, to-below, step-turn, steps-done}
 use borrow.Author.Needs.{needs}
 use Rattle.chart_stages.proofs.estimates.least_through.Statement.{statement}
 use Rattle.chart_stages.proofs.estimates.least_through.Tie as tie
 
 abbrev Inv-loop : tie.InvT-loop
 Inv-loop estimates steps start until best₀ e₀ best e =
-    (start ≤ e) × (e ≤ until) × (until ≤ 1024)
+    (start ≤ e) × (e ≤ until) × (until ≤ 1024) × (best ≤ NONE)
     × ((x : Leaving (stepsIn steps) start until estimates) → Shows (WayBy (graph (chartIn (x .z) (stepsIn steps))) e (x .s)) best)
 
 abbrev μ-loop : tie.MeasureT-loop
 μ-loop estimates steps start until best₀ e₀ best e = until - e
 
+wide-requires : tie.Need-wide-requires Inv-loop μ-loop
+wide-requires c κs = search needs
+
 loop-holds : tie.Need-loop-holds Inv-loop μ-loop
 loop-holds c =
     let start : tie.Start Inv-loop μ-loop = search in
-    (search needs, steps-rise (start .pre), steps-end (start .pre), λ x. none-yet x)
+    let none : tie.After-wide Inv-loop μ-loop = search in
+    (search needs, steps-rise (start .pre), steps-end (start .pre), search needs, λ x. rw (none .wide .ensures .0) (none-yet x))
 
 index-1-to-at : tie.Need-index-1-to-at Inv-loop μ-loop
 index-1-to-at c = search needs
@@ -44,8 +49,7 @@ through-requires c κs =
     let turn : tie.In-loop Inv-loop μ-loop = search in
     let head : tie.At-loop Inv-loop μ-loop = search in
     let start : tie.Start Inv-loop μ-loop = search in
-    let leads = entered .to-at .ensures in
-    (to-below (start .pre) (head .loop .inv .0) (turn .loop-test .taken) leads, step-adds (start .pre) (head .loop .inv .0) (turn .loop-test .taken) leads)
+    to-below (start .pre) (head .loop .inv .0) (turn .loop-test .taken) (entered .to-at .ensures)
 
 add-e : tie.Need-add-e Inv-loop μ-loop
 add-e c = search needs
@@ -59,13 +63,21 @@ loop-again c =
     let entered : tie.After-to-at Inv-loop μ-loop = search in
     let turn : tie.In-loop Inv-loop μ-loop = search in
     let head : tie.At-loop Inv-loop μ-loop = search in
-    let leads = entered .to-at .ensures in
-    (search needs, search needs, search needs, λ x. step-turn x (head .loop .inv .0) (turn .loop-test .taken) leads (head .loop .inv .3 x) (done .through .ensures))
+    let leads = entered .to-at .ensures in (
+      search needs,
+      search needs,
+      search needs,
+      omega (arith, done .through .ensures, head .loop .inv .3),
+      λ x. step-turn x (head .loop .inv .0) (turn .loop-test .taken) leads (head .loop .inv .4 x) (head .loop .inv .3) (done .through .ensures),
+    )
+
+cast-result : tie.Need-cast-result Inv-loop μ-loop
+cast-result c = search needs
 
 returns : tie.Need-returns Inv-loop μ-loop
 returns c =
     let head : tie.At-loop Inv-loop μ-loop = search in
-    λ x. steps-done x (omega arith) (head .loop .inv .3 x)
+    λ x. steps-done x (omega arith) (head .loop .inv .4 x)
 
 pub least-through-spec : {M : Type 1} → statement M
 least-through-spec =
@@ -73,6 +85,7 @@ least-through-spec =
     (tie.spec
     Inv-loop
     μ-loop
+    wide-requires
     loop-holds
     index-1-to-at
     to-at-requires
@@ -83,4 +96,5 @@ least-through-spec =
     add-e
     loop-less
     loop-again
+    cast-result
     returns)

@@ -23,10 +23,10 @@ rest-of c = search
 abbrev by-node-of : tie.After-pair-estimate → tie.After-fill-diagram-estimates
 by-node-of c = search
 
-abbrev by-stage-of : tie.After-fill-diagram-estimates → tie.After-chart-estimates
+abbrev by-stage-of : tie.After-fill-diagram-estimates → tie.After-fill-chart-estimates
 by-stage-of c = search
 
-abbrev first-of : tie.After-chart-estimates → tie.After-fill-first-steps
+abbrev first-of : tie.After-fill-chart-estimates → tie.After-fill-first-steps
 first-of c = search
 
 abbrev start-of : tie.After-fill-first-steps → tie.Start
@@ -41,11 +41,11 @@ fill-first-steps-requires c κs =
     let sorted = run-sorted (start .pre .0) in
     (refl, sorted .0, sorted .1)
 
-chart-estimates-requires : tie.Need-chart-estimates-requires
-chart-estimates-requires c κs =
+fill-chart-estimates-requires : tie.Need-fill-chart-estimates-requires
+fill-chart-estimates-requires c κs =
     let first : tie.After-fill-first-steps = search in
     let start : tie.Start = search in
-    run-staged (start .pre .0) (first .fill-first-steps .ensures)
+    (refl, run-staged (start .pre .0) (first .fill-first-steps .ensures))
 
 index-1-fill-diagram-estimates : tie.Need-index-1-fill-diagram-estimates
 index-1-fill-diagram-estimates c = search needs
@@ -72,7 +72,7 @@ returns c =
     let by-stage = by-stage-of by-node in
     let first = first-of by-stage in
     let start = start-of first in
-    runs-none (start .pre .0) (by-stage .chart-estimates .ensures) (by-node .fill-diagram-estimates .ensures) (rest .pair-estimate .ensures) (none .if1 .taken) (answer .refusal .ensures)
+    runs-none (start .pre .0) (by-stage .fill-chart-estimates .ensures) (by-node .fill-diagram-estimates .ensures) (rest .pair-estimate .ensures) (none .if1 .taken) (answer .refusal .ensures)
 
 cast-fill-row-starts : tie.Need-cast-fill-row-starts
 cast-fill-row-starts c = search needs
@@ -97,7 +97,7 @@ search-requires c κs =
     let by-stage = by-stage-of by-node in
     let first = first-of by-stage in
     let start = start-of first in
-    run-start (start .pre .0) (by-stage .chart-estimates .ensures) (by-node .fill-diagram-estimates .ensures) (rest .pair-estimate .ensures)
+    run-start (start .pre .0) (by-stage .fill-chart-estimates .ensures) (by-node .fill-diagram-estimates .ensures) (rest .pair-estimate .ensures)
     (some .if1 .left) (first .fill-first-steps .ensures) (row .fill-row-starts .ensures) (start .pre .1)
 
 conclude-requires : tie.Need-conclude-requires
@@ -110,9 +110,9 @@ conclude-requires c κs =
     let by-stage = by-stage-of by-node in
     let first = first-of by-stage in
     let start = start-of first in
-    let begun = run-start (start .pre .0) (by-stage .chart-estimates .ensures) (by-node .fill-diagram-estimates .ensures) (rest .pair-estimate .ensures)
+    let begun = run-start (start .pre .0) (by-stage .fill-chart-estimates .ensures) (by-node .fill-diagram-estimates .ensures) (rest .pair-estimate .ensures)
     (some .if1 .left) (first .fill-first-steps .ensures) (row .fill-row-starts .ensures) (start .pre .1) in
-    found-traceable (start .pre .0) (by-stage .chart-estimates .ensures) (by-node .fill-diagram-estimates .ensures) (rest .pair-estimate .ensures)
+    found-traceable (start .pre .0) (by-stage .fill-chart-estimates .ensures) (by-node .fill-diagram-estimates .ensures) (rest .pair-estimate .ensures)
     (some .if1 .left) (first .fill-first-steps .ensures) (row .fill-row-starts .ensures) (start .pre .1)
     (searched .search .ensures begun) (searched .search .kept .1 .0)
 
@@ -151,9 +151,9 @@ returns-2 c =
     let by-stage = by-stage-of by-node in
     let first = first-of by-stage in
     let start = start-of first in
-    let begun = run-start (start .pre .0) (by-stage .chart-estimates .ensures) (by-node .fill-diagram-estimates .ensures) (rest .pair-estimate .ensures)
+    let begun = run-start (start .pre .0) (by-stage .fill-chart-estimates .ensures) (by-node .fill-diagram-estimates .ensures) (rest .pair-estimate .ensures)
     (some .if1 .left) (first .fill-first-steps .ensures) (row .fill-row-starts .ensures) (start .pre .1) in
-    found-runs (start .pre .0) (by-stage .chart-estimates .ensures) (by-node .fill-diagram-estimates .ensures) (rest .pair-estimate .ensures)
+    found-runs (start .pre .0) (by-stage .fill-chart-estimates .ensures) (by-node .fill-diagram-estimates .ensures) (rest .pair-estimate .ensures)
     (some .if1 .left) (first .fill-first-steps .ensures) (row .fill-row-starts .ensures) (start .pre .1)
     (searched .search .ensures begun) (searched .search .kept .1 .0)
     (ended .conclude .ensures) (ended .conclude .kept .1 .1 .1 .1 .1 .0)
@@ -164,7 +164,7 @@ run-spec =
     (tie.spec
     index-1-fill-first-steps
     fill-first-steps-requires
-    chart-estimates-requires
+    fill-chart-estimates-requires
     index-1-fill-diagram-estimates
     fill-diagram-estimates-requires
     pair-estimate-requires

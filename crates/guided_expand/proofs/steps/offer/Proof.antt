@@ -92,7 +92,10 @@ add-v-2 c =
     omega (arith, leads-fit (start .pre) (led .to-at .ensures) _ (rest .pair-estimate .ensures) (some .if1 .left))
 
 packed-requires : tie.Need-packed-requires
-packed-requires c κs = search needs
+packed-requires c κs =
+    let led : tie.After-to-at = search in
+    let start : tie.Start = search in
+    stage-small (start .pre) (led .to-at .ensures)
 
 relax-requires : tie.Need-relax-requires
 relax-requires c κs =

@@ -136,9 +136,6 @@ log-pair-requires c κs =
     let w = head .search .inv .1 begun in
     turn-logs (begun .by) w (begun .begins) (taken .take .ensures)
 
-index-1-pair-of : tie.Need-index-1-pair-of Inv-search μ-search
-index-1-pair-of c = search needs
-
 pair-of-requires : tie.Need-pair-of-requires Inv-search μ-search
 pair-of-requires c κs =
     let taken : tie.After-take Inv-search μ-search = search in
@@ -353,7 +350,6 @@ search-spec =
     search-holds
     take-requires
     log-pair-requires
-    index-1-pair-of
     pair-of-requires
     pair-estimate-requires
     sub-spent

@@ -1,8 +1,9 @@
--- `chart_stages::chart_estimates` meets its contract: the entries of the stages from s on are told.
-use Prim.Native.Nat.{_+_, _-_, _≤_, _<_}
-use mathlib.Core.Path.{_≡_, refl}
-use lib.ListN.{length}
+-- `chart_stages::fill_chart_estimates` meets its contract: the entries of the stages from s on are told.
+use Prim.Native.Nat.{ℕ, _+_, _-_, _≤_, _<_}
+use mathlib.Core.Path.{_≡_, refl, _∙_, ap}
+use lib.ListN.{length, length-set, length-replicate}
 use native.Mathlib.Omega.{arith}
+use Rattle.definitions.specs.Basics.{NONE}
 use Rattle.definitions.specs.Plans.{graph}
 use Rattle.definitions.specs.declared.Shape.{Shape}
 use Rattle.chart.specs.Tables.{stepsIn, chartIn}
@@ -10,16 +11,16 @@ use Rattle.chart_stages.specs.Estimates.{Told}
 use Rattle.chart_stages.specs.Leaving.{Staged}
 use Rattle.chart_stages.proofs.Estimating.{end-below, first-small, stages-start, stage-leaving, stage-turn, stages-done}
 use borrow.Author.Needs.{needs}
-use Rattle.chart_stages.proofs.estimates.chart_estimates.Statement.{statement}
-use Rattle.chart_stages.proofs.estimates.chart_estimates.Tie as tie
+use Rattle.chart_stages.proofs.estimates.fill_chart_estimates.Statement.{statement}
+use Rattle.chart_stages.proofs.estimates.fill_chart_estimates.Tie as tie
 
 abbrev Inv-loop : tie.InvT-loop
-Inv-loop steps first estimates₀ start s₀ estimates s =
+Inv-loop estimates₀ steps first start s₀ estimates s =
     (s ≤ s₀) × (s₀ < 256) × (length estimates ≡ 256)
     × ((z : Shape) → Staged z (stepsIn steps) first → z .end .0 ≡ s₀ → Told (graph (chartIn z (stepsIn steps))) s estimates)
 
 abbrev μ-loop : tie.MeasureT-loop
-μ-loop steps first estimates₀ start s₀ estimates s = s
+μ-loop estimates₀ steps first start s₀ estimates s = s
 
 cast-start : tie.Need-cast-start Inv-loop μ-loop
 cast-start c = search needs
@@ -30,17 +31,18 @@ cast-s c = search needs
 mul-estimates : tie.Need-mul-estimates Inv-loop μ-loop
 mul-estimates c =
     let start : tie.Start Inv-loop μ-loop = search in
-    omega (arith, end-below (start .pre))
+    omega (arith, end-below (start .pre .1))
 
-array-write-estimates : tie.Need-array-write-estimates Inv-loop μ-loop
-array-write-estimates c =
+element-write-estimates : tie.Need-element-write-estimates Inv-loop μ-loop
+element-write-estimates c =
     let start : tie.Start Inv-loop μ-loop = search in
-    omega (arith, end-below (start .pre))
+    omega (arith, end-below (start .pre .1))
 
 loop-holds : tie.Need-loop-holds Inv-loop μ-loop
 loop-holds c =
     let start : tie.Start Inv-loop μ-loop = search in
-    (search needs, end-below (start .pre), search needs, λ z on q. stages-start on q)
+    let long = length-set (start .args .estimates .now) _ 0 ∙ ap length (start .pre .0) ∙ length-replicate {A = ℕ} 256 NONE in
+    (search needs, end-below (start .pre .1), long, λ z on q. rw (start .pre .0) (stages-start on q))
 
 sub-s : tie.Need-sub-s Inv-loop μ-loop
 sub-s c = search needs
@@ -55,7 +57,7 @@ cast-least-through : tie.Need-cast-least-through Inv-loop μ-loop
 cast-least-through c =
     let head : tie.At-loop Inv-loop μ-loop = search in
     let start : tie.Start Inv-loop μ-loop = search in
-    omega (arith, first-small (start .pre) (head .loop .s - 1) (omega arith))
+    omega (arith, first-small (start .pre .1) (head .loop .s - 1) (omega arith))
 
 add-least-through : tie.Need-add-least-through Inv-loop μ-loop
 add-least-through c = search needs
@@ -70,20 +72,20 @@ cast-least-through-2 : tie.Need-cast-least-through-2 Inv-loop μ-loop
 cast-least-through-2 c =
     let head : tie.At-loop Inv-loop μ-loop = search in
     let start : tie.Start Inv-loop μ-loop = search in
-    omega (arith, first-small (start .pre) (head .loop .s - 1 + 1) (omega arith))
+    omega (arith, first-small (start .pre .1) (head .loop .s - 1 + 1) (omega arith))
 
 least-through-requires : tie.Need-least-through-requires Inv-loop μ-loop
 least-through-requires c κs =
     let turn : tie.In-loop Inv-loop μ-loop = search in
     let head : tie.At-loop Inv-loop μ-loop = search in
     let start : tie.Start Inv-loop μ-loop = search in
-    stage-leaving (start .pre) (omega (arith, turn .loop-test .taken)) (head .loop .inv .0) (head .loop .inv .3 (start .args .z) (start .pre) refl)
+    stage-leaving (start .pre .1) (omega (arith, turn .loop-test .taken)) (head .loop .inv .0) (head .loop .inv .3 (start .args .z) (start .pre .1) refl)
 
 mul-estimates-2 : tie.Need-mul-estimates-2 Inv-loop μ-loop
 mul-estimates-2 c = search needs
 
-array-write-estimates-2 : tie.Need-array-write-estimates-2 Inv-loop μ-loop
-array-write-estimates-2 c = search needs
+element-write-estimates-2 : tie.Need-element-write-estimates-2 Inv-loop μ-loop
+element-write-estimates-2 c = search needs
 
 loop-less : tie.Need-loop-less Inv-loop μ-loop
 loop-less c = search needs
@@ -108,10 +110,10 @@ returns c =
     let over : tie.After-loop Inv-loop μ-loop = search in
     let head : tie.At-loop Inv-loop μ-loop = search in
     let start : tie.Start Inv-loop μ-loop = search in
-    stages-done (start .pre) (omega (arith, over .loop-test .left)) (head .loop .inv .2) (head .loop .inv .3 (start .args .z) (start .pre) refl)
+    stages-done (start .pre .1) (omega (arith, over .loop-test .left)) (head .loop .inv .2) (head .loop .inv .3 (start .args .z) (start .pre .1) refl)
 
-pub chart-estimates-spec : {M : Type 1} → statement M
-chart-estimates-spec =
+pub fill-chart-estimates-spec : {M : Type 1} → statement M
+fill-chart-estimates-spec =
     tie.close
     (tie.spec
     Inv-loop
@@ -119,7 +121,7 @@ chart-estimates-spec =
     cast-start
     cast-s
     mul-estimates
-    array-write-estimates
+    element-write-estimates
     loop-holds
     sub-s
     mul-least-through
@@ -131,7 +133,7 @@ chart-estimates-spec =
     cast-least-through-2
     least-through-requires
     mul-estimates-2
-    array-write-estimates-2
+    element-write-estimates-2
     loop-less
     loop-again
     returns)
