@@ -16,16 +16,21 @@ use tables::{Tables, BY_NODE, BY_STAGE};
 const NONE: u32 = u32::MAX;
 /// The via of the pair of start and root.
 const NO_VIA: u32 = u32::MAX;
-/// A node reference takes nine bits; the step stands above it.
+/// A node reference takes nine bits; a step stands above it and takes ten.
 const NODE_BITS: u32 = 9;
+const STEP_BITS: u32 = 10;
 
-/// How a pair was got: by a step from a node of that step's first stage.
-fn pack_via(step: usize, node: usize) -> u32 {
-    (step as u32) << NODE_BITS | node as u32
+/// How a pair was got: its own stage, and the step and the node from which that led there.
+fn pack_via(stage: usize, step: usize, node: usize) -> u32 {
+    ((stage as u32) << STEP_BITS | step as u32) << NODE_BITS | node as u32
+}
+
+fn via_stage(via: u32) -> usize {
+    (via >> (STEP_BITS + NODE_BITS)) as usize
 }
 
 fn via_step(via: u32) -> usize {
-    (via >> NODE_BITS) as usize
+    (via >> NODE_BITS & ((1 << STEP_BITS) - 1)) as usize
 }
 
 fn via_node(via: u32) -> usize {
@@ -46,6 +51,7 @@ fn prepare(
         return Err(Answer::refused(7, 0, 0));
     }
     tables.fill_first();
+    tables.fill_rows();
     Ok(())
 }
 

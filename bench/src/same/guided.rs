@@ -1,7 +1,7 @@
 //! The guided search: A* over pairs with the larger of two consistent estimates.
 
 use super::queue::Queue;
-use super::{pack_via, prepare, trace_back, via_step, Tables, BY_NODE, BY_STAGE, NONE, NO_VIA};
+use super::{pack_via, prepare, trace_back, via_stage, Tables, BY_NODE, BY_STAGE, NONE, NO_VIA};
 use crate::planner::Answer;
 
 /// Keys are cleared in blocks of so many.
@@ -116,11 +116,11 @@ impl Search<'_> {
         }
     }
 
-    /// The stage of an opened pair, by the step that opened it.
+    /// The stage of an opened pair, by what opened it.
     fn stage_of(&self, pair: usize) -> usize {
         match self.via[pair] {
             NO_VIA => self.tables.start,
-            via => self.tables.to(via_step(via)),
+            via => via_stage(via),
         }
     }
 
@@ -150,7 +150,7 @@ impl Search<'_> {
             let known = self.keys[follower];
             if key < known {
                 self.keys[follower] = key;
-                self.via[follower] = pack_via(step, node);
+                self.via[follower] = pack_via(to, step, node);
                 if known == NONE {
                     self.queue.push(self.keys, floor, follower);
                 } else {

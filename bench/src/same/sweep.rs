@@ -89,7 +89,7 @@ impl Rows<'_> {
                     self.filled[to] += 1;
                 }
                 self.cost[row + next] = found;
-                self.via[row + next] = pack_via(step, node);
+                self.via[row + next] = pack_via(to, step, node);
             }
         }
     }

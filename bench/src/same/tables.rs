@@ -58,6 +58,8 @@ pub struct Tables {
     pub cost: [u32; STEPS],
     /// By stage: its first leaving step; one entry more than there are stages.
     first: [u16; STAGES + 1],
+    /// By stage: its first pair.
+    rows: [u32; STAGES],
     /// N.
     pub references: usize,
     pub root: usize,
@@ -74,6 +76,7 @@ impl Tables {
             ends: [0; STEPS],
             cost: [0; STEPS],
             first: [0; STAGES + 1],
+            rows: [0; STAGES],
             references: 2,
             root: 0,
             nodes: [Inner::default(); NODES],
@@ -169,9 +172,18 @@ impl Tables {
         Ok(())
     }
 
+    /// Row starts by stage, so that no search multiplies.
+    pub fn fill_rows(&mut self) {
+        let mut start = 0;
+        for row in &mut self.rows[..self.stages] {
+            *row = start;
+            start += self.references as u32;
+        }
+    }
+
     /// The first pair of a stage.
     pub fn row(&self, stage: usize) -> usize {
-        stage * self.references
+        self.rows[stage] as usize
     }
 
     /// The steps that leave a stage.

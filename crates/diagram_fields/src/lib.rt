@@ -7,4 +7,6 @@ pub use bodies::store_node;
 pub use words::hi_at;
 pub use words::leaf_word;
 pub use words::lo_at;
+pub use words::lo_of;
 pub use words::step_at;
+pub use words::step_of;

@@ -23,14 +23,14 @@ pub fn leaf_word() -> u32
 }
 
 // The step in such a number.
-fn step_of(w: u32) -> u16
+pub fn step_of(w: u32) -> u16
     ensures { λ r. ⌜ r ≡ stepOf w ⌝ }
 {
     (w / 512 / 512) as u16
 }
 
 // The lo in such a number.
-fn lo_of(w: u32) -> u16
+pub fn lo_of(w: u32) -> u16
     ensures { λ r. ⌜ r ≡ loOf w ⌝ }
 {
     (w % 512) as u16

@@ -6,12 +6,20 @@ use lib.ListN.{getD}
 use native.Mathlib.Omega.{arith}
 use Rattle.definitions.specs.Diagrams.{Diagram, size}
 use Rattle.theory.specs.Basics.{either, lt-or-le}
-use Rattle.diagram_fields.specs.Words.{MARK, Marked}
+use Rattle.diagram_fields.specs.Words.{MARK, Marked, stepOf, loOf, nodesIn, step-at, lo-at}
 use Rattle.diagram.specs.Tables.{Held}
 use Rattle.diagram.specs.Held.{held-step, held-lo}
 use Rattle.nodes.specs.Walks.{Falls, lowered, Lowers}
 use Rattle.nodes.specs.Descending.{lowered-leaf, lowered-below, lowered-stop}
 use Rattle.nodes.specs.Advancing.{unmarked}
+
+-- what is taken out of the entry of node m
+module _ (words : List ℕ) (m : ℕ) {word : ℕ} (entry : word ≡ getD words m 0) {k : ℕ} where
+  pub entry-step : k ≡ stepOf word → k ≡ getD (nodesIn words .step) m 0
+  entry-step q = q ∙ ap stepOf entry ∙ sym (step-at words m)
+
+  pub entry-lo : k ≡ loOf word → k ≡ getD (nodesIn words .lo) m 0
+  entry-lo q = q ∙ ap loOf entry ∙ sym (lo-at words m)
 
 -- a walk from node n stands at m, and has as far to go as from n
 pub record Lowering (step lo : List ℕ) (e n m : ℕ) : Type 0 where

@@ -8,7 +8,9 @@ use definitions::Node;
 use definitions::Step;
 use diagram_fields::hi_at;
 use diagram_fields::lo_at;
+use diagram_fields::lo_of;
 use diagram_fields::step_at;
+use diagram_fields::step_of;
 
 // A node of a diagram, and the step that it tests: the mark where it is none of the inner ones.
 pub struct Lowered {
@@ -25,7 +27,8 @@ pub fn lowered_at(inner: &[u32; 512], n: Node) -> Lowered
     Lowered { node: n, step }
 }
 
-// The first half of advancing a node by step `e`: to lo while the node is inner and its step is below `e`.
+// The first half of advancing a node by step `e`: to lo while the node is inner and its step is below `e`. Mostly it is not, and
+// no entry is read. On the way down each entry is read once: it has the step and the lo.
 pub fn descend_to(inner: &[u32; 512], e: Step, from: Lowered) -> Lowered
     requires { ⌜
         (let t = nodesIn (now inner) in
@@ -37,11 +40,16 @@ pub fn descend_to(inner: &[u32; 512], e: Step, from: Lowered) -> Lowered
         ⌝ }
 {
     let key = e.0;
-    let mut m = from.node.0;
     let mut step = from.step;
+    if key <= step {
+        return from;
+    }
+    let mut m = from.node.0;
+    let mut word = inner[m as usize];
     while step < key {
-        m = lo_at(inner, m as usize);
-        step = step_at(inner, m as usize);
+        m = lo_of(word);
+        word = inner[m as usize];
+        step = step_of(word);
     }
     Lowered {
         node: Node(m),
