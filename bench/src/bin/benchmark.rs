@@ -24,7 +24,7 @@ before left in them. Reading both files is part of a search's time.
 
 usage: benchmark [OPTION...]
 
-  --runs N              how often all loads are gone through (default 4)
+  --runs N              how often all loads are gone through (default 2)
   --rounds N            samples of each call in each run and placement (default 12)
   --elsewhere FILE      this program linked with other padding, one more placement; any number
   --only TEXT           only loads whose name has this text
@@ -103,7 +103,7 @@ fn main() -> ExitCode {
 
 fn parse(mut args: impl Iterator<Item = String>) -> Result<Options, String> {
     let mut options = Options {
-        runs: 4,
+        runs: 2,
         rounds: 12,
         elsewhere: Vec::new(),
         only: String::new(),
