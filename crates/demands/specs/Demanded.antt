@@ -11,7 +11,7 @@ use Rattle.definitions.specs.Diagrams.{Diagram}
 use Rattle.definitions.specs.Pairs.{reachedPairs}
 use Rattle.definitions.specs.Plans.{graph, automaton, cheapest}
 use Rattle.definitions.specs.Answers.{Load, ready, refused}
-use Rattle.definitions.specs.Promises.{Outcome, Scratch, Swept, Guided, SweepSlices, GuidedSlices, SweepPromise, GuidedPromise, SweepCall, GuidedCall}
+use Rattle.definitions.specs.Promises.{Outcome, Scratch, SweepSlices, GuidedSlices, SweepPromise, GuidedPromise, SweepCall, GuidedCall}
 use Rattle.definitions.specs.declared.Answer.{Answer}
 use Rattle.theory.specs.Limits.{Valid}
 use Rattle.demands.specs.Demands.{Call, sweepCall, guidedCall, need, Passes, StaysFrom, Searched, Sweeps, Settles, Demands}

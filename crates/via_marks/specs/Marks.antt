@@ -1,7 +1,7 @@
 -- By what a pair was reached, in one number: the pair's own stage, the step that enters it and the node that the step left; and each taken out of it.
 -- Assumes nothing.
 use Prim.Native.Nat.{ℕ, _/_, _%_, _<_}
-use mathlib.Core.Path.{_≡_, refl, _∙_, ap}
+use mathlib.Core.Path.{_≡_}
 use Rattle.theory.specs.Packing.{pack, first-packed, second-packed}
 
 abbrev pub packed : ℕ → ℕ → ℕ → ℕ

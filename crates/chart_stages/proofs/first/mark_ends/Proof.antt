@@ -1,5 +1,5 @@
 -- `chart_stages::mark_ends` meets its contract: the steps before e have left their marks.
-use Prim.Native.Nat.{_+_, _-_, _≤_}
+use Prim.Native.Nat.{_-_, _≤_}
 use mathlib.Core.Path.{_≡_}
 use lib.ListN.{length}
 use native.Mathlib.Omega.{arith}
