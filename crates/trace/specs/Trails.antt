@@ -1,4 +1,4 @@
--- The trail from a pair back to the start: each pair keeps the step and the node by which it was reached, packed in one number.
+-- The trail from a pair back to the start: each pair keeps its stage, the step and the node by which it was reached, packed in one number.
 -- Assumes nothing.
 use Prim.Native.Nat.{ℕ, _*_, _+_, _≤_, _<_}
 use mathlib.Core.Path.{_≡_}
@@ -15,8 +15,8 @@ pub record CameFrom (from : List ℕ) (mark : ℕ) (p : Predecessor) : Type 0 wh
   pub of-stage : p .stage .0 ≡ getD from (p .step .0) 0
   pub of-node : p .node .0 ≡ nodeIn mark
 
--- The steps w lead from the start to the pair of stage s and node n of rows of `width` nodes: `via` has at each pair but those of the start stage the step that
--- leads there and the node that it leaves, `from` the stage that it leaves
+-- The steps w lead from the start to the pair of stage s and node n of rows of `width` nodes: `via` has at each pair but those of the start stage its stage, the
+-- step that leads there and the node that it leaves, `from` the stage that it leaves
 pub data Trail (via from : List ℕ) (width start : ℕ) : ℕ → ℕ → List ℕ → Type 0 where
   begin : {n : ℕ} → Trail via from width start start n []
   more : {s n e m : ℕ} {w : List ℕ} → start < s → e < 1024 → m < width → getD from e 0 < s → getD via (s * width + n) 0 ≡ packed s e m
