@@ -27,10 +27,10 @@
 extern "C" {
 #endif
 
-/* Numbers of an answer: accepted, or the cause of the refusal. The chart is looked at before the diagram, each from
- * its front; then the space; then whether there is a plan.
+/* Numbers of an answer: accepted, or the cause of the refusal. The chart is looked at before the diagram, each for its
+ * length and then from its front; then the space; then whether there is a plan.
  *
- * Numbers from 9 on are coming: every number but PLANNER_ACCEPTED is a refusal, and a switch over them needs a default
+ * Numbers from 10 on are coming: every number but PLANNER_ACCEPTED is a refusal, and a switch over them needs a default
  * branch. */
 enum {
     PLANNER_ACCEPTED = 0,
@@ -41,7 +41,8 @@ enum {
     PLANNER_STEP = 5,    /* a step breaks a limit; there is a 1,025th step */
     PLANNER_NODE = 6,    /* an inner node breaks a limit; there is a 511th; the root is no node */
     PLANNER_SPACE = 7,   /* a work slice or the plan slice is too short */
-    PLANNER_NO_PLAN = 8  /* no legal plan exists */
+    PLANNER_NO_PLAN = 8, /* no legal plan exists */
+    PLANNER_LONG = 9     /* the file has more than PLANNER_LONGEST_FILE bytes */
 };
 
 /* Marks of a file. Where no field is at fault, file and place are 0. Marks from 3 on are coming with the numbers. */
@@ -50,6 +51,10 @@ enum {
     PLANNER_FILE_CHART = 1,
     PLANNER_FILE_RULES = 2
 };
+
+/* The bytes of the longest file that is taken: remarks, fields of a tag from 80 to FF (hexadecimal) after the head, leave
+ * room for text beside steps and nodes. */
+#define PLANNER_LONGEST_FILE 32768
 
 /* A cost slice's entry at a pair that is not reached. */
 #define PLANNER_UNREACHED ((uint32_t)4294967295u)
@@ -66,8 +71,8 @@ enum {
  */
 typedef struct planner_answer {
     size_t number; /* PLANNER_ACCEPTED or the cause, as the call returns it */
-    size_t file;   /* 1 to 6: the file at fault */
-    size_t place;  /* 1 to 6: the byte position of the faulty field's tag */
+    size_t file;   /* 1 to 6 and 9: the file at fault */
+    size_t place;  /* 1 to 6: the byte position of the faulty field's tag; 9: PLANNER_LONGEST_FILE */
     size_t cost;   /* the plan's cost in ns */
     size_t length; /* the plan's steps */
     size_t count;  /* sweep: reached pairs; guided search: settled pairs; also under 8 */
@@ -75,7 +80,7 @@ typedef struct planner_answer {
 
 /* The entries that the slices of any search need for two files. */
 typedef struct planner_space {
-    size_t number; /* PLANNER_ACCEPTED or 1 to 6 */
+    size_t number; /* PLANNER_ACCEPTED, 1 to 6 or 9 */
     size_t file;   /* as in an answer */
     size_t place;
     size_t work;   /* entries of each work slice: stage count x N; 0 where a file is refused */
@@ -99,7 +104,7 @@ uint32_t planner_space_needed(const uint8_t *chart, size_t chart_len,
  *   plan               space.plan
  *
  * All six entries of *answer are written; the number is returned. What the slices hold then:
- *   number        0                                  8                    1 to 7
+ *   number        0                                  8                    any other
  *   cost          first space.work entries: least    as under 0           as it was
  *                 cost by pair, or PLANNER_UNREACHED
  *   via, nodes    first space.work entries: free     as under 0           as they were
@@ -124,7 +129,7 @@ uint32_t planner_sweep(const uint8_t *chart, size_t chart_len,
  *   plan                               space.plan
  *
  * All six entries of *answer are written; the number is returned. What the slices hold then:
- *   number        0                                  8                    1 to 7
+ *   number        0                                  8                    any other
  *   log           first answer.count entries: the    as under 0           as it was
  *                 settled pairs in order
  *   keys .. stack first space.work entries: free     as under 0           as they were

@@ -17,7 +17,8 @@ from typing import NamedTuple
 
 ROOT = Path(__file__).resolve().parent.parent
 MOST_PAIRS = 4096  # the work that the program lends
-READ = 16384  # the bytes that it reads of a file
+LONGEST_FILE = 32768  # bytes; the program reads one more
+REMARK = 0x80  # the first tag of remarks
 
 
 # ---- the files: tagged fields
@@ -47,6 +48,10 @@ def node(at_step, lo, hi):
     return field(0x12, number(at_step) + number(lo) + number(hi))
 
 
+def remark(size=0, tag=REMARK):
+    return field(tag, bytes(size))
+
+
 HEAD = len(head(1, 0, 0))  # a chart's steps stand at places 9, 20, 31 .., a diagram's nodes at 5, 14, 23 ..
 
 
@@ -66,6 +71,26 @@ class Diagram(NamedTuple):
 
     def file(self):
         return root(self.root) + b"".join(node(*n) for n in self.nodes)
+
+
+class Noted(NamedTuple):
+    """A chart or a diagram whose file has remarks behind each field, and some more at its end."""
+    plain: Chart | Diagram
+    each: bytes = b""
+    last: bytes = b""
+
+    def file(self):
+        content, noted = self.plain.file(), b""
+        while content:
+            size = 3 + int.from_bytes(content[1:3], "little")
+            noted += content[:size] + self.each
+            content = content[size:]
+        return noted + self.last
+
+
+def filled(plain, size):
+    """A chart or a diagram in a file of so many bytes, with one remark at its end."""
+    return Noted(plain, last=remark(size - len(plain.file()) - 3))
 
 
 # ---- the rules of docs/REFERENCE.md
@@ -237,8 +262,9 @@ def bad_rules(fields, line, at=3):
 
 
 STEP_0, NODE_2 = step(0, 1, 40), node(2, 0, 1)
+LIKE_STEP, LIKE_NODE = bytes([0x82]) + STEP_0[1:], bytes([0x92]) + NODE_2[1:]  # remarks
 
-# each case: what it shows, the chart, the diagram, and the line of a refusal. A file is a Chart or a Diagram, bytes, None (missing) or "folder"
+# each case: what it shows, the chart, the diagram, and the line of a refusal. A file is a Chart or a Diagram, perhaps Noted, bytes, None (missing) or "folder"
 CASES = [
     ("the example's chart", EXAMPLE_CHART, EXAMPLE_RULES),
     ("the header of a step is cut", *bad_chart(STEP_0 + b"\x02\x08", "refused 1 file 1 place 20")),
@@ -277,7 +303,7 @@ CASES = [
     ("a step from an earlier stage", *bad_chart(step(1, 2, 40) + step(0, 1, 40), "refused 5 file 1 place 20")),
     ("1,024 steps pass", Chart(2, 0, 1, tuple((0, 1, 2000 - e) for e in range(1024))), ANYTHING),
     ("the 1,025th step, in a longer file", *bad_chart(STEP_0 * 1600, "refused 5 file 1 place 11273")),
-    ("a chart of 16,384 bytes", *bad_chart((STEP_0 * 1600)[:READ - HEAD], "refused 5 file 1 place 11273")),
+    ("a chart of 32,768 bytes, all steps", *bad_chart((STEP_0 * 3000)[:LONGEST_FILE - HEAD], "refused 5 file 1 place 11273")),
     ("a node whose step is not in the chart", *bad_rules(node(6, 0, 1), "refused 6 file 2 place 5")),
     ("a node that is its own lo", *bad_rules(NODE_2 + node(0, 3, 1), "refused 6 file 2 place 14")),
     ("a hi with the same step", *bad_rules(NODE_2 + node(2, 0, 2), "refused 6 file 2 place 14")),
@@ -294,6 +320,30 @@ CASES = [
     ("a goal pair whose node is inner", Chart(3, 0, 2, ((0, 2, 5), (1, 2, 1))), Diagram(2, ((1, 1, 0),))),
     ("the end before the start", Chart(2, 1, 0), ANYTHING),
     ("256 stages, 255 steps, N 16", line_chart(256, lambda s: 1000000), all_of([(e * 18, True) for e in range(14)])),
+    ("empty remarks behind all fields", Noted(EXAMPLE_CHART, remark()), Noted(EXAMPLE_RULES, remark())),
+    ("remarks of a byte behind all fields", Noted(EXAMPLE_CHART, remark(1, 0xFF)), Noted(EXAMPLE_RULES, remark(1, 0x80))),
+    ("remarks that look like steps and nodes", Noted(EXAMPLE_CHART, LIKE_STEP * 3), Noted(EXAMPLE_RULES, LIKE_NODE * 3)),
+    ("10,000 remarks", Noted(EXAMPLE_CHART, last=remark() * 10000), Noted(EXAMPLE_RULES, last=remark() * 10000)),
+    ("nothing but a head and the longest remark", filled(ONE_STAGE, LONGEST_FILE), filled(ANYTHING, LONGEST_FILE)),
+    ("the longest remark said to be a byte longer", head(1, 0, 0) + field(REMARK, bytes(32756), 32757), RULES, "refused 1 file 1 place 9"),
+    ("the same in the diagram", CHART, root(1) + field(REMARK, bytes(32760), 32761), "refused 1 file 2 place 5"),
+    ("a remark of 65,535 bytes", *bad_chart(field(REMARK, bytes(100), 65535), "refused 1 file 1 place 9")),
+    ("a remark before the chart's head", remark() + CHART, RULES, "refused 2 file 1 place 0"),
+    ("a remark before the diagram's head", CHART, remark(2) + RULES, "refused 2 file 2 place 0"),
+    ("tag 7F in the chart", *bad_chart(STEP_0 + remark(tag=0x7F), "refused 2 file 1 place 20")),
+    ("tag 7F in the diagram", *bad_rules(NODE_2 + remark(tag=0x7F), "refused 2 file 2 place 14")),
+    ("the header of a remark is cut", *bad_chart(remark(4) + b"\xC0\x00", "refused 1 file 1 place 16")),
+    ("the body of a remark is cut", *bad_rules(remark(4) + remark(4)[:-1], "refused 1 file 2 place 12")),
+    ("a remark gives the rule no seventh step", Noted(EXAMPLE_CHART, LIKE_STEP).file(), root(2) + node(6, 0, 1), "refused 6 file 2 place 5"),
+    ("the 1,025th step behind remarks", *bad_chart(STEP_0 * 1024 + remark(7) + STEP_0, "refused 5 file 1 place 11283")),
+    ("a chart of 32,768 bytes", filled(EXAMPLE_CHART, LONGEST_FILE), EXAMPLE_RULES),
+    ("a diagram of 32,768 bytes", EXAMPLE_CHART, filled(EXAMPLE_RULES, LONGEST_FILE)),
+    ("a chart of 32,769 bytes", filled(EXAMPLE_CHART, LONGEST_FILE + 1).file(), RULES, "refused 9 file 1 place 32768"),
+    ("a diagram of 32,769 bytes", CHART, filled(EXAMPLE_RULES, LONGEST_FILE + 1).file(), "refused 9 file 2 place 32768"),
+    ("both of 32,769 bytes, of other bytes", bytes(LONGEST_FILE + 1), bytes(LONGEST_FILE + 1), "refused 9 file 1 place 32768"),
+    ("a chart of 40,000 bytes, no stages", head(0, 0, 0) + bytes(39991), RULES, "refused 9 file 1 place 32768"),
+    ("32,768 bytes of 0", bytes(LONGEST_FILE), RULES, "refused 2 file 1 place 0"),
+    ("a faulty chart before a diagram of 40,000 bytes", head(5, 0, 4) + remark(tag=0x7F), bytes(40000), "refused 2 file 1 place 9"),
 ]
 
 # what docs/REFERENCE.md says of its example, by the case's title
@@ -307,7 +357,7 @@ STATED = {
 
 
 def expected(title, chart, rules, refusal=None):
-    lines = [refusal] if refusal else Planned(chart, rules).lines()
+    lines = [refusal] if refusal else Planned(getattr(chart, "plain", chart), getattr(rules, "plain", rules)).lines()
     assert lines == STATED.get(title, lines), (title, lines)
     return lines
 

@@ -14,10 +14,10 @@ import sys
 from typing import NamedTuple
 
 sys.dont_write_bytecode = True  # of the module beside this one
-from run_files import ROOT, Chart, Diagram, Planned
+from run_files import LONGEST_FILE, REMARK, ROOT, Chart, Diagram, Planned
 
 CRATE = ROOT / "crates/vectors"
-BUFFER = 12288  # the bytes of a file in the program
+BUFFER = 32784  # the bytes of a file in the program
 SCRIPT = 65536  # the bytes of a script
 MOST_WAYS = 20000  # charts with more ways are not enumerated
 NONE = 4294967295
@@ -40,7 +40,9 @@ def two(body, at):
 
 
 def bodies(content, file, kinds):
-    """The fields of a file as (place, body); `kinds` has tag and length of the head and of every later field."""
+    """The fields of a file as (place, body), remarks left out; `kinds` has tag and length of the head and of every later field."""
+    if len(content) > LONGEST_FILE:
+        raise Refused(9, file, LONGEST_FILE)
     if not content:
         raise Refused(2, file, 0)
     place = 0
@@ -49,14 +51,18 @@ def bodies(content, file, kinds):
         header = content[place:place + 3]
         if len(header) < 3:
             raise Refused(1, file, place)
-        if header[0] != tag:
+        remark = place > 0 and header[0] >= REMARK
+        if header[0] != tag and not remark:
             raise Refused(2, file, place)
+        if remark:
+            length = two(header, 1)
         if two(header, 1) != length:
             raise Refused(3, file, place)
         body = content[place + 3:place + 3 + length]
         if len(body) < length:
             raise Refused(1, file, place)
-        yield place, body
+        if not remark:
+            yield place, body
         place += 3 + length
 
 
@@ -266,7 +272,9 @@ def field(letter, a, b, c):
 
 def many(letter, count, b, c, d, e, f):
     for i in range(count):
-        if letter == "t":
+        if letter == "z":
+            yield bytes([b % 256]) + (c % 65536).to_bytes(2, "little") + bytes([d % 256]) * (c % 65536)
+        elif letter == "t":
             start = min(i // b, 254)
             yield field("s", start, min(start + c + d * (i % b), 255), (e + f * i) % 1000001)
         else:
@@ -301,7 +309,7 @@ class Player:
         elif letter in "wv":
             self.copy("file", {"w": "chart", "v": "rules"}[letter])
             self.sizes["file"] = 0
-        elif letter in "tm":
+        elif letter in "tmz":
             self.sizes["file"] = put(file, size, b"".join(many(letter, *numbers)))
         elif letter in "hsrn":
             self.sizes["file"] = put(file, size, field(letter, *numbers[:3]))

@@ -49,3 +49,7 @@ mod work;
 
 pub use refusal::{refused_field, File, Refusal};
 pub use work::{plan, space_needed, Plan, Work};
+
+/// The bytes of the longest file that is taken. Remarks, fields of a tag from 80 to FF (hexadecimal)
+/// after the head, leave room for text beside steps and nodes.
+pub const LONGEST_FILE: usize = 32_768;

@@ -25,7 +25,7 @@ impl File {
 }
 
 /// The cause of a refusal, with the place of the faulty field: the byte position of its tag. Later
-/// versions of the library add causes, with numbers from 9 on.
+/// versions of the library add causes, with numbers from 10 on.
 #[derive(Clone, Copy, Debug, PartialEq, Eq, Hash)]
 #[non_exhaustive]
 pub enum Refusal {
@@ -46,8 +46,10 @@ pub enum Refusal {
     /// 8: no legal plan. The count of the search: reached pairs of a sweep, settled ones of a
     /// guided search.
     NoPlan { count: usize },
-    /// A number that this crate has no name for, or one from 1 to 6 with a file mark that it has no
-    /// name for: the linked library is newer. The three entries are the answer's own.
+    /// 9: the file has more than [`LONGEST_FILE`](crate::LONGEST_FILE) bytes; that is the place.
+    Long { file: File, place: usize },
+    /// A number that this crate has no name for, or one of a file with a mark that it has no name
+    /// for: the linked library is newer. The three entries are the answer's own.
     Other { number: usize, file: usize, place: usize },
 }
 
@@ -65,6 +67,7 @@ impl Refusal {
             (6, Some(file)) => Refusal::Node { file, place },
             (7, _) => Refusal::Space,
             (8, _) => Refusal::NoPlan { count },
+            (9, Some(file)) => Refusal::Long { file, place },
             _ => Refusal::Other { number, file: mark, place },
         })
     }
@@ -75,7 +78,7 @@ impl Refusal {
         Refusal::of(&Answer { number, file, place, ..Answer::default() })
     }
 
-    /// The refusal's number: 1 to 8, or that of [`Refusal::Other`].
+    /// The refusal's number: 1 to 9, or that of [`Refusal::Other`].
     pub fn number(&self) -> usize {
         match *self {
             Refusal::Cut { .. } => 1,
@@ -86,6 +89,7 @@ impl Refusal {
             Refusal::Node { .. } => 6,
             Refusal::Space => 7,
             Refusal::NoPlan { .. } => 8,
+            Refusal::Long { .. } => 9,
             Refusal::Other { number, .. } => number,
         }
     }
@@ -99,13 +103,15 @@ impl Refusal {
             | Refusal::Length { file, place }
             | Refusal::Head { file, place }
             | Refusal::Step { file, place }
-            | Refusal::Node { file, place } => Some((file, place)),
+            | Refusal::Node { file, place }
+            | Refusal::Long { file, place } => Some((file, place)),
             Refusal::Other { file, place, .. } => File::of(file).map(|file| (file, place)),
             Refusal::Space | Refusal::NoPlan { .. } => None,
         }
     }
 
-    /// The faulty field's bytes, a part of the caller's own file; empty where there is none.
+    /// The faulty field's bytes, a part of the caller's own file; empty where there is none. Under 9
+    /// they begin at the first byte too many.
     pub fn field<'a>(&self, chart: &'a [u8], rules: &'a [u8]) -> &'a [u8] {
         match self.field_place() {
             Some((file, place)) => refused_field(chart, rules, file, place),

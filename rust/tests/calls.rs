@@ -1,7 +1,7 @@
 //! The wrapper's calls on the shipped example: plans, refusals, lent slices, kept work space.
 
 use planner::lent::{self, Answer, GuidedSlices, Space, SweepSlices, UNREACHED};
-use planner::{plan, refused_field, space_needed, File, Refusal, Work};
+use planner::{plan, refused_field, space_needed, File, Refusal, Work, LONGEST_FILE};
 
 /// A chart file: stage count, start, end, then from, to and cost of each step.
 fn chart_file(head: [u16; 3], steps: &[(u16, u16, u32)]) -> Vec<u8> {
@@ -49,7 +49,8 @@ fn every_refusal() {
     let bad_node = rules_file(2, &[[6, 0, 1]]);
     type Case<'a> = (&'a [u8], &'a [u8], Refusal, &'a [u8]);
     let no = rules_file(0, &[]);
-    let cases: [Case; 8] = [
+    let long = noted(&rules, LONGEST_FILE + 1);
+    let cases: [Case; 9] = [
         (&chart[..19], &rules, Refusal::Cut { file: File::Chart, place: 9 }, &chart[9..19]),
         (&[], &rules, Refusal::Tag { file: File::Chart, place: 0 }, &[]),
         (&chart, &rules[5..], Refusal::Tag { file: File::Rules, place: 0 }, &rules[5..14]),
@@ -58,15 +59,37 @@ fn every_refusal() {
         (&bad_step, &rules, Refusal::Step { file: File::Chart, place: 9 }, &bad_step[9..]),
         (&chart, &bad_node, Refusal::Node { file: File::Rules, place: 5 }, &bad_node[5..]),
         (&chart, &no, Refusal::NoPlan { count: 0 }, &[]),
+        (&chart, &long, Refusal::Long { file: File::Rules, place: LONGEST_FILE }, &[b'.']),
     ];
     for (chart, rules, refusal, field) in cases {
         assert_eq!(plan(chart, rules), Err(refusal));
         assert_eq!(refusal.field(chart, rules), field);
     }
     let numbers = cases.map(|case| case.2.number());
-    assert_eq!(numbers, [1, 2, 2, 3, 4, 5, 6, 8]);
+    assert_eq!(numbers, [1, 2, 2, 3, 4, 5, 6, 8, 9]);
     assert_eq!(cases[5].2.to_string(), "refused 5 file 1 place 9");
     assert_eq!(cases[7].2.to_string(), "refused 8 file 0 place 0");
+    assert_eq!(cases[8].2.to_string(), "refused 9 file 2 place 32768");
+}
+
+/// A file with a remark at its end that makes it so many bytes long.
+fn noted(file: &[u8], size: usize) -> Vec<u8> {
+    let body = size - file.len() - 3;
+    let mut noted = [file, &[0x80], &(body as u16).to_le_bytes()].concat();
+    noted.resize(size, b'.');
+    noted
+}
+
+#[test]
+fn remarks_change_nothing() {
+    let (chart, rules) = example();
+    let (noted_chart, noted_rules) = (noted(&chart, LONGEST_FILE), noted(&rules, 100));
+    assert_eq!(plan(&noted_chart, &noted_rules), plan(&chart, &rules));
+    assert_eq!(space_needed(&noted_chart, &noted_rules), space_needed(&chart, &rules));
+    let long = Refusal::Long { file: File::Chart, place: LONGEST_FILE };
+    assert_eq!(space_needed(&noted(&chart, LONGEST_FILE + 1), &[]).err(), Some(long));
+    let cut = Refusal::Cut { file: File::Chart, place: chart.len() };
+    assert_eq!(plan(&noted_chart[..LONGEST_FILE - 1], &rules), Err(cut));
 }
 
 /// The refusal of an answer with these entries.
@@ -87,6 +110,7 @@ fn names(refusal: Refusal) -> (&'static str, &'static str) {
         Refusal::Node { .. } => "node",
         Refusal::Space => "space",
         Refusal::NoPlan { .. } => "no plan",
+        Refusal::Long { .. } => "long",
         Refusal::Other { .. } => "other",
         _ => "newer",
     };
@@ -102,7 +126,7 @@ fn names(refusal: Refusal) -> (&'static str, &'static str) {
 #[test]
 fn each_number_has_its_own_refusal() {
     let expected = ["cut", "tag", "length", "head", "step", "node"];
-    for (number, name) in (1..).zip(expected) {
+    for (number, name) in (1..).zip(expected).chain([(9, "long")]) {
         for (file, file_name) in [(1, "chart"), (2, "rules")] {
             let refusal = refusal_of(number, file, 14).expect("a refusal");
             assert_eq!(refusal.number(), number);
@@ -121,7 +145,7 @@ fn each_number_has_its_own_refusal() {
 #[test]
 fn a_number_without_a_name_is_kept() {
     let (chart, rules) = example();
-    for number in [9, 10, 255, usize::MAX] {
+    for number in [10, 11, 255, usize::MAX] {
         let refusal = refusal_of(number, 2, 14).expect("a refusal");
         assert_eq!(refusal, Refusal::Other { number, file: 2, place: 14 });
         assert_eq!(refusal.number(), number);

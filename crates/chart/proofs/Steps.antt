@@ -4,17 +4,17 @@ use Prim.Native.Nat.{ℕ, _+_, _-_, _*_, _<_}
 use mathlib.Core.Path.{_≡_, refl, sym, _∙_, ap, subst}
 use mathlib.Core.Bool.{true, false}
 use mathlib.Core.List.{List, [], _∷_, _++_}
-use lib.ListN.{length, getD, length-append}
+use lib.ListN.{length, length-append}
 use lib.Seq.{getD-append-seam}
 use native.Mathlib.Omega.{arith}
 use mir.Val.{Fits}
 use mir.Syntax.{w64}
-use Rattle.definitions.specs.Fields.{part, only, fieldAt, stopped}
+use Rattle.definitions.specs.Fields.{part, only, stopped}
 use Rattle.definitions.specs.Charts.{ChartStep, noStep, stepFault, stepOf, lastFrom, stepFaultAfter, stepGrammar, scanSteps}
 use Rattle.definitions.specs.declared.Field.{Field}
 use Rattle.definitions.specs.declared.Field.the-variants.{Absent, Faulty, Whole}
 use Rattle.theory.specs.Basics.{true-not-false}
-use Rattle.fields.specs.Positions.{only-gives, body-less}
+use Rattle.fields.specs.Remarks.{nextField, next-less}
 use Rattle.fields.specs.Scans.{leftOf, left-less, reading-start, reading-done, reading-faulty, reading-bad, reading-step}
 use Rattle.chart_fields.specs.Bodies.{stepBody}
 use Rattle.chart_fields.specs.Ends.{endsOf}
@@ -65,7 +65,7 @@ steps-start s first stages packed = record {
 }
 
 -- the ways out of a turn from t
-module _ (s : List ℕ) (stages : ℕ) (t : StepsRead) (packed : List (List ℕ)) (f : Field) (given : f ≡ fieldAt s (t .place) (only 2 8)) where
+module _ (s : List ℕ) (stages : ℕ) (t : StepsRead) (packed : List (List ℕ)) (f : Field) (given : f ≡ nextField s (t .place) (only 2 8)) where
   -- the walk stops
   stops : (number place : ℕ) (x : StepsRead) → x ≡ record { number = number; place = place; steps = t .steps; last = 0; going = false }
       → ((first : ℕ) (packed₀ : List (List ℕ)) (sofar : SoFar s first stages packed₀ packed (t .place) (t .last) (t .steps)) → scanSteps s stages first ≡ stopped (sofar .before) number place)
@@ -84,29 +84,29 @@ module _ (s : List ℕ) (stages : ℕ) (t : StepsRead) (packed : List (List ℕ)
   take-done found x e =
       stops 0 0 x e (λ first packed₀ sofar. reading-done s (stepGrammar stages) first (t .place) (sofar .before) (sofar .reading) f given found)
 
-  pub take-faulty : (k : ℕ) → f ≡ Faulty k → (x : StepsRead) → x ≡ record { number = k; place = t .place; steps = t .steps; last = 0; going = false }
+  pub take-faulty : (k p : ℕ) → f ≡ Faulty k p → (x : StepsRead) → x ≡ record { number = k; place = p; steps = t .steps; last = 0; going = false }
       → Takes s stages t packed packed x
-  take-faulty k found x e =
-      stops k (t .place) x e (λ first packed₀ sofar. reading-faulty s (stepGrammar stages) first (t .place) (sofar .before) (sofar .reading) f given k found)
+  take-faulty k p found x e =
+      stops k p x e (λ first packed₀ sofar. reading-faulty s (stepGrammar stages) first (t .place) (sofar .before) (sofar .reading) f given k p found)
 
-  module _ (a e : ℕ) (found : f ≡ Whole a e) (v : ℕ) (judged : v ≡ stepFault stages (t .last) (t .steps) (part s a e)) where
+  module _ (p a e : ℕ) (found : f ≡ Whole p a e) (v : ℕ) (judged : v ≡ stepFault stages (t .last) (t .steps) (part s a e)) where
     same-fault : (first : ℕ) (packed₀ : List (List ℕ)) (sofar : SoFar s first stages packed₀ packed (t .place) (t .last) (t .steps))
         → v ≡ stepFaultAfter stages (sofar .before) (part s a e)
     same-fault first packed₀ sofar = rw (sofar .counted, sofar .latest) judged
 
-    pub take-bad : (v ≡ 0 → ⊥) → (x : StepsRead) → x ≡ record { number = v; place = t .place; steps = t .steps; last = 0; going = false } → Takes s stages t packed packed x
+    pub take-bad : (v ≡ 0 → ⊥) → (x : StepsRead) → x ≡ record { number = v; place = p; steps = t .steps; last = 0; going = false } → Takes s stages t packed packed x
     take-bad fails x q =
-        stops v (t .place) x q (λ first packed₀ sofar.
-        reading-bad s (stepGrammar stages) first (t .place) (sofar .before) (sofar .reading) f given a e found (only-gives 2 8 (getD s (t .place) 0)) v (same-fault first packed₀ sofar) fails)
+        stops v p x q (λ first packed₀ sofar.
+        reading-bad s (stepGrammar stages) first (t .place) (sofar .before) (sofar .reading) f given p a e found v (same-fault first packed₀ sofar) fails)
 
     pub take-step : v ≡ 0 → (x : StepBody) → x ≡ stepBody (part s a e) → (ends : ℕ) → ends ≡ endsOf (x .from) (x .to) → x .from < 65536
         → Takes s stages t packed (stored packed (t .steps) ends (x .cost)) (record { number = 0; place = e; steps = t .steps + 1; last = x .from; going = true })
     take-step passes x read ends packs small = rw read (record {
-      nearer = λ g. body-less s (t .place) 2 8 a e f given found;
+      nearer = λ g. next-less s (t .place) 2 8 p a e f given found;
       stands = λ first packed₀ sofar. record {
         goes = λ g. record {
           before = sofar .before ++ stepOf (part s a e) ∷ [];
-          reading = reading-step s (stepGrammar stages) first (t .place) (sofar .before) (sofar .reading) f given a e found (only-gives 2 8 (getD s (t .place) 0)) v (same-fault first packed₀ sofar) passes;
+          reading = reading-step s (stepGrammar stages) first (t .place) (sofar .before) (sofar .reading) f given p a e found v (same-fault first packed₀ sofar) passes;
           counted = omega (arith, length-append (sofar .before) (stepOf (part s a e) ∷ []), sofar .counted);
           latest = last-grown (sofar .before) (stepOf (part s a e));
           filled =

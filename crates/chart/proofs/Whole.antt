@@ -5,8 +5,8 @@ use mathlib.Core.Path.{_≡_}
 use mathlib.Core.List.{List}
 use borrow.Author.Tests.{eq-eqb, ne-eqb}
 use Rattle.definitions.specs.Basics.{pick}
-use Rattle.definitions.specs.Fields.{part, only, fieldAt, onField}
-use Rattle.definitions.specs.Charts.{headFault, badHead, withSteps, scanSteps, readChart}
+use Rattle.definitions.specs.Fields.{part, only, firstField, onField}
+use Rattle.definitions.specs.Charts.{headFault, chartRefused, withSteps, scanSteps, readChart}
 use Rattle.definitions.specs.declared.Field.{Field}
 use Rattle.definitions.specs.declared.Field.the-variants.{Absent, Faulty, Whole}
 use Rattle.chart_fields.specs.Bodies.{headBody}
@@ -18,44 +18,44 @@ use Rattle.chart.specs.declared.reader.ChartRead.{ChartRead}
 use Rattle.chart.specs.declared.reader.StepsRead.{StepsRead}
 
 -- no step passed, and the tables stay
-untouched : (s : List ℕ) (k : ℕ) (packed : List (List ℕ)) → readChart s ≡ badHead k → Room packed → Filled (readChart s .chart .steps) packed packed
-untouched s k packed p = rw p (nothing-filled packed)
+untouched : (s : List ℕ) (k p : ℕ) (packed : List (List ℕ)) → readChart s ≡ chartRefused k p → Room packed → Filled (readChart s .chart .steps) packed packed
+untouched s k p packed e = rw e (nothing-filled packed)
 
-module _ (s : List ℕ) (r : Field) (given : r ≡ fieldAt s 0 (only 1 6)) where
+module _ (s : List ℕ) (r : Field) (given : r ≡ firstField s (only 1 6)) where
   module _ (found : r ≡ Absent) where
-    empty : readChart s ≡ badHead 2
+    empty : readChart s ≡ chartRefused 2 0
     unfolding readChart onField
     empty = rw (← given, found)
 
-    pub chart-empty : (x : ChartRead) → x ≡ chartAnswer (badHead 2) → x ≡ chartAnswer (readChart s)
+    pub chart-empty : (x : ChartRead) → x ≡ chartAnswer (chartRefused 2 0) → x ≡ chartAnswer (readChart s)
     chart-empty x p = rw empty p
 
     pub chart-empty-filled : (packed : List (List ℕ)) → Room packed → Filled (readChart s .chart .steps) packed packed
-    chart-empty-filled packed = untouched s 2 packed empty
+    chart-empty-filled packed = untouched s 2 0 packed empty
 
-  module _ (k : ℕ) (found : r ≡ Faulty k) where
-    faulty : readChart s ≡ badHead k
+  module _ (k p : ℕ) (found : r ≡ Faulty k p) where
+    faulty : readChart s ≡ chartRefused k p
     unfolding readChart onField
     faulty = rw (← given, found)
 
-    pub chart-faulty : (x : ChartRead) → x ≡ chartAnswer (badHead k) → x ≡ chartAnswer (readChart s)
-    chart-faulty x p = rw faulty p
+    pub chart-faulty : (x : ChartRead) → x ≡ chartAnswer (chartRefused k p) → x ≡ chartAnswer (readChart s)
+    chart-faulty x e = rw faulty e
 
     pub chart-faulty-filled : (packed : List (List ℕ)) → Room packed → Filled (readChart s .chart .steps) packed packed
-    chart-faulty-filled packed = untouched s k packed faulty
+    chart-faulty-filled packed = untouched s k p packed faulty
 
-  module _ (a e : ℕ) (found : r ≡ Whole a e) where
+  module _ (p a e : ℕ) (found : r ≡ Whole p a e) where
     module _ (v : ℕ) (judged : v ≡ headFault (part s a e)) where
       module _ (fails : v ≡ 0 → ⊥) where
-        bad : readChart s ≡ badHead v
+        bad : readChart s ≡ chartRefused v p
         unfolding readChart onField pick
         bad = rw (← given, found, ← judged, ne-eqb v 0 fails)
 
-        pub chart-bad : (x : ChartRead) → x ≡ chartAnswer (badHead v) → x ≡ chartAnswer (readChart s)
-        chart-bad x p = rw bad p
+        pub chart-bad : (x : ChartRead) → x ≡ chartAnswer (chartRefused v p) → x ≡ chartAnswer (readChart s)
+        chart-bad x q = rw bad q
 
         pub chart-bad-filled : (packed : List (List ℕ)) → Room packed → Filled (readChart s .chart .steps) packed packed
-        chart-bad-filled packed = untouched s v packed bad
+        chart-bad-filled packed = untouched s v p packed bad
 
       module _ (passes : v ≡ 0) (h : HeadBody) (read : h ≡ headBody (part s a e)) where
         good : readChart s ≡ withSteps (part s a e) (scanSteps s (h .stages) e)

@@ -11,13 +11,13 @@ use native.Mathlib.Omega.{arith}
 use native.Mathlib.Decide.{decLt}
 use borrow.Author.Tests.{eqb-true, eqb-false}
 use Rattle.definitions.specs.Basics.{pick}
-use Rattle.definitions.specs.Fields.{two, part, only, fieldAt, onField}
-use Rattle.definitions.specs.Charts.{Chart, ChartStep, ChartRead, noStep, headFault, stepOf, lastFrom, stepFaultAfter, badHead, withSteps, stepGrammar, scanSteps, readChart}
+use Rattle.definitions.specs.Fields.{two, part, only, firstField, onField}
+use Rattle.definitions.specs.Charts.{Chart, ChartStep, ChartRead, noStep, headFault, stepOf, lastFrom, stepFaultAfter, chartRefused, withSteps, stepGrammar, scanSteps, readChart}
 use Rattle.theory.specs.Limits.{Small, Valid}
 use Rattle.definitions.specs.Plans.{graph}
 use Rattle.definitions.specs.declared.Field.{Field}
 use Rattle.definitions.specs.declared.Field.the-variants.{Absent, Faulty, Whole}
-use Rattle.fields.specs.Positions.{faulty-number}
+use Rattle.fields.specs.First.{first-number}
 use Rattle.fields.specs.Scans.{scan-keeps}
 use Rattle.chart.specs.Limits.{HeadFits, head-fits, StepFits, step-fits}
 
@@ -82,7 +82,7 @@ module _ (stages : ℕ) (l : List ChartStep) (b : List ℕ) (passes : 0 ≡ step
 -- the steps that passed keep the limits, also where a later field is refused
 scanned-fit : (s : List ℕ) (stages at : ℕ) → StepsFit stages (scanSteps s stages at .passed)
 scanned-fit s stages at =
-    scan-keeps s (stepGrammar stages) (StepsFit stages) (λ at a e l w o p old. steps-grown stages l (part s a e) (sym p) old) (length s) at []
+    scan-keeps s (stepGrammar stages) (StepsFit stages) (λ at q a e l w o p old. steps-grown stages l (part s a e) (sym p) old) (length s) at []
     (none-fit stages)
 
 -- a chart within its limits
@@ -106,24 +106,24 @@ chart-valid b l h f = (
 )
 
 -- by the test of the head's body
-head-passed : (b : List ℕ) (x : ChartRead) (t : Bool) → eqb (headFault b) 0 ≡ t → (HeadFits b → Within (x .chart))
-    → pick t x (badHead (headFault b)) .number ≡ 0 → Within (pick t x (badHead (headFault b)) .chart)
+head-passed : (b : List ℕ) (x : ChartRead) (q : ℕ) (t : Bool) → eqb (headFault b) 0 ≡ t → (HeadFits b → Within (x .chart))
+    → pick t x (chartRefused (headFault b) q) .number ≡ 0 → Within (pick t x (chartRefused (headFault b) q) .chart)
 unfolding pick
-head-passed b x true t k p = k (head-fits b (sym (eqb-true (headFault b) 0 t)))
-head-passed b x false t k p = absurd (eqb-false (headFault b) 0 t p)
+head-passed b x q true t k p = k (head-fits b (sym (eqb-true (headFault b) 0 t)))
+head-passed b x q false t k p = absurd (eqb-false (headFault b) 0 t p)
 
 pub chart-accepted : (s : List ℕ) → readChart s .number ≡ 0 → Within (readChart s .chart)
 unfolding readChart onField
-chart-accepted s = go (fieldAt s 0 (only 1 6)) refl
+chart-accepted s = go (firstField s (only 1 6)) refl
   where
-    found : ℕ → ℕ → ChartRead
-    found a e =
+    found : ℕ → ℕ → ℕ → ChartRead
+    found q a e =
         let b = part s a e in
-        pick (eqb (headFault b) 0) (withSteps b (scanSteps s (two b 0) e)) (badHead (headFault b))
+        pick (eqb (headFault b) 0) (withSteps b (scanSteps s (two b 0) e)) (chartRefused (headFault b) q)
 
-    go : (r : Field) → r ≡ fieldAt s 0 (only 1 6) → onField r (badHead 2) badHead found .number ≡ 0 → Within (onField r (badHead 2) badHead found .chart)
+    go : (r : Field) → r ≡ firstField s (only 1 6) → onField r (chartRefused 2 0) chartRefused found .number ≡ 0 → Within (onField r (chartRefused 2 0) chartRefused found .chart)
     go Absent g p = absurd (omega arith)
-    go (Faulty k) g p = absurd (omega (arith, faulty-number s 0 (only 1 6) k g))
-    go (Whole a e) g p =
-        head-passed (part s a e) (withSteps (part s a e) (scanSteps s (two (part s a e) 0) e)) (eqb (headFault (part s a e)) 0) refl
+    go (Faulty k q) g p = absurd (omega (arith, first-number s (only 1 6) k q g))
+    go (Whole q a e) g p =
+        head-passed (part s a e) (withSteps (part s a e) (scanSteps s (two (part s a e) 0) e)) q (eqb (headFault (part s a e)) 0) refl
         (λ h. chart-valid (part s a e) (scanSteps s (two (part s a e) 0) e .passed) h (scanned-fit s (two (part s a e) 0) e)) p

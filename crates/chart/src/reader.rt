@@ -1,8 +1,9 @@
 // The reader of the chart file: its steps go into a table with two columns.
 ghost use mathlib.Core.Path.{_≡_};
 ghost use mathlib.Core.Bool.{true, false};
-ghost use Rattle.definitions.specs.Fields.{only, fieldAt};
-ghost use Rattle.definitions.specs.Charts.{badHead, readChart};
+ghost use Rattle.definitions.specs.Fields.{only};
+ghost use Rattle.definitions.specs.Charts.{chartRefused, readChart};
+ghost use Rattle.fields.specs.Remarks.{nextField};
 ghost use Rattle.chart.specs.Tables.{Room, Filled, chartAnswer};
 ghost use Rattle.chart.specs.Turns.{Over, Takes};
 use chart_fields::COST;
@@ -14,7 +15,7 @@ use chart_fields::step_fault;
 use chart_fields::step_of;
 use definitions::Field;
 use definitions::Stage;
-use fields::field_at;
+use fields::first_field;
 use fields::reader::moved;
 use fields::reader::new;
 use fields::reader::next;
@@ -23,7 +24,7 @@ use fields::reader::next;
 pub struct StepsRead {
     // the refusal's number, 0 where there is none
     pub number: u8,
-    // where the next field is due; once the walk is over, the refusal's place, 0 where there is none
+    // from where on the next field is looked for; once the walk is over, the refusal's place, 0 where there is none
     pub place: usize,
     // how many steps passed
     pub steps: usize,
@@ -45,7 +46,7 @@ fn stopped(steps: usize, number: u8, place: usize) -> StepsRead
     }
 }
 
-// One turn of the walk: what was found at its place is taken, a step into the table.
+// One turn of the walk: the next field is taken, a step into the table.
 fn take_step(
     file: &[u8],
     found: Field,
@@ -53,19 +54,18 @@ fn take_step(
     stages: u16,
     steps: &mut [[u32; 1024]; 2],
 ) -> StepsRead
-    requires { ⌜ found ≡ fieldAt (now file) (read .place) (only 2 8) ⌝ }
+    requires { ⌜ found ≡ nextField (now file) (read .place) (only 2 8) ⌝ }
     ensures { λ r. ⌜ Takes (now (file .entry)) stages read (now (steps .entry)) (now (steps .exit)) r ⌝ }
 {
     let count = read.steps;
-    let at = read.place;
     match found {
         Field::Absent => stopped(count, 0, 0),
-        Field::Faulty(number) => stopped(count, number, at),
-        Field::Whole { start, end } => {
+        Field::Faulty { number, place } => stopped(count, number, place),
+        Field::Whole { place, start, end } => {
             let body = &file[start..end];
             let fault = step_fault(body, stages, read.last, count);
             if fault != 0 {
-                return stopped(count, fault, at);
+                return stopped(count, fault, place);
             }
             let step = step_of(body);
             let ends = ends_of(Stage(step.from), Stage(step.to));
@@ -122,14 +122,14 @@ pub fn read_chart(file: &[u8], steps: &mut [[u32; 1024]; 2]) -> ChartRead
         Room (now (steps .entry)) → Filled (read .chart .steps) (now (steps .entry)) (now (steps .exit)))
         ⌝ }
 {
-    match field_at(file, 0, 1, 6) {
-        Field::Absent => bad_head(2),
-        Field::Faulty(number) => bad_head(number),
-        Field::Whole { start, end } => {
+    match first_field(file, 1, 6) {
+        Field::Absent => refused(2, 0),
+        Field::Faulty { number, place } => refused(number, place),
+        Field::Whole { place, start, end } => {
             let body = &file[start..end];
             let fault = head_fault(body);
             if fault != 0 {
-                return bad_head(fault);
+                return refused(fault, place);
             }
             let head = head_of(body);
             let read = read_steps(file, end, head.stages, steps);
@@ -145,13 +145,13 @@ pub fn read_chart(file: &[u8], steps: &mut [[u32; 1024]; 2]) -> ChartRead
     }
 }
 
-// The answer to a faulty head.
-fn bad_head(number: u8) -> ChartRead
-    ensures { λ r. ⌜ r ≡ chartAnswer (badHead number) ⌝ }
+// The answer where no head passed.
+fn refused(number: u8, place: usize) -> ChartRead
+    ensures { λ r. ⌜ r ≡ chartAnswer (chartRefused number place) ⌝ }
 {
     ChartRead {
         number,
-        place: 0,
+        place,
         stages: 0,
         start: 0,
         end: 0,

@@ -15,12 +15,12 @@ fn read_file(path: &[u8], buf: &mut [u8]) -> usize
     n
 }
 
-// Reads the first 16,384 bytes of both files (one that is missing or can't be read counts as empty), and writes the
-// program's text to standard output. The text has at most 2,879 bytes, so the buffer holds it whole. Where it can't be
-// written whole, a line on standard error says so.
+// Reads the first 32,769 bytes of both files, one more than the longest that is taken (one that is missing or can't be read
+// counts as empty), and writes the program's text to standard output. The text has at most 2,879 bytes, so the buffer
+// holds it whole. Where it can't be written whole, a line on standard error says so.
 pub fn run(chart: &[u8], rules: &[u8]) {
-    let mut chart_bytes = [0u8; 16384];
-    let mut rules_bytes = [0u8; 16384];
+    let mut chart_bytes = [0u8; 32769];
+    let mut rules_bytes = [0u8; 32769];
     let mut out = [0u8; 4096];
     let chart_length = read_file(chart, &mut chart_bytes);
     let rules_length = read_file(rules, &mut rules_bytes);

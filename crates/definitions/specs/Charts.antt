@@ -6,7 +6,7 @@ use mathlib.Core.List.{List, []}
 use lib.Dec.{leb, ltb, eqb}
 use lib.ListN.{length, getD}
 use Rattle.definitions.specs.Basics.{pick}
-use Rattle.definitions.specs.Fields.{two, four, part, only, fieldAt, onField, Grammar, Scan, scan}
+use Rattle.definitions.specs.Fields.{two, four, part, only, firstField, onField, Grammar, Scan, scan}
 
 -- a step (an edge)
 pub record ChartStep : Type 0 where
@@ -66,8 +66,8 @@ pub record ChartRead : Type 0 where
 abbrev pub noChart : Chart
 noChart = record { stages = 0; start = 0; end = 0; steps = [] }
 
-abbrev pub badHead : ℕ → ChartRead
-badHead number = record { number = number; place = 0; chart = noChart }
+abbrev pub chartRefused : ℕ → ℕ → ChartRead
+chartRefused number place = record { number = number; place = place; chart = noChart }
 
 abbrev pub withSteps : List ℕ → Scan ChartStep → ChartRead
 withSteps b x = record { number = x .number; place = x .place; chart = headOf b (x .passed) }
@@ -83,8 +83,8 @@ scanSteps s stages at = scan s (stepGrammar stages) (length s) at []
 -- the head first, once; then steps to the file's end. An empty file is 2 at place 0
 unfoldable pub readChart : List ℕ → ChartRead
 readChart s =
-    onField (fieldAt s 0 (only 1 6)) (badHead 2) badHead
-    (λ start end.
+    onField (firstField s (only 1 6)) (chartRefused 2 0) chartRefused
+    (λ place start end.
     let b = part s start end in
     let whole = withSteps b (scanSteps s (two b 0) end) in
-    pick (eqb (headFault b) 0) whole (badHead (headFault b)))
+    pick (eqb (headFault b) 0) whole (chartRefused (headFault b) place))

@@ -6,7 +6,7 @@ use mathlib.Core.List.{List, [], _∷_, _++_}
 use mathlib.Core.Option.{Option, none, some}
 use lib.ListN.{take}
 use Rattle.definitions.specs.Basics.{pick, smaller, larger, sumOf}
-use Rattle.definitions.specs.Fields.{only, fieldAt, onField, scan}
+use Rattle.definitions.specs.Fields.{only, orRemark, fieldAt, firstField, onField, scan}
 use Rattle.definitions.specs.Charts.{headFault, stepFault, readChart}
 use Rattle.definitions.specs.Diagrams.{nodeFault, readDiagram}
 use Rattle.definitions.specs.Bytes.{chartBytes, diagramBytes}
@@ -47,7 +47,7 @@ heads =
     ∷ []
 
 pub heads-hold : heads ≡ (1 ∷ 0 ∷ []) ∷ (2 ∷ 0 ∷ []) ∷ (3 ∷ 0 ∷ []) ∷ (1 ∷ 0 ∷ []) ∷ (2 ∷ 0 ∷ []) ∷ (2 ∷ 5 ∷ []) ∷ []
-unfolding heads pick only fieldAt onField scan nodeFault readDiagram
+unfolding heads pick only orRemark fieldAt firstField onField scan nodeFault readDiagram
 heads-hold = refl
 
 -- number, file and place: the chart's second step cut, the diagram's second node cut, its second node beyond a limit; a faulty chart before a faulty diagram
@@ -60,7 +60,7 @@ places =
     ∷ []
 
 pub places-hold : places ≡ (1 ∷ 1 ∷ 20 ∷ []) ∷ (1 ∷ 2 ∷ 14 ∷ []) ∷ (6 ∷ 2 ∷ 14 ∷ []) ∷ (1 ∷ 1 ∷ 20 ∷ []) ∷ []
-unfolding places pick only fieldAt onField scan headFault stepFault readChart nodeFault readDiagram readFiles load
+unfolding places pick only orRemark fieldAt firstField onField scan headFault stepFault readChart nodeFault readDiagram readFiles load
 places-hold = refl
 
 -- a child that is the node itself, at lo and at hi; a child that does not test a later step, and one that does; a third step that leaves a stage below the second's
@@ -74,5 +74,5 @@ neighbours =
     ∷ []
 
 pub neighbours-hold : neighbours ≡ (6 ∷ 5 ∷ []) ∷ (6 ∷ 5 ∷ []) ∷ (6 ∷ 23 ∷ []) ∷ (0 ∷ 0 ∷ []) ∷ (5 ∷ 31 ∷ []) ∷ []
-unfolding neighbours pick only fieldAt onField scan headFault stepFault readChart nodeFault readDiagram
+unfolding neighbours pick only orRemark fieldAt firstField onField scan headFault stepFault readChart nodeFault readDiagram
 neighbours-hold = refl

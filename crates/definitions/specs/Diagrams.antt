@@ -6,7 +6,7 @@ use mathlib.Core.List.{List, []}
 use lib.Dec.{leb, ltb, eqb}
 use lib.ListN.{length, getD}
 use Rattle.definitions.specs.Basics.{pick}
-use Rattle.definitions.specs.Fields.{two, part, only, fieldAt, onField, Grammar, Scan, scan}
+use Rattle.definitions.specs.Fields.{two, part, only, firstField, onField, Grammar, Scan, scan}
 
 -- an inner node
 pub record InnerNode : Type 0 where
@@ -61,6 +61,9 @@ pub record DiagramRead : Type 0 where
 abbrev pub diagramRead : ℕ → ℕ → ℕ → List InnerNode → DiagramRead
 diagramRead number place root nodes = record { number = number; place = place; diagram = record { root = root; nodes = nodes } }
 
+abbrev pub diagramRefused : ℕ → ℕ → DiagramRead
+diagramRefused number place = diagramRead number place 0 []
+
 -- the root comes after all nodes: 6 at place 0 where it is not below N
 abbrev pub withNodes : ℕ → Scan InnerNode → DiagramRead
 withNodes root x =
@@ -79,8 +82,8 @@ scanNodes s steps at = scan s (nodeGrammar steps) (length s) at []
 -- the head first, once; then nodes to the file's end. An empty file is 2 at place 0
 unfoldable pub readDiagram : List ℕ → ℕ → DiagramRead
 readDiagram s steps =
-    onField (fieldAt s 0 (only 17 2)) (diagramRead 2 0 0 []) (λ number. diagramRead number 0 0 [])
-    (λ start end. withNodes (two (part s start end) 0) (scanNodes s steps end))
+    onField (firstField s (only 17 2)) (diagramRefused 2 0) diagramRefused
+    (λ place start end. withNodes (two (part s start end) 0) (scanNodes s steps end))
 
 -- ---- the walk
 

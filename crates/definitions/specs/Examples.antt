@@ -7,7 +7,7 @@ use mathlib.Core.List.{List, [], _∷_, _++_, map}
 use lib.Dec.{leb, eqb}
 use lib.ListN.{length, getD, take}
 use Rattle.definitions.specs.Basics.{pick, each}
-use Rattle.definitions.specs.Fields.{Kind, foreign, exactly, atLeast, passedOver, only, fieldAt, onField, Grammar, scan, fieldBytes, refusedField}
+use Rattle.definitions.specs.Fields.{Kind, foreign, exactly, atLeast, only, orRemark, fieldAt, firstField, onField, Grammar, scan, fieldBytes, refusedField}
 use Rattle.definitions.specs.Charts.{ChartStep, headFault, stepFault, readChart}
 use Rattle.definitions.specs.Diagrams.{Diagram, InnerNode, nodeFault, readDiagram}
 use Rattle.definitions.specs.Bytes.{headBytes, stepBytes, chartBytes, diagramBytes}
@@ -32,11 +32,11 @@ loadRefusal (ready c d) = []
 loadRefusal (refused number file place) = number ∷ file ∷ place ∷ []
 
 pub whole-chart : readChart (chartBytes chart) ≡ record { number = 0; place = 0; chart = chart }
-unfolding pick only fieldAt onField scan headFault stepFault readChart
+unfolding pick only orRemark fieldAt firstField onField scan headFault stepFault readChart
 whole-chart = refl
 
 pub whole-diagram : readDiagram (diagramBytes rules) 6 ≡ record { number = 0; place = 0; diagram = rules }
-unfolding pick only fieldAt onField scan nodeFault readDiagram
+unfolding pick only orRemark fieldAt firstField onField scan nodeFault readDiagram
 whole-diagram = refl
 
 pub computed : List (List ℕ)
@@ -98,7 +98,7 @@ expected =
     ∷ []
 
 pub refusals-hold : computed ≡ expected
-unfolding computed expected pick only fieldAt onField scan headFault stepFault readChart nodeFault readDiagram fieldBytes refusedField
+unfolding computed expected pick only orRemark fieldAt firstField onField scan headFault stepFault readChart nodeFault readDiagram fieldBytes refusedField
 refusals-hold = refl
 
 -- the space: 5 × 4 entries for each work slice and 4 for the plan
@@ -112,17 +112,16 @@ loads =
     ∷ []
 
 pub loads-hold : loads ≡ [] ∷ (7 ∷ 0 ∷ 0 ∷ []) ∷ (7 ∷ 0 ∷ 0 ∷ []) ∷ (6 ∷ 2 ∷ 0 ∷ []) ∷ (1 ∷ 1 ∷ 0 ∷ []) ∷ []
-unfolding loads pick only fieldAt onField scan headFault stepFault readChart nodeFault readDiagram readFiles load
+unfolding loads pick only orRemark fieldAt firstField onField scan headFault stepFault readChart nodeFault readDiagram readFiles load
 loads-hold = refl
 
--- ---- each kind of field. Of a small file: tags from 128 on are passed over; 34 has at least 4 bytes, and an even number of them; another tag has as many
--- bytes as its number says, and the first such field fixes which one it is. A body may not begin with 0 (6)
+-- ---- each kind of field. Of a small file, remarks aside: 34 has at least 4 bytes, and an even number of them; another tag has as many bytes as its number
+-- says, and the first such field fixes which one it is. A body may not begin with 0 (6)
 abbrev smallKind : List (List ℕ) → ℕ → Kind
 smallKind before tag =
-    pick (leb 128 tag) passedOver
-    (pick (eqb tag 34) (atLeast 4)
+    pick (eqb tag 34) (atLeast 4)
     (pick (eqb tag (getD (getD before 0 (tag ∷ [])) 0 0)) (exactly tag)
-    foreign))
+    foreign)
 
 abbrev smallFault : ℕ → List ℕ → ℕ
 smallFault tag body = pick (eqb (getD body 0 0) 0) 6 (pick (eqb tag 34 && eqb (length body % 2) 1) 3 0)
@@ -153,7 +152,7 @@ smallFiles =
     ∷ (34 ∷ 5 ∷ 0 ∷ 5 ∷ [], 1 ∷ 0 ∷ [])
     ∷ (34 ∷ 5 ∷ 0 ∷ 0 ∷ 6 ∷ 7 ∷ 8 ∷ 9 ∷ [], 6 ∷ 0 ∷ [])
     ∷ (34 ∷ 5 ∷ 0 ∷ 5 ∷ 6 ∷ 7 ∷ 8 ∷ 9 ∷ [], 3 ∷ 0 ∷ [])
-    -- passed over: any length, no element, the content is not looked at; a cut header and a cut body
+    -- remarks: any length, no element, the content is not looked at; a cut header and a cut body
     ∷ (128 ∷ 0 ∷ 0 ∷ 255 ∷ 2 ∷ 0 ∷ 0 ∷ 7 ∷ 1 ∷ 1 ∷ 0 ∷ 9 ∷ 200 ∷ 1 ∷ 0 ∷ 7 ∷ [], 0 ∷ 0 ∷ 1 ∷ 9 ∷ [])
     ∷ (200 ∷ 1 ∷ 0 ∷ 7 ∷ 1 ∷ 1 ∷ 0 ∷ 0 ∷ [], 6 ∷ 4 ∷ [])
     ∷ (1 ∷ 1 ∷ 0 ∷ 9 ∷ 200 ∷ 2 ∷ [], 1 ∷ 4 ∷ 1 ∷ 9 ∷ [])
@@ -161,11 +160,11 @@ smallFiles =
     ∷ []
 
 pub small-files-hold : map (λ x. smallRead (x .0)) smallFiles ≡ map (λ x. x .1) smallFiles
-unfolding smallFiles pick only fieldAt onField scan
+unfolding smallFiles pick only orRemark fieldAt firstField onField scan
 small-files-hold = refl
 
--- and what it does not read as: an element of a field that is passed over, a second kind let through, the body's cut before the length, the length before
--- the content, 1 for a field that ends with the file, a place without the fields passed over
+-- and what it does not read as: an element of a remark, a second kind let through, the body's cut before the length, the length before the content, 1 for a
+-- remark that ends with the file, a place without the remarks before it
 pub smallMistakes : List (List ℕ × List ℕ)
 smallMistakes =
     (200 ∷ 1 ∷ 0 ∷ 7 ∷ [], 0 ∷ 0 ∷ 200 ∷ 7 ∷ [])
@@ -176,12 +175,12 @@ smallMistakes =
     ∷ (200 ∷ 1 ∷ 0 ∷ 7 ∷ 1 ∷ 1 ∷ 0 ∷ 0 ∷ [], 6 ∷ 0 ∷ [])
     ∷ []
 
-abbrev alike : List ℕ → List ℕ → Bool
+abbrev pub alike : List ℕ → List ℕ → Bool
 alike [] [] = true
 alike [] (y ∷ ys) = false
 alike (x ∷ xs) [] = false
 alike (x ∷ xs) (y ∷ ys) = eqb x y && alike xs ys
 
 pub small-mistakes-refuted : map (λ x. alike (smallRead (x .0)) (x .1)) smallMistakes ≡ map (λ x. false) smallMistakes
-unfolding smallMistakes pick only fieldAt onField scan
+unfolding smallMistakes pick only orRemark fieldAt firstField onField scan
 small-mistakes-refuted = refl

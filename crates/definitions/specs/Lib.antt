@@ -13,4 +13,5 @@ pub mod Marked
 pub mod Logs
 pub mod Slices
 pub mod Corners
+pub mod Remarks
 pub mod Calls

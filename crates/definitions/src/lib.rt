@@ -25,14 +25,18 @@ pub struct Shape {
 // every cost.
 pub const NONE: u32 = 4294967295;
 
-// What stands at a place of a file where a field of some tag and length is due.
+// What stands in a file where a field of some tag and length is due.
 pub enum Field {
-    // The file ends at this place.
+    // The file ends here.
     Absent,
-    // The refusal's number.
-    Faulty(u8),
-    // The field is whole: where its body starts, and where it ends and the next field is due.
-    Whole { start: usize, end: usize },
+    // The refusal's number and place.
+    Faulty { number: u8, place: usize },
+    // The field is whole: the place of its tag, where its body starts, and where it ends and the next field is due.
+    Whole {
+        place: usize,
+        start: usize,
+        end: usize,
+    },
 }
 
 // What a search answers.

@@ -19,7 +19,7 @@ use Rattle.theory.specs.Least.{IsLeast}
 use Rattle.checks.specs.Outcome.{refused-not-ready}
 use Rattle.theory.specs.Plans.{LegalCost, cheapest-least}
 use Rattle.demands.specs.Demands.{Call, Passes, Refusal, Demand1, Given, NoPlan, Demand2, Cheapest, Searched}
-use Rattle.demands.specs.Numbers.{chart-few, rules-few}
+use Rattle.demands.specs.Numbers.{chart-own, rules-own}
 use Rattle.demands.specs.Checked.{loadOf, Judged, chart-bad, rules-bad, too-short, all-pass, judged, ready-passes, valid, held-alike}
 use Rattle.demands.specs.Results.{Promised}
 
@@ -51,10 +51,10 @@ cut n entries slice slice′ q l e = record {
 module _ (chart rules : List ℕ) (x : Call) (one : Demand1 chart rules x) (two : Demand2 chart rules x) where
   -- ---- refused by a check
 
-  stops : (n f p : ℕ) → Refusal n f p 0 (x .answer) → (n ≡ 0 → ⊥) → n ≤ 7 → Promised (refused n f p) x
-  stops n f p t z l =
+  stops : (n f p : ℕ) → Refusal n f p 0 (x .answer) → (n ≡ 0 → ⊥) → (n ≡ 8 → ⊥) → Promised (refused n f p) x
+  stops n f p t z own =
       let some-number : x .answer .number ≡ 0 → ⊥ = λ q. z (sym (t .number) ∙ q) in
-      let not-eight : x .answer .number ≡ 8 → ⊥ = λ q. omega (arith, t .number) in
+      let not-eight : x .answer .number ≡ 8 → ⊥ = λ q. own (sym (t .number) ∙ q) in
       (is-refusal n f p 0 (x .answer) t, one .plan-stays some-number, one .works-stay some-number not-eight)
 
   pub stopped : (n f p : ℕ) → loadOf chart rules x ≡ refused n f p → Promised (refused n f p) x
@@ -64,9 +64,9 @@ module _ (chart rules : List ℕ) (x : Call) (one : Demand1 chart rules x) (two 
       by o u t = subst (λ (o : Load). Promised o x) (sym u ∙ e) t
 
       go : Judged chart rules x → Promised (refused n f p) x
-      go (chart-bad h u) = by _ u (stops _ _ _ (one .chart-refused h) h (omega (arith, chart-few chart)))
-      go (rules-bad h i u) = by _ u (stops _ _ _ (one .rules-refused h i) i (omega (arith, rules-few rules (length (readChart chart .chart .steps)))))
-      go (too-short h i u) = by _ u (stops 7 0 0 (one .space-refused _ _ h i) (λ q. omega arith) (omega arith))
+      go (chart-bad h u) = by _ u (stops _ _ _ (one .chart-refused h) h (chart-own chart))
+      go (rules-bad h i u) = by _ u (stops _ _ _ (one .rules-refused h i) i (rules-own rules (length (readChart chart .chart .steps))))
+      go (too-short h i u) = by _ u (stops 7 0 0 (one .space-refused _ _ h i) (λ q. omega arith) (λ q. omega arith))
       go (all-pass a u) = absurd (refused-not-ready n f p _ _ (sym e ∙ u))
 
   -- every work slice, by the outcome of the checks

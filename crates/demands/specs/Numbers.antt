@@ -1,120 +1,123 @@
--- The numbers that the readers refuse a file with are 1 to 6: never 7 or 8.
+-- No file is refused with 8: that number is left for a search without a plan.
 -- Assumes nothing.
-use Prim.Native.Nat.{ℕ, zero, suc, _+_, _-_, _≤_}
+use Prim.Native.Nat.{ℕ, zero, suc, _+_, _-_}
 use mathlib.Core.Bool.{not}
+use mathlib.Core.Path.{_≡_}
 use mathlib.Core.List.{List, [], _∷_, _++_}
 use native.Mathlib.Omega.{arith}
 use lib.Dec.{leb, eqb}
 use lib.ListN.{length, getD}
 use Rattle.definitions.specs.Basics.{pick}
-use Rattle.definitions.specs.Fields.{two, part, Kind, isPassedOver, only, fieldAt, onField, Grammar, Scan, stopped, scan}
-use Rattle.definitions.specs.Charts.{ChartRead, headFault, stepFault, lastFrom, badHead, withSteps, stepGrammar, scanSteps, readChart}
-use Rattle.definitions.specs.Diagrams.{InnerNode, noNode, nodeFault, DiagramRead, diagramRead, withNodes, nodeGrammar, scanNodes, readDiagram}
+use Rattle.definitions.specs.Fields.{two, part, Kind, isRemark, only, orRemark, fieldAt, firstField, onField, Grammar, Scan, stopped, scan}
+use Rattle.definitions.specs.Charts.{ChartRead, headFault, stepFault, lastFrom, chartRefused, withSteps, stepGrammar, scanSteps, readChart}
+use Rattle.definitions.specs.Diagrams.{InnerNode, noNode, nodeFault, DiagramRead, diagramRefused, withNodes, nodeGrammar, scanNodes, readDiagram}
 use Rattle.definitions.specs.declared.Field.{Field}
 use Rattle.definitions.specs.declared.Field.the-variants.{Absent, Faulty, Whole}
 use Rattle.theory.specs.Choices.{both}
 
--- a number of a refused file, or 0
-abbrev Few : ℕ → Type 0
-Few n = n ≤ 6
+-- a number that a file may be refused with, or 0
+abbrev Own : ℕ → Type 0
+Own n = n ≡ 8 → ⊥
 
-abbrev FewField : Field → Type 0
-FewField Absent = Unit {0}
-FewField (Faulty number) = Few number
-FewField (Whole start end) = Unit {0}
+abbrev OwnField : Field → Type 0
+OwnField Absent = Unit {0}
+OwnField (Faulty number place) = Own number
+OwnField (Whole place start end) = Unit {0}
 
-field-few : (s : List ℕ) (at : ℕ) (kind : ℕ → Kind) → FewField (fieldAt s at kind)
+field-own : (s : List ℕ) (at : ℕ) (kind : ℕ → Kind) → OwnField (fieldAt s at kind)
 unfolding fieldAt
-field-few s at kind =
-    both FewField _ tt
-    (both FewField _ (omega arith)
-    (both FewField _ (omega arith)
-    (both FewField _ (omega arith)
-    (both FewField _ (omega arith) tt))))
+field-own s at kind =
+    both OwnField _ tt
+    (both OwnField _ (λ e. omega arith)
+    (both OwnField _ (λ e. omega arith)
+    (both OwnField _ (λ e. omega arith)
+    (both OwnField _ (λ e. omega arith) tt))))
 
-head-few : (b : List ℕ) → Few (headFault b)
+first-own : (s : List ℕ) (kind : ℕ → Kind) → OwnField (firstField s kind)
+unfolding firstField
+first-own s kind = both OwnField _ (λ e. omega arith) (field-own s 0 kind)
+
+head-own : (b : List ℕ) → Own (headFault b)
 unfolding headFault
-head-few b =
-    both Few _ (omega arith)
-    (both Few _ (omega arith)
-    (both Few _ (omega arith)
-    (both Few _ (omega arith) (omega arith))))
+head-own b =
+    both Own _ (λ e. omega arith)
+    (both Own _ (λ e. omega arith)
+    (both Own _ (λ e. omega arith)
+    (both Own _ (λ e. omega arith) (λ e. omega arith))))
 
-step-few : (stages last count : ℕ) (b : List ℕ) → Few (stepFault stages last count b)
+step-own : (stages last count : ℕ) (b : List ℕ) → Own (stepFault stages last count b)
 unfolding stepFault
-step-few stages last count b =
-    both Few _ (omega arith)
-    (both Few _ (omega arith)
-    (both Few _ (omega arith)
-    (both Few _ (omega arith)
-    (both Few _ (omega arith) (omega arith)))))
+step-own stages last count b =
+    both Own _ (λ e. omega arith)
+    (both Own _ (λ e. omega arith)
+    (both Own _ (λ e. omega arith)
+    (both Own _ (λ e. omega arith)
+    (both Own _ (λ e. omega arith) (λ e. omega arith)))))
 
-node-few : (steps : ℕ) (stepAt : ℕ → ℕ) (count : ℕ) (b : List ℕ) → Few (nodeFault steps stepAt count b)
+node-own : (steps : ℕ) (stepAt : ℕ → ℕ) (count : ℕ) (b : List ℕ) → Own (nodeFault steps stepAt count b)
 unfolding nodeFault
-node-few steps stepAt count b =
-    both Few _ (omega arith)
-    (both Few _ (omega arith)
-    (both Few _ (omega arith)
-    (both Few _ (omega arith) (omega arith))))
+node-own steps stepAt count b =
+    both Own _ (λ e. omega arith)
+    (both Own _ (λ e. omega arith)
+    (both Own _ (λ e. omega arith)
+    (both Own _ (λ e. omega arith) (λ e. omega arith))))
 
 -- a walk from field to field, by the number of each body
-module _ {A : Type 0} (s : List ℕ) (g : Grammar A) (few : (before : List A) (tag : ℕ) (b : List ℕ) → Few (g .fault before tag b)) where
-  scan-few : (turns at : ℕ) (before : List A) → Few (scan s g turns at before .number)
+module _ {A : Type 0} (s : List ℕ) (g : Grammar A) (own : (before : List A) (tag : ℕ) (b : List ℕ) → Own (g .fault before tag b)) where
+  scan-own : (turns at : ℕ) (before : List A) → Own (scan s g turns at before .number)
   unfolding scan onField
-  scan-few zero at before = omega arith
-  scan-few (suc n) at before = go (fieldAt s at (g .kind before)) (field-few s at (g .kind before)) (scan-few n)
+  scan-own zero at before = λ e. omega arith
+  scan-own (suc n) at before = go (fieldAt s at (orRemark (g .kind before))) (field-own s at (orRemark (g .kind before))) (scan-own n)
     where
-      FewScan : Scan A → Type 0
-      FewScan x = Few (x .number)
+      OwnScan : Scan A → Type 0
+      OwnScan x = Own (x .number)
 
       -- what a whole field leads to
-      found : ℕ → ℕ → Scan A
-      found a e =
-          let tag = getD s at 0 in
+      found : ℕ → ℕ → ℕ → Scan A
+      found place a e =
+          let tag = getD s place 0 in
           let body = part s a e in
-          pick (isPassedOver (g .kind before tag)) (scan s g n e before)
-          (pick (eqb (g .fault before tag body) 0) (scan s g n e (before ++ g .holds before tag body ∷ [])) (stopped before (g .fault before tag body) at))
+          pick (isRemark tag) (scan s g n e before)
+          (pick (eqb (g .fault before tag body) 0) (scan s g n e (before ++ g .holds before tag body ∷ [])) (stopped before (g .fault before tag body) place))
 
-      go : (r : Field) → FewField r → ((at : ℕ) (before : List A) → Few (scan s g n at before .number))
-          → Few (onField r (stopped before 0 0) (λ number. stopped before number at) found .number)
-      go Absent f k = omega arith
-      go (Faulty number) f k = f
-      go (Whole a e) f k =
-          let tag = getD s at 0 in
+      go : (r : Field) → OwnField r → ((at : ℕ) (before : List A) → Own (scan s g n at before .number)) → Own (onField r (stopped before 0 0) (stopped before) found .number)
+      go Absent f k = λ e. omega arith
+      go (Faulty number place) f k = f
+      go (Whole place a e) f k =
+          let tag = getD s place 0 in
           let body = part s a e in
-          both FewScan (isPassedOver (g .kind before tag)) (k e before)
-          (both FewScan (eqb (g .fault before tag body) 0) (k e (before ++ g .holds before tag body ∷ [])) (few before tag body))
+          both OwnScan (isRemark tag) (k e before)
+          (both OwnScan (eqb (g .fault before tag body) 0) (k e (before ++ g .holds before tag body ∷ [])) (own before tag body))
 
-pub chart-few : (s : List ℕ) → readChart s .number ≤ 6
+pub chart-own : (s : List ℕ) → readChart s .number ≡ 8 → ⊥
 unfolding readChart onField
-chart-few s = go (fieldAt s 0 (only 1 6)) (field-few s 0 (only 1 6))
+chart-own s = go (firstField s (only 1 6)) (first-own s (only 1 6))
   where
-    found : ℕ → ℕ → ChartRead
-    found a e =
+    found : ℕ → ℕ → ℕ → ChartRead
+    found place a e =
         let b = part s a e in
-        pick (eqb (headFault b) 0) (withSteps b (scanSteps s (two b 0) e)) (badHead (headFault b))
+        pick (eqb (headFault b) 0) (withSteps b (scanSteps s (two b 0) e)) (chartRefused (headFault b) place)
 
-    go : (r : Field) → FewField r → Few (onField r (badHead 2) badHead found .number)
-    go Absent f = omega arith
-    go (Faulty number) f = f
-    go (Whole a e) f =
+    go : (r : Field) → OwnField r → Own (onField r (chartRefused 2 0) chartRefused found .number)
+    go Absent f = λ e. omega arith
+    go (Faulty number place) f = f
+    go (Whole place a e) f =
         let b = part s a e in
-        both (λ (x : ChartRead). Few (x .number)) (eqb (headFault b) 0)
-        (scan-few s (stepGrammar (two b 0)) (λ before tag b′. step-few (two b 0) (lastFrom before) (length before) b′) (length s) e []) (head-few b)
+        both (λ (x : ChartRead). Own (x .number)) (eqb (headFault b) 0)
+        (scan-own s (stepGrammar (two b 0)) (λ before tag b′. step-own (two b 0) (lastFrom before) (length before) b′) (length s) e []) (head-own b)
 
-pub rules-few : (s : List ℕ) (steps : ℕ) → readDiagram s steps .number ≤ 6
+pub rules-own : (s : List ℕ) (steps : ℕ) → readDiagram s steps .number ≡ 8 → ⊥
 unfolding readDiagram onField
-rules-few s steps = go (fieldAt s 0 (only 17 2)) (field-few s 0 (only 17 2))
+rules-own s steps = go (firstField s (only 17 2)) (first-own s (only 17 2))
   where
-    rooted : (root : ℕ) (x : Scan InnerNode) → Few (x .number) → Few (withNodes root x .number)
+    rooted : (root : ℕ) (x : Scan InnerNode) → Own (x .number) → Own (withNodes root x .number)
     rooted root x f =
-        both (λ (y : DiagramRead). Few (y .number)) (not (eqb (x .number) 0)) f
-        (both (λ (y : DiagramRead). Few (y .number)) (leb (length (x .passed) + 2) root) (omega arith) (omega arith))
+        both (λ (y : DiagramRead). Own (y .number)) (not (eqb (x .number) 0)) f
+        (both (λ (y : DiagramRead). Own (y .number)) (leb (length (x .passed) + 2) root) (λ e. omega arith) (λ e. omega arith))
 
-    go : (r : Field) → FewField r
-        → Few (onField r (diagramRead 2 0 0 []) (λ number. diagramRead number 0 0 []) (λ start end. withNodes (two (part s start end) 0) (scanNodes s steps end)) .number)
-    go Absent f = omega arith
-    go (Faulty number) f = f
-    go (Whole a e) f =
+    go : (r : Field) → OwnField r → Own (onField r (diagramRefused 2 0) diagramRefused (λ place start end. withNodes (two (part s start end) 0) (scanNodes s steps end)) .number)
+    go Absent f = λ e. omega arith
+    go (Faulty number place) f = f
+    go (Whole place a e) f =
         rooted (two (part s a e) 0) (scanNodes s steps e)
-        (scan-few s (nodeGrammar steps) (λ before tag b. node-few steps (λ r. getD before (r - 2) noNode .step) (length before) b) (length s) e [])
+        (scan-own s (nodeGrammar steps) (λ before tag b. node-own steps (λ r. getD before (r - 2) noNode .step) (length before) b) (length s) e [])

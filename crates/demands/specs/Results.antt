@@ -18,7 +18,7 @@ use Rattle.theory.specs.Basics.{either}
 use Rattle.theory.specs.Least.{IsLeast}
 use Rattle.theory.specs.Plans.{LegalCost, cheapest-least}
 use Rattle.demands.specs.Demands.{Call, need, Passes, Refusal, StaysFrom, Demand1, Given, NoPlan, Demand2, Cheapest, Searched}
-use Rattle.demands.specs.Numbers.{chart-few, rules-few}
+use Rattle.demands.specs.Numbers.{chart-own, rules-own}
 use Rattle.demands.specs.Checked.{loadOf, Judged, chart-bad, rules-bad, too-short, all-pass, judged, chart-load, rules-load, space-load, passes-ready, valid}
 
 -- a list after a call is its first n entries, then the old ones
@@ -112,7 +112,7 @@ module _ (chart rules : List ℕ) (x : Call) (promise : Promised (loadOf chart r
   record Stopped (n : ℕ) : Type 0 where
     pub number : x .answer .number ≡ n
     pub some-number : n ≡ 0 → ⊥
-    pub below : n ≤ 7
+    pub own : n ≡ 8 → ⊥
     pub plan : x .plan′ ≡ x .plan
     pub works : x .works′ ≡ x .works
 
@@ -121,18 +121,18 @@ module _ (chart rules : List ℕ) (x : Call) (promise : Promised (loadOf chart r
     found : (c : Chart) (d : Diagram) → Passes chart rules x c d → Found x c d → Result
     lacks : (c : Chart) (d : Diagram) → Passes chart rules x c d → Lacks x c d → Result
 
-  stop : (n f p : ℕ) → loadOf chart rules x ≡ refused n f p → (n ≡ 0 → ⊥) → n ≤ 7 → Result
+  stop : (n f p : ℕ) → loadOf chart rules x ≡ refused n f p → (n ≡ 0 → ⊥) → (n ≡ 8 → ⊥) → Result
   stop n f p e z l =
       let t = refused-as n f p e in
-      stopped n (record { number = refuses n f p e .number; some-number = z; below = l; plan = t .1; works = t .2 })
+      stopped n (record { number = refuses n f p e .number; some-number = z; own = l; plan = t .1; works = t .2 })
 
   result : Result
   result = go (judged chart rules x)
     where
       go : Judged chart rules x → Result
-      go (chart-bad p e) = stop _ _ _ e p (omega (arith, chart-few chart))
-      go (rules-bad p q e) = stop _ _ _ e q (omega (arith, rules-few rules (length (readChart chart .chart .steps))))
-      go (too-short f s e) = stop 7 0 0 e (λ q. omega arith) (omega arith)
+      go (chart-bad p e) = stop _ _ _ e p (chart-own chart)
+      go (rules-bad p q e) = stop _ _ _ e q (rules-own rules (length (readChart chart .chart .steps)))
+      go (too-short f s e) = stop 7 0 0 e (λ q. omega arith) (λ q. omega arith)
       go (all-pass a e) = either (ends _ _ a) (found _ _ a) (lacks _ _ a)
 
   -- ---- the demands
@@ -171,12 +171,12 @@ module _ (chart rules : List ℕ) (x : Call) (promise : Promised (loadOf chart r
       given (lacks c d a t) h = absurd (omega (arith, t .answer .number))
 
       none-exists : Result → x .answer .number ≡ 8 → (c : Chart) × (d : Diagram) × Passes chart rules x c d × NoPlan c d
-      none-exists (stopped n s) h = absurd (omega (arith, s .number, s .below))
+      none-exists (stopped n s) h = absurd (s .own (sym (s .number) ∙ h))
       none-exists (found c d a t) h = absurd (omega (arith, t .number))
       none-exists (lacks c d a t) h = (c, d, a, t .legal)
 
       eight : Result → x .answer .number ≡ 8 → Refusal 8 0 0 (x .answer .count) (x .answer)
-      eight (stopped n s) h = absurd (omega (arith, s .number, s .below))
+      eight (stopped n s) h = absurd (s .own (sym (s .number) ∙ h))
       eight (found c d a t) h = absurd (omega (arith, t .number))
       eight (lacks c d a t) h = t .answer
 
@@ -188,6 +188,6 @@ module _ (chart rules : List ℕ) (x : Call) (promise : Promised (loadOf chart r
   searched-passes t = go result
     where
       go : Result → (c : Chart) × (d : Diagram) × Passes chart rules x c d
-      go (stopped n s) = absurd (either t (λ h. s .some-number (sym (s .number) ∙ h)) (λ h. omega (arith, s .number, s .below)))
+      go (stopped n s) = absurd (either t (λ h. s .some-number (sym (s .number) ∙ h)) (λ h. s .own (sym (s .number) ∙ h)))
       go (found c d a u) = (c, d, a)
       go (lacks c d a u) = (c, d, a)

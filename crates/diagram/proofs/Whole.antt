@@ -1,4 +1,5 @@
 -- One law for each way out of `read_diagram`, and what it asks of the head's body.
+-- Assumes nothing.
 use Prim.Native.Nat.{ℕ, _+_, _≤_, _<_}
 use mathlib.Core.Path.{_≡_, refl, sym, _∙_, ap, ap₂}
 use mathlib.Core.List.{List, [], _∷_, _++_, map}
@@ -7,11 +8,11 @@ use lib.Seq.{drop-set-lt}
 use native.Mathlib.Omega.{arith}
 use borrow.Author.Tests.{eq-eqb, ne-eqb, le-leb, lt-leb}
 use Rattle.definitions.specs.Basics.{pick}
-use Rattle.definitions.specs.Fields.{two, part, only, fieldAt, onField, Scan}
-use Rattle.definitions.specs.Diagrams.{InnerNode, diagramRead, withNodes, scanNodes, readDiagram}
+use Rattle.definitions.specs.Fields.{two, part, only, firstField, onField, Scan}
+use Rattle.definitions.specs.Diagrams.{InnerNode, diagramRead, diagramRefused, withNodes, scanNodes, readDiagram}
 use Rattle.definitions.specs.declared.Field.{Field}
 use Rattle.definitions.specs.declared.Field.the-variants.{Absent, Faulty, Whole}
-use Rattle.fields.specs.Positions.{body-length}
+use Rattle.fields.specs.First.{first-length}
 use Rattle.diagram_fields.specs.Words.{wordOf, leaf}
 use Rattle.diagram.specs.Files.{Room, tableWith, nodesAnswer, diagramAnswer, Reads}
 use Rattle.diagram.specs.Turns.{Stored, Over}
@@ -33,7 +34,7 @@ module _ (words : List ℕ) (w : ℕ) (is : w ≡ wordOf leaf) (room : Room word
   marks-room = record { long = length-set (set words 0 w) 1 w ∙ length-set words 0 w ∙ room .long }
 
   -- nodes stored in the marked table
-  marks-table : (passed : List InnerNode) (words′ : List ℕ) → Stored passed (marks words w) words′ → words′ ≡ tableWith passed words
+  marks-table : (passed : List InnerNode) (words′ : List ℕ) → Stored wordOf passed (marks words w) words′ → words′ ≡ tableWith passed words
   marks-table passed words′ f =
       let n = length passed + 2 in
       let front = f .front ∙ ap (λ (l : List ℕ). l ++ map wordOf passed) (marks-front words w (room .long) ∙ ap (λ (k : ℕ). k ∷ k ∷ []) is) in
@@ -54,26 +55,26 @@ module _ (root : ℕ) (x : Scan InnerNode) where
   unfolding pick
   with-good z l = simp (eq-eqb (x .number) 0 z, lt-leb (length (x .passed) + 2) root l)
 
-module _ (s : List ℕ) (steps : ℕ) (words : List ℕ) (w : ℕ) (is : w ≡ wordOf leaf) (r : Field) (given : r ≡ fieldAt s 0 (only 17 2)) where
+module _ (s : List ℕ) (steps : ℕ) (words : List ℕ) (w : ℕ) (is : w ≡ wordOf leaf) (r : Field) (given : r ≡ firstField s (only 17 2)) where
   -- a head that is not whole
-  no-head : (number : ℕ) (v : DiagramRead) → v ≡ diagramAnswer (diagramRead number 0 0 []) → readDiagram s steps ≡ diagramRead number 0 0 []
+  no-head : (number place : ℕ) (v : DiagramRead) → v ≡ diagramAnswer (diagramRefused number place) → readDiagram s steps ≡ diagramRefused number place
       → Reads s steps words (marks words w) v
-  no-head number v e q = record {
+  no-head number place v e q = record {
     answer = rw q e;
-    table = λ room. rw q (marks-table words w is room [] (marks words w) (nothing-stored (marks words w) (marks-room words w is room)));
+    table = λ room. rw q (marks-table words w is room [] (marks words w) (nothing-stored wordOf (marks words w) (marks-room words w is room)));
   }
 
-  pub whole-absent : r ≡ Absent → (v : DiagramRead) → v ≡ diagramAnswer (diagramRead 2 0 0 []) → Reads s steps words (marks words w) v
+  pub whole-absent : r ≡ Absent → (v : DiagramRead) → v ≡ diagramAnswer (diagramRefused 2 0) → Reads s steps words (marks words w) v
   unfolding readDiagram onField
-  whole-absent found v e = no-head 2 v e (rw (← given, found))
+  whole-absent found v e = no-head 2 0 v e (rw (← given, found))
 
-  pub whole-faulty : (k : ℕ) → r ≡ Faulty k → (v : DiagramRead) → v ≡ diagramAnswer (diagramRead k 0 0 []) → Reads s steps words (marks words w) v
+  pub whole-faulty : (k p : ℕ) → r ≡ Faulty k p → (v : DiagramRead) → v ≡ diagramAnswer (diagramRefused k p) → Reads s steps words (marks words w) v
   unfolding readDiagram onField
-  whole-faulty k found v e = no-head k v e (rw (← given, found))
+  whole-faulty k p found v e = no-head k p v e (rw (← given, found))
 
-  module _ (a e : ℕ) (found : r ≡ Whole a e) where
-    module _ (root : ℕ) (ro : root ≡ two (part s a e) 0) (step words′ : List ℕ) (long : length step ≡ 512) (x : NodesRead)
-        (reads : Over s e steps step (marks words w) words′ x) where
+  module _ (p a e : ℕ) (found : r ≡ Whole p a e) where
+    module _ (root : ℕ) (ro : root ≡ two (part s a e) 0) (step step′ words′ : List ℕ) (long : length step ≡ 512) (x : NodesRead)
+        (reads : Over s e steps step (marks words w) step′ words′ x) where
       read-is : readDiagram s steps ≡ withNodes root (scanNodes s steps e)
       unfolding readDiagram onField
       read-is = rw (← given, found, ro)
@@ -83,11 +84,11 @@ module _ (s : List ℕ) (steps : ℕ) (words : List ℕ) (w : ℕ) (is : w ≡ w
           → (x ≡ nodesAnswer (scanNodes s steps e) → withNodes root (scanNodes s steps e) ≡ diagramRead number place root (scanNodes s steps e .passed))
           → Reads s steps words words′ (record { number = number; place = place; root = root; nodes = x .nodes })
       chosen number place choice =
-          let y = reads .answer long in
+          let y = reads .answer (record { long = long }) in
           record {
             answer = rw (read-is, choice y, y);
             table = λ room.
-                rw (read-is, choice y) (marks-table words w is room (scanNodes s steps e .passed) words′ (reads .stored long (marks-room words w is room)));
+                rw (read-is, choice y) (marks-table words w is room (scanNodes s steps e .passed) words′ (reads .stored (record { long = long }) (marks-room words w is room)));
           }
 
       pub whole-bad : (x .number ≡ 0 → ⊥) → Reads s steps words words′ (record { number = x .number; place = x .place; root = root; nodes = x .nodes })
@@ -102,7 +103,7 @@ module _ (s : List ℕ) (steps : ℕ) (words : List ℕ) (w : ℕ) (is : w ≡ w
           chosen 0 0 (λ y. with-good root (scanNodes s steps e) (sym (ap (λ (v : NodesRead). v .number) y) ∙ z) (omega (arith, ap (λ (v : NodesRead). v .nodes) y)))
 
 -- the head's body holds its number
-pub whole-word : (s : List ℕ) (r : Field) → r ≡ fieldAt s 0 (only 17 2) → (a e : ℕ) → r ≡ Whole a e → 0 + 1 < length (part s a e)
-whole-word s r given a e found = omega (arith, body-length s 0 17 2 a e r given found)
+pub whole-word : (s : List ℕ) (r : Field) → r ≡ firstField s (only 17 2) → (p a e : ℕ) → r ≡ Whole p a e → 0 + 1 < length (part s a e)
+whole-word s r given p a e found = omega (arith, first-length s 17 2 p a e r given found)
 
 pub ruleset whole-laws = (whole-absent, whole-faulty, whole-word, whole-bad, whole-root, whole-good)

@@ -10,8 +10,8 @@ use lib.Seq.{getD-append-seam}
 use native.Mathlib.Omega.{arith}
 use borrow.Author.Tests.{leb-false, eqb-false}
 use Rattle.definitions.specs.Basics.{pick}
-use Rattle.definitions.specs.Fields.{two, part, only, fieldAt, onField, Scan}
-use Rattle.definitions.specs.Diagrams.{Diagram, InnerNode, noNode, inner, innerNodeOf, DiagramRead, diagramRead, withNodes, nodeGrammar, scanNodes, readDiagram}
+use Rattle.definitions.specs.Fields.{two, part, only, firstField, onField, Scan}
+use Rattle.definitions.specs.Diagrams.{Diagram, InnerNode, noNode, inner, innerNodeOf, DiagramRead, diagramRefused, withNodes, nodeGrammar, scanNodes, readDiagram}
 use Rattle.theory.specs.Limits.{Ordered, Sound}
 use Rattle.definitions.specs.declared.Field.{Field}
 use Rattle.definitions.specs.declared.Field.the-variants.{Absent, Faulty, Whole}
@@ -103,7 +103,7 @@ module _ (root steps : ℕ) where
   scanned : (s : List ℕ) (at : ℕ) → Limited root steps (scanNodes s steps at .passed)
   scanned s at =
       scan-keeps s (nodeGrammar steps) (Limited root steps)
-      (λ at a e before w o t was.
+      (λ at q a e before w o t was.
       let f = node-fits steps (λ r. getD before (r - 2) noNode .step) (length before) (part s a e) (sym t) in
       node-added before (innerNodeOf (part s a e)) was (f .few) (f .exists) (f .lo) (f .hi))
       (length s) at [] none-limited
@@ -120,19 +120,19 @@ module _ (root steps : ℕ) where
 
 abbrev readFrom : List ℕ → ℕ → Field → DiagramRead
 readFrom s steps r =
-    onField r (diagramRead 2 0 0 []) (λ number. diagramRead number 0 0 []) (λ start end. withNodes (two (part s start end) 0) (scanNodes s steps end))
+    onField r (diagramRefused 2 0) diagramRefused (λ place start end. withNodes (two (part s start end) 0) (scanNodes s steps end))
 
 from-field : (s : List ℕ) (steps : ℕ) (r : Field) → readFrom s steps r .number ≡ 0 → Sound steps (readFrom s steps r .diagram)
 unfolding onField
 from-field s steps Absent e = absurd (omega arith)
-from-field s steps (Faulty k) e =
+from-field s steps (Faulty k p) e =
     let l = none-limited 0 steps in
     record { ordered = l .ordered; exist = l .exist; few = l .few; root-inside = omega arith }
-from-field s steps (Whole a b) e = rooted (two (part s a b) 0) steps (scanNodes s steps b) (scanned (two (part s a b) 0) steps s b) e
+from-field s steps (Whole p a b) e = rooted (two (part s a b) 0) steps (scanNodes s steps b) (scanned (two (part s a b) 0) steps s b) e
 
 pub diagram-accepted : (s : List ℕ) (steps : ℕ) → readDiagram s steps .number ≡ 0 → Sound steps (readDiagram s steps .diagram)
 unfolding readDiagram
-diagram-accepted s steps = from-field s steps (fieldAt s 0 (only 17 2))
+diagram-accepted s steps = from-field s steps (firstField s (only 17 2))
 
 -- an accepted diagram stands in the table
 pub accepted-filled : (s : List ℕ) (steps : ℕ) → readDiagram s steps .number ≡ 0 → steps ≤ 1024 → (words words′ : List ℕ)

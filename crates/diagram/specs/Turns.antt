@@ -4,44 +4,48 @@ use Prim.Native.Nat.{ℕ, _+_, _-_, _≤_, _<_}
 use mathlib.Core.Path.{_≡_}
 use mathlib.Core.Bool.{true, false}
 use mathlib.Core.List.{List, _++_, map}
-use lib.ListN.{length, getD, take, drop}
-use Rattle.definitions.specs.Diagrams.{InnerNode, noNode, nodeGrammar, scanNodes}
+use lib.ListN.{length, take, drop}
+use Rattle.definitions.specs.Diagrams.{InnerNode, nodeGrammar, scanNodes}
 use Rattle.fields.specs.Scans.{Reading}
 use Rattle.diagram_fields.specs.Words.{wordOf}
 use Rattle.diagram.specs.Files.{Room, nodesAnswer}
 use Rattle.diagram.specs.declared.reader.NodesRead.{NodesRead}
 
--- the table so far: nodes stand in it from 2 on, what stood before them and behind them stays
-pub record Stored (before : List InnerNode) (words₀ words : List ℕ) : Type 0 where
-  pub front : take (length before + 2) words ≡ take 2 words₀ ++ map wordOf before
-  pub rest : drop (length before + 2) words ≡ drop (length before + 2) words₀
-  pub room : Room words
+-- a table so far: from 2 on stands what `entry` is of each node, what stood before them and behind them stays
+pub record Stored (entry : InnerNode → ℕ) (before : List InnerNode) (table₀ table : List ℕ) : Type 0 where
+  pub front : take (length before + 2) table ≡ take 2 table₀ ++ map entry before
+  pub rest : drop (length before + 2) table ≡ drop (length before + 2) table₀
+  pub room : Room table
+
+-- a node's entry in the table of steps
+abbrev pub stepIn : InnerNode → ℕ
+stepIn x = x .step
 
 -- What is read so far, and that the rest of the walk is still to come. Two tables are filled: `step` has the step of each node before, for the checks
--- of those to come, and `words` the nodes. (What `words` holds is said of a table with room, as its type says)
-pub record Halfway (s : List ℕ) (first steps : ℕ) (words₀ step words : List ℕ) (at count : ℕ) : Type 0 where
+-- of those to come, and `words` the nodes. (What a table holds is said of one with room, as its type says)
+pub record Halfway (s : List ℕ) (first steps : ℕ) (step₀ words₀ step words : List ℕ) (at count : ℕ) : Type 0 where
   pub before : List InnerNode
   pub reading : Reading s (nodeGrammar steps) first at before
   pub counted : length before ≡ count
-  pub long : length step ≡ 512
-  pub known : (k : ℕ) → 2 ≤ k → k < count + 2 → getD step k 0 ≡ getD before (k - 2) noNode .step
-  pub stored : Room words₀ → Stored before words₀ words
+  pub known : Stored stepIn before step₀ step
+  pub stored : Room words₀ → Stored wordOf before words₀ words
 
--- the same of a table of steps with room, as its type says
+-- the same of a table of steps with room
 pub record SoFar (s : List ℕ) (first steps : ℕ) (step₀ words₀ step words : List ℕ) (at count : ℕ) : Type 0 where
   pub few : count ≤ 510
-  pub halfway : length step₀ ≡ 512 → Halfway s first steps words₀ step words at count
+  pub halfway : Room step₀ → Halfway s first steps step₀ words₀ step words at count
 
--- the walk is over: the answer, and what the table holds
-pub record Over (s : List ℕ) (first steps : ℕ) (step₀ words₀ words : List ℕ) (r : NodesRead) : Type 0 where
+-- the walk is over: the answer, and what the tables hold
+pub record Over (s : List ℕ) (first steps : ℕ) (step₀ words₀ step words : List ℕ) (r : NodesRead) : Type 0 where
   pub few : r .nodes ≤ 510
-  pub answer : length step₀ ≡ 512 → r ≡ nodesAnswer (scanNodes s steps first)
-  pub stored : length step₀ ≡ 512 → Room words₀ → Stored (scanNodes s steps first .passed) words₀ words
+  pub answer : Room step₀ → r ≡ nodesAnswer (scanNodes s steps first)
+  pub known : Room step₀ → Stored stepIn (scanNodes s steps first .passed) step₀ step
+  pub stored : Room step₀ → Room words₀ → Stored wordOf (scanNodes s steps first .passed) words₀ words
 
 -- where the walk stands: it goes on, or it is over
 pub record Stands (s : List ℕ) (first steps : ℕ) (step₀ words₀ step words : List ℕ) (r : NodesRead) : Type 0 where
   pub goes : r .going ≡ true → SoFar s first steps step₀ words₀ step words (r .place) (r .nodes)
-  pub over : r .going ≡ false → Over s first steps step₀ words₀ words r
+  pub over : r .going ≡ false → Over s first steps step₀ words₀ step words r
 
 -- one turn, from t to r
 pub record Takes (s : List ℕ) (steps : ℕ) (t : NodesRead) (step words step′ words′ : List ℕ) (r : NodesRead) : Type 0 where

@@ -2,9 +2,9 @@
 // as well, for the checks of later nodes, so that a caller that only wants the answer pays for no more than that one.
 ghost use mathlib.Core.Path.{_≡_};
 ghost use mathlib.Core.Bool.{true, false};
-ghost use mathlib.Core.List.{[]};
-ghost use Rattle.definitions.specs.Fields.{only, fieldAt};
-ghost use Rattle.definitions.specs.Diagrams.{diagramRead};
+ghost use Rattle.definitions.specs.Fields.{only};
+ghost use Rattle.definitions.specs.Diagrams.{diagramRefused};
+ghost use Rattle.fields.specs.Remarks.{nextField};
 ghost use Rattle.diagram.specs.Files.{Reads, diagramAnswer};
 ghost use Rattle.diagram.specs.Turns.{Over, Takes};
 use definitions::Field;
@@ -12,7 +12,7 @@ use diagram_fields::leaf_word;
 use diagram_fields::node_fault;
 use diagram_fields::store_node;
 use field_numbers::read_u16;
-use fields::field_at;
+use fields::first_field;
 use fields::reader::moved;
 use fields::reader::new;
 use fields::reader::next;
@@ -21,7 +21,7 @@ use fields::reader::next;
 pub struct NodesRead {
     // the refusal's number, 0 where there is none
     pub number: u8,
-    // where the next field is due; once the walk is over, the refusal's place, 0 where there is none
+    // from where on the next field is looked for; once the walk is over, the refusal's place, 0 where there is none
     pub place: usize,
     // how many nodes passed
     pub nodes: usize,
@@ -40,7 +40,7 @@ fn stopped(nodes: usize, number: u8, place: usize) -> NodesRead
     }
 }
 
-// One turn of the walk: what was found at its place is taken, a node into the tables.
+// One turn of the walk: the next field is taken, a node into the tables.
 fn take_node(
     file: &[u8],
     found: Field,
@@ -49,21 +49,20 @@ fn take_node(
     step: &mut [u16; 512],
     inner: &mut [u32; 512],
 ) -> NodesRead
-    requires { ⌜ found ≡ fieldAt (now file) (read .place) (only 18 6) ⌝ }
+    requires { ⌜ found ≡ nextField (now file) (read .place) (only 18 6) ⌝ }
     ensures { λ r. ⌜
         Takes (now (file .entry)) steps read (now (step .entry)) (now (inner .entry)) (now (step .exit)) (now (inner .exit)) r
         ⌝ }
 {
     let count = read.nodes;
-    let at = read.place;
     match found {
         Field::Absent => stopped(count, 0, 0),
-        Field::Faulty(number) => stopped(count, number, at),
-        Field::Whole { start, end } => {
+        Field::Faulty { number, place } => stopped(count, number, place),
+        Field::Whole { place, start, end } => {
             let body = &file[start..end];
             let fault = node_fault(body, steps, step, count);
             if fault != 0 {
-                return stopped(count, fault, at);
+                return stopped(count, fault, place);
             }
             // The first node is 2.
             store_node(body, count + 2, step, inner);
@@ -86,7 +85,9 @@ fn read_nodes(
     step: &mut [u16; 512],
     inner: &mut [u32; 512],
 ) -> NodesRead
-    ensures { λ r. ⌜ Over (now (file .entry)) first steps (now (step .entry)) (now (inner .entry)) (now (inner .exit)) r ⌝ }
+    ensures { λ r. ⌜
+        Over (now (file .entry)) first steps (now (step .entry)) (now (inner .entry)) (now (step .exit)) (now (inner .exit)) r
+        ⌝ }
 {
     let mut reader = moved(new(file), first);
     let mut read = NodesRead {
@@ -112,13 +113,13 @@ pub struct DiagramRead {
     pub nodes: usize,
 }
 
-// The answer to a faulty head.
-fn bad_head(number: u8) -> DiagramRead
-    ensures { λ r. ⌜ r ≡ diagramAnswer (diagramRead number 0 0 []) ⌝ }
+// The answer where no head passed.
+fn refused(number: u8, place: usize) -> DiagramRead
+    ensures { λ r. ⌜ r ≡ diagramAnswer (diagramRefused number place) ⌝ }
 {
     DiagramRead {
         number,
-        place: 0,
+        place,
         root: 0,
         nodes: 0,
     }
@@ -131,10 +132,10 @@ pub fn read_diagram(file: &[u8], steps: usize, inner: &mut [u32; 512]) -> Diagra
     let leaf = leaf_word();
     inner[0] = leaf;
     inner[1] = leaf;
-    match field_at(file, 0, 17, 2) {
-        Field::Absent => bad_head(2),
-        Field::Faulty(number) => bad_head(number),
-        Field::Whole { start, end } => {
+    match first_field(file, 17, 2) {
+        Field::Absent => refused(2, 0),
+        Field::Faulty { number, place } => refused(number, place),
+        Field::Whole { start, end, .. } => {
             let root = read_u16(&file[start..end], 0);
             let mut step = [0u16; 512];
             let read = read_nodes(file, end, steps, &mut step, inner);

@@ -9,7 +9,7 @@ use lib.ListN.{length, getD, length-append, List·getD-append, List·getD-eq-def
 use lib.Seq.{getD-at}
 use borrow.Author.Tests.{lt-ltb, le-ltb, lt-leb}
 use Rattle.definitions.specs.Basics.{pick, each}
-use Rattle.definitions.specs.Fields.{two, four, only, fieldAt, onField, stopped}
+use Rattle.definitions.specs.Fields.{two, four, only, firstField, onField, stopped}
 use Rattle.definitions.specs.Charts.{Chart, ChartStep, noStep, headFault, stepFault, stepOf, lastFrom, stepGrammar, scanSteps, readChart}
 use Rattle.definitions.specs.Diagrams.{InnerNode, Diagram, noNode, inner, childFits, nodeFault, innerNodeOf, nodeGrammar, scanNodes, readDiagram}
 use Rattle.theory.specs.Limits.{Valid, Small, Sound}
@@ -19,7 +19,8 @@ use Rattle.definitions.specs.declared.Field.the-variants.{Whole}
 use Rattle.theory.specs.Basics.{either, lt-or-le}
 use Rattle.theory.specs.Choices.{tests}
 use Rattle.definitions.specs.Bytes.{le2, le4, bodyOfHead, bodyOfStep, stepBytes, chartBytes, headBytes, bodyOfNode, nodeBytes, rootBytes, diagramBytes}
-use Rattle.field_writer.specs.Sizes.{AllBytes, append-bytes, le2-bytes, le4-bytes, field-bytes, each-bytes}
+use Rattle.field_writer.specs.Sizes.{chart-long, diagram-long, AllBytes, append-bytes, le2-bytes, le4-bytes, field-bytes, each-bytes}
+use Rattle.fields.specs.First.{first-short}
 use Rattle.field_writer.specs.Scanned.{fieldAt-written, Reads, scan-written}
 
 -- ---- numbers, and a member of a list with those before and behind it
@@ -88,8 +89,8 @@ module _ (c : Chart) (v : Valid (graph c)) (small : Small c) where
     step-reads : Reads (stepGrammar (c .stages)) 2 bodyOfStep before x
     unfolding only pick
     step-reads = record {
-      known = refl;
       given = refl;
+      known = refl;
       fits = refl;
       passes =
           step-passes (c .stages) (lastFrom before) k (bodyOfStep x) (omega (arith, v .few, inside)) (omega (arith, forward)) (omega (arith, to-inside)) (omega (arith, rises))
@@ -115,7 +116,8 @@ module _ (c : Chart) (v : Valid (graph c)) (small : Small c) where
   unfolding readChart onField only pick
   chart-read-back =
       let b = bodyOfHead (c .stages) (c .start) (c .end) in
-      let head : Whole 3 9 ≡ fieldAt (chartBytes c) 0 (only 1 6) = fieldAt-written [] b (each stepBytes (c .steps)) 1 (only 1 6) refl refl in
+      let head : Whole 0 3 9 ≡ firstField (chartBytes c) (only 1 6)
+      = first-short (chartBytes c) 1 6 (omega (arith, chart-long c, v .few)) _ (fieldAt-written [] b (each stepBytes (c .steps)) 1 (only 1 6) refl refl) in
       let good : headFault b ≡ 0 = head-passes b (omega (arith, v .some-stages)) (omega (arith, v .few-stages)) (omega (arith, v .start-inside)) (omega (arith, v .end-inside)) in
       let steps : scanSteps (chartBytes c) (c .stages) 9 ≡ stopped (c .steps) 0 0
       = scan-written (stepGrammar (c .stages)) 2 bodyOfStep (c .steps) step-reads (chartBytes c) (headBytes (c .stages) (c .start) (c .end)) refl in
@@ -168,8 +170,8 @@ module _ (steps : ℕ) (d : Diagram) (p : Sound steps d) where
     node-reads : Reads (nodeGrammar steps) 18 bodyOfNode before x
     unfolding only pick
     node-reads = record {
-      known = refl;
       given = refl;
+      known = refl;
       fits = refl;
       passes =
           node-passes steps (length before) (x .step) (x .lo) (x .hi) stepAt (bodyOfNode x) (le2-back (x .step)) (le2-back (x .lo)) (le2-back (x .hi)) few-before exists
@@ -190,7 +192,8 @@ module _ (steps : ℕ) (d : Diagram) (p : Sound steps d) where
   pub diagram-read-back : readDiagram (diagramBytes d) steps ≡ record { number = 0; place = 0; diagram = d }
   unfolding readDiagram onField only pick
   diagram-read-back =
-      let head : Whole 3 5 ≡ fieldAt (diagramBytes d) 0 (only 17 2) = fieldAt-written [] (le2 (d .root)) (each nodeBytes (d .nodes)) 17 (only 17 2) refl refl in
+      let head : Whole 0 3 5 ≡ firstField (diagramBytes d) (only 17 2)
+      = first-short (diagramBytes d) 17 2 (omega (arith, diagram-long d, p .few)) _ (fieldAt-written [] (le2 (d .root)) (each nodeBytes (d .nodes)) 17 (only 17 2) refl refl) in
       let nodes : scanNodes (diagramBytes d) steps 5 ≡ stopped (d .nodes) 0 0
       = scan-written (nodeGrammar steps) 18 bodyOfNode (d .nodes) node-reads (diagramBytes d) (rootBytes (d .root)) refl in
       rw (← head, le2-back (d .root), nodes, lt-leb (length (d .nodes) + 2) (d .root) (p .root-inside))

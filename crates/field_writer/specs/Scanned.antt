@@ -8,9 +8,10 @@ use native.Mathlib.Omega.{arith}
 use lib.ListN.{length, getD, take, length-append}
 use lib.Seq.{getD-append-seam, getD-append-add, drop-append-add, take-append-seam}
 use Rattle.definitions.specs.Basics.{each}
-use Rattle.definitions.specs.Fields.{two, part, Kind, isForeign, isPassedOver, lengthFits, fieldAt, Grammar, scan, stopped}
+use Rattle.definitions.specs.Fields.{two, part, Kind, isForeign, isRemark, lengthFits, orRemark, fieldAt, Grammar, scan, stopped}
 use Rattle.definitions.specs.declared.Field.the-variants.{Whole}
 use Rattle.fields.specs.Positions.{field-absent, field-whole}
+use Rattle.fields.specs.Remarks.{or-kind}
 use Rattle.fields.specs.Scans.{scan-absent, scan-step}
 use Rattle.definitions.specs.Bytes.{le2, field}
 
@@ -34,9 +35,9 @@ module _ (before body behind : List ℕ) (tag : ℕ) where
   tag-written = getD-append-seam before tag ((le2 (length body) ++ body) ++ behind) 0
 
   pub fieldAt-written : (kind : ℕ → Kind) → isForeign (kind tag) ≡ false → lengthFits (kind tag) (length body) ≡ true
-      → Whole (length before + 3) (length before + 3 + length body) ≡ fieldAt file (length before) kind
+      → Whole (length before) (length before + 3) (length before + 3 + length body) ≡ fieldAt file (length before) kind
   fieldAt-written kind known fits =
-      ap (λ (k : ℕ). Whole (length before + 3) (length before + 3 + k)) (sym said)
+      ap (λ (k : ℕ). Whole (length before) (length before + 3) (length before + 3 + k)) (sym said)
       ∙ field-whole file (length before) kind (omega (arith, file-long)) (omega (arith, file-long)) (ap (λ (t : ℕ). isForeign (kind t)) tag-written ∙ known)
       (ap₂ (λ (t k : ℕ). lengthFits (kind t) k) tag-written said ∙ fits) (omega (arith, file-long, said))
 
@@ -50,8 +51,8 @@ module _ (before body behind : List ℕ) (tag : ℕ) where
 module _ {A : Type 0} (g : Grammar A) (tag : ℕ) (body : A → List ℕ) where
   -- after the members before it, a member's body is that of a field with this tag, passes, and holds the member
   pub record Reads (before : List A) (x : A) : Type 0 where
+    pub given : isRemark tag ≡ false
     pub known : isForeign (g .kind before tag) ≡ false
-    pub given : isPassedOver (g .kind before tag) ≡ false
     pub fits : lengthFits (g .kind before tag) (length (body x)) ≡ true
     pub passes : g .fault before tag (body x) ≡ 0
     pub same : g .holds before tag (body x) ≡ x
@@ -65,17 +66,19 @@ module _ {A : Type 0} (g : Grammar A) (tag : ℕ) (body : A → List ℕ) where
         → scan s g turns (length front) before ≡ stopped all 0 0
     rest-written [] before front turns split e h =
         let l : length s ≤ length front = omega (arith, ap length (e ∙ append-nil front)) in
-        scan-absent s g turns (length front) before (field-absent s (length front) (g .kind before) l)
+        scan-absent s g turns (length front) before (field-absent s (length front) (orRemark (g .kind before)) l)
         ∙ ap (λ (l : List A). stopped l 0 0) (sym (split ∙ append-nil before))
     rest-written (x ∷ rest) before front turns split e h =
         let r = reads before x rest split in
         let n = length (body x) in
-        let here : Whole (length front + 3) (length front + 3 + n) ≡ fieldAt s (length front) (g .kind before)
-        = rw e (fieldAt-written front (body x) (fieldsOf rest) tag (g .kind before) (r .known) (r .fits)) in
+        let kind = or-kind (g .kind before) tag (r .given) in
+        let here : Whole (length front) (length front + 3) (length front + 3 + n) ≡ fieldAt s (length front) (orRemark (g .kind before))
+        = rw e (fieldAt-written front (body x) (fieldsOf rest) tag (orRemark (g .kind before)) (ap isForeign kind ∙ r .known)
+        (ap (λ (k : Kind). lengthFits k (length (body x))) kind ∙ r .fits)) in
         let got : part s (length front + 3) (length front + 3 + n) ≡ body x = rw e (part-written front (body x) (fieldsOf rest) tag) in
         let tagged : getD s (length front) 0 ≡ tag = rw e (tag-written front (body x) (fieldsOf rest) tag) in
         let next : length (front ++ field tag (body x)) ≡ length front + 3 + n = omega (arith, length-append front (field tag (body x))) in
-        scan-step s g (length front) before (length front + 3) (length front + 3 + n) here (ap (λ (t : ℕ). isPassedOver (g .kind before t)) tagged ∙ r .given) turns h
+        scan-step s g (length front) before (length front) (length front + 3) (length front + 3 + n) here (ap isRemark tagged ∙ r .given) turns h
         (ap₂ (λ (t : ℕ) (b : List ℕ). g .fault before t b) tagged got ∙ r .passes)
         ∙ ap₂ (λ (k : ℕ) (y : A). scan s g (pred turns) k (before ++ y ∷ [])) (sym next) (ap₂ (λ (t : ℕ) (b : List ℕ). g .holds before t b) tagged got ∙ r .same)
         ∙ rest-written rest (before ++ x ∷ []) (front ++ field tag (body x)) (pred turns) (split ∙ sym (append-assoc before (x ∷ []) rest))

@@ -1,2 +1,4 @@
 pub mod Positions
+pub mod First
+pub mod Remarks
 pub mod Scans

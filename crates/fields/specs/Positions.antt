@@ -10,7 +10,7 @@ use native.Mathlib.Omega.{arith}
 use native.Mathlib.Decide.{decLt}
 use borrow.Author.Tests.{leb-false, ltb-false, eqb-true, eqb-false, eq-eqb, ne-eqb, not-false}
 use Rattle.definitions.specs.Basics.{pick}
-use Rattle.definitions.specs.Fields.{two, part, Kind, foreign, exactly, isForeign, isPassedOver, lengthFits, only, fieldAt}
+use Rattle.definitions.specs.Fields.{two, part, Kind, foreign, exactly, isForeign, lengthFits, only, fieldAt}
 use Rattle.definitions.specs.declared.Field.{Field}
 use Rattle.definitions.specs.declared.Field.the-variants.{Absent, Faulty, Whole}
 use Rattle.theory.specs.Basics.{true-not-false}
@@ -30,36 +30,36 @@ module _ (s : List ℕ) (at : ℕ) (kind : ℕ → Kind) where
   field-absent p = simp tests
 
   module _ (p : at < length s) where
-    pub field-cut : length s - at < 3 → Faulty 1 ≡ fieldAt s at kind
+    pub field-cut : length s - at < 3 → Faulty 1 at ≡ fieldAt s at kind
     unfolding fieldAt pick
     field-cut q = simp tests
 
     module _ (q : 3 ≤ length s - at) where
-      pub field-foreign : isForeign found ≡ true → Faulty 2 ≡ fieldAt s at kind
+      pub field-foreign : isForeign found ≡ true → Faulty 2 at ≡ fieldAt s at kind
       unfolding fieldAt pick
       field-foreign r = simp (r, tests)
 
       module _ (r : isForeign found ≡ false) where
-        pub field-unfit : lengthFits found said ≡ false → Faulty 3 ≡ fieldAt s at kind
+        pub field-unfit : lengthFits found said ≡ false → Faulty 3 at ≡ fieldAt s at kind
         unfolding fieldAt pick
         field-unfit t = simp (r, t, tests)
 
         module _ (t : lengthFits found said ≡ true) where
-          pub field-short : length s - at - 3 < said → Faulty 1 ≡ fieldAt s at kind
+          pub field-short : length s - at - 3 < said → Faulty 1 at ≡ fieldAt s at kind
           unfolding fieldAt pick
           field-short u = simp (r, t, tests)
 
-          pub field-whole : said ≤ length s - at - 3 → Whole (at + 3) (at + 3 + said) ≡ fieldAt s at kind
+          pub field-whole : said ≤ length s - at - 3 → Whole at (at + 3) (at + 3 + said) ≡ fieldAt s at kind
           unfolding fieldAt pick
           field-whole u = simp (r, t, tests)
 
 -- a faulty field has a number other than 0
-abbrev Numbered : Field → Type 0
+abbrev pub Numbered : Field → Type 0
 Numbered Absent = Unit {0}
-Numbered (Faulty number) = 0 < number
-Numbered (Whole start end) = Unit {0}
+Numbered (Faulty number place) = 0 < number
+Numbered (Whole place start end) = Unit {0}
 
-numbered : (s : List ℕ) (at : ℕ) (kind : ℕ → Kind) → Numbered (fieldAt s at kind)
+pub numbered : (s : List ℕ) (at : ℕ) (kind : ℕ → Kind) → Numbered (fieldAt s at kind)
 unfolding fieldAt
 numbered s at kind =
     both Numbered (leb (length s) at) tt
@@ -68,25 +68,23 @@ numbered s at kind =
     (both Numbered (not (lengthFits (kind (getD s at 0)) (two s (at + 1)))) (omega arith)
     (both Numbered (ltb (length s - at - 3) (two s (at + 1))) (omega arith) tt))))
 
-pub faulty-number : (s : List ℕ) (at : ℕ) (kind : ℕ → Kind) (number : ℕ) → Faulty number ≡ fieldAt s at kind → 0 < number
-faulty-number s at kind number p = subst Numbered (sym p) (numbered s at kind)
-
--- a body stands inside the file, right after its header, with a length that its kind may have
-pub record Within (s : List ℕ) (at : ℕ) (kind : ℕ → Kind) (a e : ℕ) : Type 0 where
+-- a field stands at its place, its body inside the file, right after its header, with a length that its kind may have
+pub record Within (s : List ℕ) (at : ℕ) (kind : ℕ → Kind) (p a e : ℕ) : Type 0 where
+  pub stands : p ≡ at
   pub starts : a ≡ at + 3
   pub ends : e ≡ a + two s (at + 1)
   pub inside : e ≤ length s
   pub fits : lengthFits (kind (getD s at 0)) (two s (at + 1)) ≡ true
 
-unlike-absent : {a e : ℕ} → Whole a e ≡ Absent → ⊥
+unlike-absent : {p a e : ℕ} → Whole p a e ≡ Absent → ⊥
 unlike-absent p = let z : _≡_ {A = ℕ} 0 1 = cc in omega arith
 
-unlike-faulty : {a e n : ℕ} → Whole a e ≡ Faulty n → ⊥
+pub unlike-faulty : {p a e n q : ℕ} → Whole p a e ≡ Faulty n q → ⊥
 unlike-faulty p = let z : _≡_ {A = ℕ} 0 1 = cc in omega arith
 
-pub within : (s : List ℕ) (at : ℕ) (kind : ℕ → Kind) (a e : ℕ) → Whole a e ≡ fieldAt s at kind → Within s at kind a e
+pub within : (s : List ℕ) (at : ℕ) (kind : ℕ → Kind) (place a e : ℕ) → Whole place a e ≡ fieldAt s at kind → Within s at kind place a e
 unfolding fieldAt
-within s at kind a e p =
+within s at kind place a e p =
     let len = two s (at + 1) in
     let p1 = past (leb (length s) at) unlike-absent p in
     let p2 = past (ltb (length s - at) 3) unlike-faulty (p1 .1) in
@@ -96,6 +94,7 @@ within s at kind a e p =
     let ea : a ≡ at + 3 = cc (p5 .1) in
     let ee : e ≡ at + 3 + len = cc (p5 .1) in
     record {
+      stands = cc (p5 .1);
       starts = ea;
       ends = omega arith;
       inside = omega (arith, leb-false (length s) at (p1 .0), ltb-false (length s - at) 3 (p2 .0), ltb-false (length s - at - 3) len (p5 .0));
@@ -113,17 +112,8 @@ module _ (tag len : ℕ) where
   unfolding only pick
   only-other found p = rw (ne-eqb found tag p)
 
-  -- none is passed over
-  pub only-gives : (found : ℕ) → isPassedOver (only tag len found) ≡ false
-  unfolding only pick
-  only-gives found = go (eqb found tag)
-    where
-      go : (b : Bool) → isPassedOver (pick b (exactly len) foreign) ≡ false
-      go true = refl
-      go false = refl
-
   -- a length that fits is that one
-  only-length : (found said : ℕ) → lengthFits (only tag len found) said ≡ true → said ≡ len
+  pub only-length : (found said : ℕ) → lengthFits (only tag len found) said ≡ true → said ≡ len
   unfolding only pick
   only-length found said = go (eqb found tag)
     where
@@ -162,7 +152,7 @@ module _ (s : List ℕ) (at tag len : ℕ) where
   }
 
 module _ (s : List ℕ) (at tag len : ℕ) (p : at < length s) (q : 3 ≤ length s - at) where
-  pub only-tag : (getD s at 0 ≡ tag → ⊥) → Faulty 2 ≡ fieldAt s at (only tag len)
+  pub only-tag : (getD s at 0 ≡ tag → ⊥) → Faulty 2 at ≡ fieldAt s at (only tag len)
   only-tag r = field-foreign s at (only tag len) p q (ap isForeign (only-other tag len (getD s at 0) r))
 
   module _ (said : ℕ) (read : said ≡ two s (at + 1)) (r : getD s at 0 ≡ tag) where
@@ -172,51 +162,39 @@ module _ (s : List ℕ) (at tag len : ℕ) (p : at < length s) (q : 3 ≤ length
     fitting : lengthFits (only tag len (getD s at 0)) (two s (at + 1)) ≡ eqb said len
     fitting = rw (only-same tag len (getD s at 0) r, read)
 
-    pub only-unfit : (said ≡ len → ⊥) → Faulty 3 ≡ fieldAt s at (only tag len)
+    pub only-unfit : (said ≡ len → ⊥) → Faulty 3 at ≡ fieldAt s at (only tag len)
     only-unfit t = field-unfit s at (only tag len) p q known (fitting ∙ ne-eqb said len t)
 
     module _ (t : said ≡ len) where
       has-field : len ≤ length s - at - 3 → HasField s at tag len
       has-field u = record { ends = omega arith; tagged = r; long = sym read ∙ t }
 
-      pub only-short : (HasField s at tag len → ⊥) → Faulty 1 ≡ fieldAt s at (only tag len)
+      pub only-short : (HasField s at tag len → ⊥) → Faulty 1 at ≡ fieldAt s at (only tag len)
       only-short u = field-short s at (only tag len) p q known (fitting ∙ eq-eqb said len t) (go (decLt (length s - at - 3) len))
         where
           go : Dec (length s - at - 3 < len) → length s - at - 3 < two s (at + 1)
           go (yes h) = omega arith
           go (no h) = absurd (u (has-field (omega arith)))
 
-pub only-has : (s : List ℕ) (at tag len : ℕ) → HasField s at tag len → Whole (at + 3) (at + 3 + len) ≡ fieldAt s at (only tag len)
+pub only-has : (s : List ℕ) (at tag len : ℕ) → HasField s at tag len → Whole at (at + 3) (at + 3 + len) ≡ fieldAt s at (only tag len)
 only-has s at tag len w =
     let p : at < length s = omega (arith, w .ends) in
     let q : 3 ≤ length s - at = omega (arith, w .ends) in
     let fits = fitting s at tag len p q (two s (at + 1)) refl (w .tagged) ∙ eq-eqb (two s (at + 1)) len (w .long) in
-    ap (λ (k : ℕ). Whole (at + 3) (at + 3 + k)) (sym (w .long))
+    ap (λ (k : ℕ). Whole at (at + 3) (at + 3 + k)) (sym (w .long))
     ∙ field-whole s at (only tag len) p q (known s at tag len p q (two s (at + 1)) refl (w .tagged)) fits (omega (arith, w .ends, w .long))
 
 pub ruleset tell-laws = (tells-small, tells-late)
 
 pub ruleset field-laws = (field-absent, field-cut, only-tag, only-unfit, only-short)
 
--- what a caller of `field_at` asks of the body that it was given
-module _ (s : List ℕ) (at tag len a e : ℕ) (r : Field) (given : r ≡ fieldAt s at (only tag len)) (found : r ≡ Whole a e) where
-  pub body-within : Within s at (only tag len) a e
-  body-within = within s at (only tag len) a e (sym found ∙ given)
+-- of a whole field whose length is known: its body's ends are in order and inside the file, it is as long as that, and the rest of the file after it is shorter
+module _ (s : List ℕ) (at : ℕ) (kind : ℕ → Kind) (p a e len : ℕ) (w : Within s at kind p a e) (long : two s (at + 1) ≡ len) where
+  pub whole-order : a ≤ e
+  whole-order = omega (arith, w .ends)
 
-  ends : e ≡ a + len
-  ends = omega (arith, body-within .ends, only-length tag len (getD s at 0) (two s (at + 1)) (body-within .fits))
+  pub whole-length : length (part s a e) ≡ len
+  whole-length = simp (length-take, length-drop) (omega (arith, w .ends, w .inside))
 
-  pub body-order : a ≤ e
-  body-order = omega (arith, ends)
-
-  pub body-fits : e ≤ length s
-  body-fits = body-within .inside
-
-  pub body-length : length (part s a e) ≡ len
-  body-length = simp (length-take, length-drop) (omega (arith, ends, body-fits))
-
-  -- the rest of the file after it is shorter
-  pub body-less : length s - e < length s - at
-  body-less = omega (arith, body-within .starts, ends, body-fits)
-
-pub ruleset body-laws = (body-order, body-fits, body-length, body-less)
+  pub whole-less : length s - e < length s - at
+  whole-less = omega (arith, w .starts, w .ends, w .inside)

@@ -4,7 +4,7 @@ use crate::read::Command;
 use std::num::wrapping_add_usize;
 
 // How many bytes of the buffer a file has.
-pub const LONGEST: usize = 12288;
+pub const LONGEST: usize = 32784;
 
 // One byte at a place.
 pub fn put(buf: &mut [u8], at: usize, x: u8) {
@@ -20,6 +20,16 @@ fn put_low(buf: &mut [u8], at: usize, number: u64, bytes: u64) -> usize {
     for _ in 0..bytes {
         put(buf, next, (left % 256) as u8);
         left = left / 256;
+        next = wrapping_add_usize(next, 1);
+    }
+    next
+}
+
+// So many bytes of one value; the place after them.
+fn put_same(buf: &mut [u8], at: usize, x: u8, bytes: u64) -> usize {
+    let mut next = at;
+    for _ in 0..bytes {
+        put(buf, next, x);
         next = wrapping_add_usize(next, 1);
     }
     next
@@ -117,11 +127,20 @@ fn put_ith_node(buf: &mut [u8], at: usize, c: Command, i: u64) -> usize {
     put_field(buf, at, c.letter, step, lo, hi)
 }
 
+// A field of tag b, whose body has c bytes of the value d.
+fn put_filled(buf: &mut [u8], at: usize, c: Command) -> usize {
+    let length = c.c % 65536;
+    let start = put_low(buf, at, c.b % 256 + length * 256, 3);
+    put_same(buf, start, (c.d % 256) as u8, length)
+}
+
 fn put_ith(buf: &mut [u8], at: usize, c: Command, i: u64) -> usize {
-    if c.letter == b't' {
-        return put_ith_step(buf, at, c, i);
+    let letter = c.letter;
+    match letter {
+        b't' => put_ith_step(buf, at, c, i),
+        b'm' => put_ith_node(buf, at, c, i),
+        _ => put_filled(buf, at, c),
     }
-    put_ith_node(buf, at, c, i)
 }
 
 // As many fields as the command's first number says, by its rule; the place after them.
@@ -137,7 +156,7 @@ fn put_many(buf: &mut [u8], at: usize, c: Command) -> usize {
 pub fn add(buf: &mut [u8], at: usize, c: Command) -> usize {
     let letter = c.letter;
     match letter {
-        b't' | b'm' => put_many(buf, at, c),
+        b't' | b'm' | b'z' => put_many(buf, at, c),
         _ => put_field(buf, at, letter, c.a, c.b, c.c),
     }
 }

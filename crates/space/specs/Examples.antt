@@ -3,7 +3,7 @@
 use mathlib.Core.Path.{_≡_, refl}
 use mathlib.Core.List.{[], _∷_}
 use Rattle.definitions.specs.Basics.{pick}
-use Rattle.definitions.specs.Fields.{only, fieldAt, onField, scan}
+use Rattle.definitions.specs.Fields.{only, orRemark, fieldAt, firstField, onField, scan}
 use Rattle.definitions.specs.Charts.{headFault, stepFault, readChart}
 use Rattle.definitions.specs.Diagrams.{nodeFault, readDiagram}
 use Rattle.definitions.specs.Bytes.{chartBytes, diagramBytes}
@@ -12,9 +12,9 @@ use Rattle.definitions.specs.Marked.{chart, rules}
 use Rattle.space.specs.Space.{spaceNeeded}
 
 pub needed : spaceNeeded (readFiles (chartBytes chart) (diagramBytes rules)) ≡ record { number = 0; file = 0; place = 0; work = 20; plan = 4 }
-unfolding pick only fieldAt onField scan headFault stepFault readChart nodeFault readDiagram readFiles
+unfolding pick only orRemark fieldAt firstField onField scan headFault stepFault readChart nodeFault readDiagram readFiles
 needed = refl
 
 pub needed-refused : spaceNeeded (readFiles (chartBytes chart) (17 ∷ [])) ≡ record { number = 1; file = 2; place = 0; work = 0; plan = 0 }
-unfolding pick only fieldAt onField scan headFault stepFault readChart nodeFault readDiagram readFiles
+unfolding pick only orRemark fieldAt firstField onField scan headFault stepFault readChart nodeFault readDiagram readFiles
 needed-refused = refl

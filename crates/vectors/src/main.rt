@@ -20,5 +20,6 @@ fn play(path: &[u8]) {
 
 fn main() {
     play(b"readers.txt");
+    play(b"remarks.txt");
     play(b"searches.txt");
 }

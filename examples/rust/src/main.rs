@@ -3,10 +3,10 @@
 //!     plan-rust [CHART RULES]      (default chart.bin and rules.bin of the current folder)
 //!
 //! The program `plan` lends work for 4,096 pairs and answers 7 beyond that; this example lends what
-//! the files need. (The program reads 16,384 bytes of a file, which changes no answer: the first fault
-//! of a longer one is at byte 11,273 of a chart or 4,595 of a diagram at the latest.) A file that is
-//! missing counts as empty. The bytes of a refused field go to standard error. The exit status is 0
-//! for a plan and for a refusal, 2 where writing the output fails and for bad arguments.
+//! the files need. (The program reads 32,769 bytes of a file, which changes no answer: a longer one is
+//! 9 all the same.) A file that is missing counts as empty. The bytes of a refused field go to standard
+//! error. The exit status is 0 for a plan and for a refusal, 2 where writing the output fails and for
+//! bad arguments.
 
 use std::ffi::OsString;
 use std::io::{self, Write};

@@ -1,48 +1,48 @@
 -- `chart::read_chart` meets its contract.
-use Rattle.fields.specs.Positions.{body-laws}
+use Rattle.fields.specs.First.{first-laws}
 use Rattle.chart.proofs.Whole.{chart-laws}
 use borrow.Author.Needs.{needs}
 use Rattle.chart.proofs.reader.read_chart.Statement.{statement}
 use Rattle.chart.proofs.reader.read_chart.Tie as tie
 
-field-at-requires : tie.Need-field-at-requires
-field-at-requires c κs = search needs
+first-field-requires : tie.Need-first-field-requires
+first-field-requires c κs = search needs
 
 enum-told : tie.Need-enum-told
 enum-told c = search needs
 
-bad-head-requires : tie.Need-bad-head-requires
-bad-head-requires c κs = search needs
+refused-requires : tie.Need-refused-requires
+refused-requires c κs = search needs
 
 enum-known-number : tie.Need-enum-known-number
 enum-known-number c = search needs
 
-bad-head-requires-2 : tie.Need-bad-head-requires-2
-bad-head-requires-2 c κs = search needs
+refused-requires-2 : tie.Need-refused-requires-2
+refused-requires-2 c κs = search needs
 
-enum-known-start : tie.Need-enum-known-start
-enum-known-start c = search needs
+enum-known-place : tie.Need-enum-known-place
+enum-known-place c = search needs
 
 sub-body : tie.Need-sub-body
-sub-body c = search body-laws
+sub-body c = search first-laws
 
 part-body-start : tie.Need-part-body-start
-part-body-start c = search body-laws
+part-body-start c = search first-laws
 
 part-body-end : tie.Need-part-body-end
-part-body-end c = search body-laws
+part-body-end c = search first-laws
 
 head-fault-requires : tie.Need-head-fault-requires
-head-fault-requires c κs = search body-laws
+head-fault-requires c κs = search first-laws
 
-bad-head-requires-3 : tie.Need-bad-head-requires-3
-bad-head-requires-3 c κs = search needs
+refused-requires-3 : tie.Need-refused-requires-3
+refused-requires-3 c κs = search needs
 
 returns : tie.Need-returns
 returns c = search chart-laws
 
 head-of-requires : tie.Need-head-of-requires
-head-of-requires c κs = search body-laws
+head-of-requires c κs = search first-laws
 
 read-steps-requires : tie.Need-read-steps-requires
 read-steps-requires c κs = search needs
@@ -60,17 +60,17 @@ pub read-chart-spec : {M : Type 1} → statement M
 read-chart-spec =
     tie.close
     (tie.spec
-    field-at-requires
+    first-field-requires
     enum-told
-    bad-head-requires
+    refused-requires
     enum-known-number
-    bad-head-requires-2
-    enum-known-start
+    refused-requires-2
+    enum-known-place
     sub-body
     part-body-start
     part-body-end
     head-fault-requires
-    bad-head-requires-3
+    refused-requires-3
     returns
     head-of-requires
     read-steps-requires

@@ -46,7 +46,8 @@ use denote.Triple.Table.{entered, cited}
 use denote.Triple.Walked.{says, Stays, stay-none, stay-none-slice, stay-ref, walkOf, goes-none, goes-none-slice, goes-ref, Walks, ends-at, walked, walk-meets}
 use denote.Exit.{yes}
 use denote.Signature.{plain, namedLft}
-use Rattle.definitions.specs.Fields.{only, fieldAt}
+use Rattle.definitions.specs.Fields.{only}
+use Rattle.fields.specs.Remarks.{nextField}
 use Rattle.definitions.specs.declared.Field.{Field}
 use Rattle.fields.specs.declared.reader.Reader.{Reader}
 use Rattle.chart.specs.declared.reader.StepsRead.{StepsRead}
@@ -155,7 +156,7 @@ module _ {M : Type 1} (𝓤 : URA M) (H : Heap 𝓤) (A : Atoms 𝓤) (W : Given
   abbrev to-take : ℕ → GName → Field → Val → StepsRead → List (List ℕ) → Take 𝓤 H A mem run .Ghost
   to-take ν δ f u t vs = (((κ, (ν ∷ [], tt)), (q, (fullShare, tt)), tt, with-take δ f t vs, vals-take u t), tt)
 
-  asked-take : (ν : ℕ) (δ : GName) (f : Field) (u : Val) (t : StepsRead) (vs : List (List ℕ)) → f ≡ fieldAt (now s) (t .place) (only 2 8)
+  asked-take : (ν : ℕ) (δ : GName) (f : Field) (u : Val) (t : StepsRead) (vs : List (List ℕ)) → f ≡ nextField (now s) (t .place) (only 2 8)
       → ent 𝓤 (onEntry 𝓤 H A take.signature (κ, (ν ∷ [], tt)) (q, (fullShare, tt)) (with-take δ f t vs) (vals-take u t)) (Take 𝓤 H A mem run .pre (to-take ν δ f u t vs))
   asked-take ν δ f u t vs found =
       qed W ((‵ (flft κ q) ⊛ ‵ (flft (ν ∷ []) fullShare) ⊛ ‵ ftrue) ∷ ‵ (owns (ShrSlice (named 0) κ u8 ∷ S.the-row ∷ SR ∷ u16 ∷ MutRef (named 1) (ν ∷ []) TB ∷ []) (with-take δ f t vs) (vals-take u t)) ∷ []) ∵
@@ -237,7 +238,7 @@ module _ {M : Type 1} (𝓤 : URA M) (H : Heap 𝓤) (A : Atoms 𝓤) (W : Given
         use2 W (raw (Next 𝓤 H A mem run .pre (to-next 𝓤 H A W mem run κ q 2 8 d u))) (goes-next 𝓤 H A W mem run κ q 2 8 (lit< tt) (lit< tt) d u) $
         calls-at ! fm (Next 𝓤 H A mem run) known-next (to-next 𝓤 H A W mem run κ q 2 8 d u) (and-then ! (load ! (from ! (stop !)) (look ! 9 refl)) (and-then ! (lit ! tt) (and-then ! (lit ! tt) (no-more !)))) (λ k.
         use1 W (later (some (λ (f : Field). ((‵ (flft κ q) ⊛ ‵ ftrue) ⊛ ‵ (S.the-row .own f (k ∷ []))) ⊛ raw (ensured 𝓤 H A next.ended (next.clauses 𝓤 H A mem run) (κ, tt) (d, (2, (8, tt))) tt f)))) (id⊢ 𝓤 _) $ await ! tt $ pick ! (λ f.
-        split ! $ move ! (1 ∷ []) $ use1 W (raw (fact 𝓤 (f ≡ fieldAt (now (d .src)) (d .at) (only 2 8)))) (next-said 𝓤 H A W mem run κ q 2 8 d f) $ heard ! (f ≡ fieldAt (now (d .src)) (d .at) (only 2 8)) (λ ef. move ! (0 ∷ []) $ split ! $
+        split ! $ move ! (1 ∷ []) $ use1 W (raw (fact 𝓤 (f ≡ nextField (now (d .src)) (d .at) (only 2 8)))) (next-said 𝓤 H A W mem run κ q 2 8 d f) $ heard ! (f ≡ nextField (now (d .src)) (d .at) (only 2 8)) (λ ef. move ! (0 ∷ []) $ split ! $
         move ! (1 ∷ []) $ peeks ! S.the-row (Is S.the-row) (shows 𝓤 H A S.the-row) f (k ∷ []) (λ isf. land ! (from ! (stop !)) (init ! 16 refl (EL.lawful S.the-type S′.the-laws 𝓤 H A W tt .typed f _ isf .0)) $
         -- it is taken, the table lent again for a lifetime ν of the call
         assigns ! (addr ! (from ! (hop ! (look ! 22 refl) (stop !)))) (from ! (stop !)) (init ! 8 refl (tt, tt)) $ lft-new ! tt (λ ν. move ! (5 ∷ 6 ∷ []) $
@@ -270,8 +271,8 @@ module _ {M : Type 1} (𝓤 : URA M) (H : Heap 𝓤) (A : Atoms 𝓤) (W : Given
         z : State
         z = (d, u, t, vs, ud, is, src, at, g)
 
-        found-at : {f : Field} → f ≡ fieldAt (now (d .src)) (d .at) (only 2 8) → f ≡ fieldAt (now s) (t .place) (only 2 8)
-        found-at e = e ∙ (ap (λ (y : RefT (List ℕ)). fieldAt (now y) (d .at) (only 2 8)) src ∙ ap (λ (n : ℕ). fieldAt (now s) n (only 2 8)) at)
+        found-at : {f : Field} → f ≡ nextField (now (d .src)) (d .at) (only 2 8) → f ≡ nextField (now s) (t .place) (only 2 8)
+        found-at e = e ∙ (ap (λ (y : RefT (List ℕ)). nextField (now y) (d .at) (only 2 8)) src ∙ ap (λ (n : ℕ). nextField (now s) n (only 2 8)) at)
 
     ends : (d : Reader) (u : Val) (t : StepsRead) (vs : List (List ℕ)) (ud : Is (B (κ, tt)) d (u ∷ [])) (is : Is SR t (R′.lowered t ∷ [])) (src : d .src ≡ s) (at : d .at ≡ t .place) (g : Stands (now s) start stages us vs t)
         → t .going ≡ false → Sq W (held d u t vs) (runs C Λ En mir-of.turn-1 (anyQ (Turned (d, u, t, vs, ud, is, src, at, g))))

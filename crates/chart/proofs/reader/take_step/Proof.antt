@@ -1,5 +1,5 @@
 -- `chart::take_step` meets its contract.
-use Rattle.fields.specs.Positions.{body-laws}
+use Rattle.fields.specs.Remarks.{next-laws}
 use Rattle.chart.proofs.Steps.{step-below, take-step, take-laws}
 use Prim.Native.Nat.{_<_}
 use native.Mathlib.Omega.{arith}
@@ -37,25 +37,25 @@ enum-known-found-2 : tie.Need-enum-known-found-2
 enum-known-found-2 c = search needs
 
 sub-body : tie.Need-sub-body
-sub-body c = search (take-laws, body-laws, needs)
+sub-body c = search (take-laws, next-laws, needs)
 
 part-body-start : tie.Need-part-body-start
-part-body-start c = search (take-laws, body-laws, needs)
+part-body-start c = search (take-laws, next-laws, needs)
 
 part-body-end : tie.Need-part-body-end
-part-body-end c = search (take-laws, body-laws, needs)
+part-body-end c = search (take-laws, next-laws, needs)
 
 step-fault-requires : tie.Need-step-fault-requires
-step-fault-requires c κs = search (take-laws, body-laws, needs)
+step-fault-requires c κs = search (take-laws, next-laws, needs)
 
 stopped-requires-3 : tie.Need-stopped-requires-3
 stopped-requires-3 c κs = search needs
 
 returns : tie.Need-returns
-returns c = search (take-laws, body-laws, needs)
+returns c = search (take-laws, next-laws, needs)
 
 step-of-requires : tie.Need-step-of-requires
-step-of-requires c κs = search (take-laws, body-laws, needs)
+step-of-requires c κs = search (take-laws, next-laws, needs)
 
 ends-of-requires : tie.Need-ends-of-requires
 ends-of-requires c κs = search needs
@@ -78,21 +78,22 @@ index-1-steps-2 c = search needs
 index-2-steps-2 : tie.Need-index-2-steps-2
 index-2-steps-2 c = omega (arith, room (passed (read c)))
 
-add-t17 : tie.Need-add-t17
-add-t17 c = omega (arith, room (passed (read c)))
+add-t18 : tie.Need-add-t18
+add-t18 c = omega (arith, room (passed (read c)))
 
 returns-2 : tie.Need-returns-2
-returns-2 c = search (take-laws, body-laws, needs)
+returns-2 c = search (take-laws, next-laws, needs)
 
 returns-3 : tie.Need-returns-3
-returns-3 c = search (take-laws, body-laws, needs)
+returns-3 c = search (take-laws, next-laws, needs)
 
 returns-4 : tie.Need-returns-4
 returns-4 c =
     let q = read c in
     let p = passed q in
     let s = start-of p in
-    take-step _ _ _ _ _ (s .pre) _ _ (search needs) _ (p .before .step-fault .ensures) (p .if1 .left) _ (q .step-of .ensures) _ (c .ends-of .ensures)
+    let found : tie.After-found2 = search in
+    take-step _ _ _ _ _ (s .pre) (found .found2 .given .0 .0) _ _ (search needs) _ (p .before .step-fault .ensures) (p .if1 .left) _ (q .step-of .ensures) _ (c .ends-of .ensures)
     (omega (arith, q .step-of .ok))
 
 pub take-step-spec : {M : Type 1} → statement M
@@ -118,7 +119,7 @@ take-step-spec =
     mul-steps-2
     index-1-steps-2
     index-2-steps-2
-    add-t17
+    add-t18
     returns-2
     returns-3
     returns-4)

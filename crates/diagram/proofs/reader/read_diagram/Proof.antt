@@ -1,5 +1,5 @@
 -- `diagram::read_diagram` meets its contract.
-use Rattle.fields.specs.Positions.{body-laws}
+use Rattle.fields.specs.First.{first-laws}
 use Rattle.diagram.proofs.Whole.{whole-laws}
 use borrow.Author.Needs.{needs}
 use Rattle.diagram.proofs.reader.read_diagram.Statement.{statement}
@@ -14,32 +14,32 @@ element-write-inner c = search needs
 element-write-inner-2 : tie.Need-element-write-inner-2
 element-write-inner-2 c = search needs
 
-field-at-requires : tie.Need-field-at-requires
-field-at-requires c κs = search needs
+first-field-requires : tie.Need-first-field-requires
+first-field-requires c κs = search needs
 
 enum-told : tie.Need-enum-told
 enum-told c = search needs
 
-bad-head-requires : tie.Need-bad-head-requires
-bad-head-requires c κs = search needs
+refused-requires : tie.Need-refused-requires
+refused-requires c κs = search needs
 
 enum-known-number : tie.Need-enum-known-number
 enum-known-number c = search needs
 
-bad-head-requires-2 : tie.Need-bad-head-requires-2
-bad-head-requires-2 c κs = search needs
+refused-requires-2 : tie.Need-refused-requires-2
+refused-requires-2 c κs = search needs
 
 enum-known-start : tie.Need-enum-known-start
 enum-known-start c = search needs
 
 sub-read-u16 : tie.Need-sub-read-u16
-sub-read-u16 c = search body-laws
+sub-read-u16 c = search first-laws
 
 part-read-u16-start : tie.Need-part-read-u16-start
-part-read-u16-start c = search body-laws
+part-read-u16-start c = search first-laws
 
 part-read-u16-end : tie.Need-part-read-u16-end
-part-read-u16-end c = search body-laws
+part-read-u16-end c = search first-laws
 
 read-u16-requires : tie.Need-read-u16-requires
 read-u16-requires c κs = search whole-laws
@@ -75,11 +75,11 @@ read-diagram-spec =
     leaf-word-requires
     element-write-inner
     element-write-inner-2
-    field-at-requires
+    first-field-requires
     enum-told
-    bad-head-requires
+    refused-requires
     enum-known-number
-    bad-head-requires-2
+    refused-requires-2
     enum-known-start
     sub-read-u16
     part-read-u16-start

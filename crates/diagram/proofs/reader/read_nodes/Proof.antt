@@ -46,7 +46,8 @@ use denote.Triple.Table.{entered, cited}
 use denote.Triple.Walked.{says, Stays, stay-none, stay-none-slice, stay-ref, walkOf, goes-none, goes-none-slice, goes-ref, Walks, ends-at, walked, walk-meets}
 use denote.Exit.{yes}
 use denote.Signature.{plain, namedLft}
-use Rattle.definitions.specs.Fields.{only, fieldAt}
+use Rattle.definitions.specs.Fields.{only}
+use Rattle.fields.specs.Remarks.{nextField}
 use Rattle.definitions.specs.declared.Field.{Field}
 use Rattle.fields.specs.declared.reader.Reader.{Reader}
 use Rattle.diagram.specs.declared.reader.NodesRead.{NodesRead}
@@ -171,14 +172,14 @@ module _ {M : Type 1} (𝓤 : URA M) (H : Heap 𝓤) (A : Atoms 𝓤) (W : Given
   abbrev to-take : ℕ → ℕ → GName → GName → Field → Val → NodesRead → List ℕ → List ℕ → Take 𝓤 H A mem run .Ghost
   to-take ν₁ ν₂ δ₁ δ₂ f u t vs ws = (((κ, (ν₁ ∷ [], (ν₂ ∷ [], tt))), (q, (fullShare, (fullShare, tt))), tt, with-take δ₁ δ₂ f t vs ws, vals-take u t), tt)
 
-  asked-take : (ν₁ ν₂ : ℕ) (δ₁ δ₂ : GName) (f : Field) (u : Val) (t : NodesRead) (vs ws : List ℕ) → f ≡ fieldAt (now s) (t .place) (only 18 6)
+  asked-take : (ν₁ ν₂ : ℕ) (δ₁ δ₂ : GName) (f : Field) (u : Val) (t : NodesRead) (vs ws : List ℕ) → f ≡ nextField (now s) (t .place) (only 18 6)
       → ent 𝓤 (onEntry 𝓤 H A take.signature (κ, (ν₁ ∷ [], (ν₂ ∷ [], tt))) (q, (fullShare, (fullShare, tt))) (with-take δ₁ δ₂ f t vs ws) (vals-take u t)) (Take 𝓤 H A mem run .pre (to-take ν₁ ν₂ δ₁ δ₂ f u t vs ws))
   asked-take ν₁ ν₂ δ₁ δ₂ f u t vs ws found =
       qed W ((‵ (flft κ q) ⊛ ‵ (flft (ν₁ ∷ []) fullShare) ⊛ ‵ (flft (ν₂ ∷ []) fullShare) ⊛ ‵ ftrue)
       ∷ ‵ (owns (ShrSlice (named 0) κ u8 ∷ S.the-row ∷ SR ∷ usize ∷ MutRef (named 1) (ν₁ ∷ []) TS ∷ MutRef (named 2) (ν₂ ∷ []) TN ∷ []) (with-take δ₁ δ₂ f t vs ws) (vals-take u t)) ∷ []) ∵
       says ! found $ frame ! $ done !
 
-  exits : (t : NodesRead) (vs ws : List ℕ) → Is SR t (R′.lowered t ∷ []) → Over (now s) start steps us₁ us₂ ws t
+  exits : (t : NodesRead) (vs ws : List ℕ) → Is SR t (R′.lowered t ∷ []) → Over (now s) start steps us₁ us₂ vs ws t
       → ent 𝓤 (⋆ 𝓤 H A ((‵ (flft κ q) ⊛ ‵ ftrue) ∷ ‵ Own ∷ ‵ (Own₁ κ₁ γ₁ vs) ∷ ‵ (flft κ₁ q₁) ∷ ‵ (Own₂ κ₂ γ₂ ws) ∷ ‵ (flft κ₂ q₂) ∷ [])) (Post (R′.lowered t))
   exits t vs ws is over =
       qed W ((‵ (flft κ q) ⊛ ‵ ftrue) ∷ ‵ Own ∷ ‵ (Own₁ κ₁ γ₁ vs) ∷ ‵ (flft κ₁ q₁) ∷ ‵ (Own₂ κ₂ γ₂ ws) ∷ ‵ (flft κ₂ q₂) ∷ []) ∵
@@ -257,7 +258,7 @@ module _ {M : Type 1} (𝓤 : URA M) (H : Heap 𝓤) (A : Atoms 𝓤) (W : Given
         use2 W (raw (Next 𝓤 H A mem run .pre (to-next 𝓤 H A W mem run κ q 18 6 d u))) (goes-next 𝓤 H A W mem run κ q 18 6 (lit< tt) (lit< tt) d u) $
         calls-at ! fm (Next 𝓤 H A mem run) known-next (to-next 𝓤 H A W mem run κ q 18 6 d u) (and-then ! (load ! (from ! (stop !)) (look ! 13 refl)) (and-then ! (lit ! tt) (and-then ! (lit ! tt) (no-more !)))) (λ k.
         use1 W (later (some (λ (f : Field). ((‵ (flft κ q) ⊛ ‵ ftrue) ⊛ ‵ (S.the-row .own f (k ∷ []))) ⊛ raw (ensured 𝓤 H A next.ended (next.clauses 𝓤 H A mem run) (κ, tt) (d, (18, (6, tt))) tt f)))) (id⊢ 𝓤 _) $ await ! tt $ pick ! (λ f.
-        split ! $ move ! (1 ∷ []) $ use1 W (raw (fact 𝓤 (f ≡ fieldAt (now (d .src)) (d .at) (only 18 6)))) (next-said 𝓤 H A W mem run κ q 18 6 d f) $ heard ! (f ≡ fieldAt (now (d .src)) (d .at) (only 18 6)) (λ ef. move ! (0 ∷ []) $
+        split ! $ move ! (1 ∷ []) $ use1 W (raw (fact 𝓤 (f ≡ nextField (now (d .src)) (d .at) (only 18 6)))) (next-said 𝓤 H A W mem run κ q 18 6 d f) $ heard ! (f ≡ nextField (now (d .src)) (d .at) (only 18 6)) (λ ef. move ! (0 ∷ []) $
         split ! $ move ! (1 ∷ []) $ peeks ! S.the-row (Is S.the-row) (shows 𝓤 H A S.the-row) f (k ∷ []) (λ isf. land ! (from ! (stop !)) (init ! 20 refl (EL.lawful S.the-type S′.the-laws 𝓤 H A W tt .typed f _ isf .0)) $
         -- it is taken, the tables lent again for lifetimes ν₁ and ν₂ of the call
         assigns ! (addr ! (from ! (hop ! (look ! 28 refl) (stop !)))) (from ! (stop !)) (init ! 12 refl (tt, tt)) $ assigns ! (addr ! (from ! (hop ! (look ! 26 refl) (stop !)))) (from ! (stop !)) (init ! 10 refl (tt, tt)) $
@@ -299,8 +300,8 @@ module _ {M : Type 1} (𝓤 : URA M) (H : Heap 𝓤) (A : Atoms 𝓤) (W : Given
         z : State
         z = (d, u, t, vs, ws, ud, is, src, at, g)
 
-        found-at : {f : Field} → f ≡ fieldAt (now (d .src)) (d .at) (only 18 6) → f ≡ fieldAt (now s) (t .place) (only 18 6)
-        found-at e = e ∙ (ap (λ (y : RefT (List ℕ)). fieldAt (now y) (d .at) (only 18 6)) src ∙ ap (λ (n : ℕ). fieldAt (now s) n (only 18 6)) at)
+        found-at : {f : Field} → f ≡ nextField (now (d .src)) (d .at) (only 18 6) → f ≡ nextField (now s) (t .place) (only 18 6)
+        found-at e = e ∙ (ap (λ (y : RefT (List ℕ)). nextField (now y) (d .at) (only 18 6)) src ∙ ap (λ (n : ℕ). nextField (now s) n (only 18 6)) at)
 
     ends : (d : Reader) (u : Val) (t : NodesRead) (vs ws : List ℕ) (ud : Is (B (κ, tt)) d (u ∷ [])) (is : Is SR t (R′.lowered t ∷ [])) (src : d .src ≡ s) (at : d .at ≡ t .place) (g : Stands (now s) start steps us₁ us₂ vs ws t)
         → t .going ≡ false → Sq W (held d u t vs ws) (runs C Λ En mir-of.turn-1 (anyQ (Turned (d, u, t, vs, ws, ud, is, src, at, g))))

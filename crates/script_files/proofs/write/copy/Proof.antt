@@ -8,10 +8,10 @@ use Rattle.script_files.proofs.write.copy.Statement.{statement}
 use Rattle.script_files.proofs.write.copy.Tie as tie
 
 abbrev Inv-loop : tie.InvT-loop
-Inv-loop buf₀ from to i₀ buf i = (i ≤ 12288) × (length buf ≡ length buf₀)
+Inv-loop buf₀ from to i₀ buf i = (i ≤ 32784) × (length buf ≡ length buf₀)
 
 abbrev μ-loop : tie.MeasureT-loop
-μ-loop buf₀ from to i₀ buf i = 12288 - i
+μ-loop buf₀ from to i₀ buf i = 32784 - i
 
 loop-holds : tie.Need-loop-holds Inv-loop μ-loop
 loop-holds c = search needs

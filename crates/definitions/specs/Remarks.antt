@@ -1,0 +1,157 @@
+-- Remarks in both files, and files that are too long (REFERENCE 2.1, 3.2): what reading them gives, and mistakes refuted.
+-- Assumes nothing.
+use Prim.Native.Nat.{ℕ, _≤_, _<_}
+use mathlib.Core.Path.{_≡_, refl, sym, _∙_}
+use mathlib.Core.Bool.{Bool, false}
+use mathlib.Core.List.{List, [], _∷_, _++_, map}
+use native.Mathlib.Omega.{arith}
+use native.Mathlib.Decide.{decLt}
+use lib.ListN.{length, take, replicate}
+use lib.Seq.{length-take-le, take-all}
+use borrow.Author.Tests.{lt-leb, le-leb}
+use Rattle.definitions.specs.Basics.{pick, each}
+use Rattle.definitions.specs.Fields.{Kind, only, orRemark, fieldAt, firstField, onField, scan}
+use Rattle.definitions.specs.Charts.{ChartRead, headFault, stepFault, chartRefused, readChart}
+use Rattle.definitions.specs.Diagrams.{nodeFault, diagramRefused, readDiagram}
+use Rattle.definitions.specs.Bytes.{headBytes, field, stepBytes, rootBytes, nodeBytes, chartBytes, diagramBytes}
+use Rattle.definitions.specs.Answers.{Load, refused, readFiles, load}
+use Rattle.definitions.specs.Marked.{st, nd, chart, rules}
+use Rattle.definitions.specs.Examples.{alike, rooted, chartRefusal, rulesRefusal, loadRefusal, whole-chart}
+use Rattle.definitions.specs.declared.Field.the-variants.{Faulty}
+
+-- a remark before each field after the head, and one at the end, by the tag of the first
+abbrev noted : List (List ℕ) → List ℕ
+noted fields = each (λ f. field 128 [] ++ f) fields ++ field 255 (2 ∷ 8 ∷ 0 ∷ [])
+
+abbrev chartNoted : List ℕ
+chartNoted = headBytes (chart .stages) (chart .start) (chart .end) ++ noted (map stepBytes (chart .steps))
+
+abbrev rulesNoted : List ℕ
+rulesNoted = rootBytes (rules .root) ++ noted (map nodeBytes (rules .nodes))
+
+-- the same chart and the same diagram: no step and no node has another number
+pub chart-noted : readChart chartNoted ≡ record { number = 0; place = 0; chart = chart }
+unfolding pick only orRemark fieldAt firstField onField scan headFault stepFault readChart
+chart-noted = refl
+
+pub rules-noted : readDiagram rulesNoted 6 ≡ record { number = 0; place = 0; diagram = rules }
+unfolding pick only orRemark fieldAt firstField onField scan nodeFault readDiagram
+rules-noted = refl
+
+-- a chart file of a head, and a diagram file of a head, with these bytes behind
+abbrev after : List ℕ → List ℕ
+after bytes = chartRefusal (headBytes 5 0 4 ++ bytes)
+
+abbrev afterRoot : List ℕ → List ℕ
+afterRoot bytes = rulesRefusal (rootBytes 1 ++ bytes) 6
+
+-- what a file is refused with, and where
+pub remarks : List (List ℕ × List ℕ)
+remarks =
+    -- nothing but a head and remarks, of the first tag and of the last
+    (after (128 ∷ 0 ∷ 0 ∷ 255 ∷ 1 ∷ 0 ∷ 7 ∷ []), 0 ∷ 0 ∷ [])
+    ∷ (afterRoot (128 ∷ 0 ∷ 0 ∷ 255 ∷ 1 ∷ 0 ∷ 7 ∷ []), 0 ∷ 0 ∷ [])
+    -- the tag before the first
+    ∷ (after (127 ∷ 0 ∷ 0 ∷ []), 2 ∷ 9 ∷ [])
+    ∷ (afterRoot (127 ∷ 0 ∷ 0 ∷ []), 2 ∷ 5 ∷ [])
+    -- a header and a body that are cut, each at the remark's own place
+    ∷ (after (128 ∷ 0 ∷ 0 ∷ 128 ∷ 0 ∷ []), 1 ∷ 12 ∷ [])
+    ∷ (after (128 ∷ 0 ∷ 0 ∷ 128 ∷ 2 ∷ 0 ∷ 7 ∷ []), 1 ∷ 12 ∷ [])
+    ∷ (afterRoot (128 ∷ 0 ∷ 0 ∷ 128 ∷ 2 ∷ 0 ∷ 7 ∷ []), 1 ∷ 8 ∷ [])
+    -- a length of two bytes: 256, with as many behind it, with one less, and the largest
+    ∷ (after (200 ∷ 0 ∷ 1 ∷ replicate 256 9), 0 ∷ 0 ∷ [])
+    ∷ (after (200 ∷ 0 ∷ 1 ∷ replicate 255 9), 1 ∷ 9 ∷ [])
+    ∷ (after (200 ∷ 255 ∷ 255 ∷ []), 1 ∷ 9 ∷ [])
+    -- before the head
+    ∷ (chartRefusal (128 ∷ 0 ∷ 0 ∷ headBytes 5 0 4), 2 ∷ 0 ∷ [])
+    ∷ (rulesRefusal (128 ∷ 0 ∷ 0 ∷ rootBytes 1) 6, 2 ∷ 0 ∷ [])
+    -- a fault behind a remark, at its own place: a step, a node, a second head
+    ∷ (after (field 128 (7 ∷ 7 ∷ []) ++ stepBytes (st 1 1 7)), 5 ∷ 14 ∷ [])
+    ∷ (afterRoot (field 128 [] ++ nodeBytes (nd 0 2 1)), 6 ∷ 8 ∷ [])
+    ∷ (after (field 128 [] ++ headBytes 5 0 4), 2 ∷ 12 ∷ [])
+    -- a step that leaves a stage below that of the step before it, with a remark between
+    ∷ (after (stepBytes (st 1 2 7) ++ field 128 [] ++ stepBytes (st 0 1 7)), 5 ∷ 23 ∷ [])
+    -- a remark that looks like a step gives the diagram no step more
+    ∷ (loadRefusal (load (headBytes 5 0 4 ++ field 130 (0 ∷ 0 ∷ 1 ∷ 0 ∷ 7 ∷ 0 ∷ 0 ∷ 0 ∷ []) ++ stepBytes (st 0 1 7)) (diagramBytes (rooted 2 (nd 1 0 1 ∷ []))) (15 ∷ []) 4), 6 ∷ 2 ∷ 5 ∷ [])
+    ∷ []
+
+pub remarks-hold : map (λ x. x .0) remarks ≡ map (λ x. x .1) remarks
+unfolding remarks pick only orRemark fieldAt firstField onField scan headFault stepFault nodeFault readChart readDiagram readFiles load
+remarks-hold = refl
+
+-- mistakes: a remark before the head let through, a step number taken, tag 7F let through, a cut body let through, a remark's length judged
+pub remarkMistakes : List (List ℕ × List ℕ)
+remarkMistakes =
+    (chartRefusal (128 ∷ 0 ∷ 0 ∷ headBytes 5 0 4), 0 ∷ 0 ∷ [])
+    ∷ (loadRefusal (load (headBytes 5 0 4 ++ field 130 [] ++ stepBytes (st 0 1 7)) (diagramBytes (rooted 2 (nd 1 0 1 ∷ []))) (15 ∷ []) 4), [])
+    ∷ (after (127 ∷ 0 ∷ 0 ∷ []), 0 ∷ 0 ∷ [])
+    ∷ (after (128 ∷ 2 ∷ 0 ∷ 7 ∷ []), 0 ∷ 0 ∷ [])
+    ∷ (after (128 ∷ 1 ∷ 0 ∷ 7 ∷ []), 3 ∷ 9 ∷ [])
+    ∷ []
+
+pub remark-mistakes-refuted : map (λ x. alike (x .0) (x .1)) remarkMistakes ≡ map (λ x. false) remarkMistakes
+unfolding remarkMistakes pick only orRemark fieldAt firstField onField scan headFault stepFault nodeFault readChart readDiagram readFiles load
+remark-mistakes-refuted = refl
+
+-- ---- too long: more than 32,768 bytes, whatever they are
+
+-- the longest remark that fits behind each head: 32,756 and 32,760 bytes
+pub longest : List (List ℕ)
+longest =
+    after (128 ∷ 244 ∷ 127 ∷ replicate 32756 0) ∷ after (128 ∷ 244 ∷ 127 ∷ replicate 32755 0) ∷ after (128 ∷ 244 ∷ 127 ∷ replicate 32757 0)
+    ∷ afterRoot (128 ∷ 248 ∷ 127 ∷ replicate 32760 0) ∷ afterRoot (128 ∷ 248 ∷ 127 ∷ replicate 32759 0) ∷ afterRoot (128 ∷ 248 ∷ 127 ∷ replicate 32761 0)
+    ∷ []
+
+pub longest-hold : longest ≡ (0 ∷ 0 ∷ []) ∷ (1 ∷ 9 ∷ []) ∷ (9 ∷ 32768 ∷ []) ∷ (0 ∷ 0 ∷ []) ∷ (1 ∷ 5 ∷ []) ∷ (9 ∷ 32768 ∷ []) ∷ []
+unfolding longest pick only orRemark fieldAt firstField onField scan headFault readChart readDiagram
+longest-hold = refl
+
+module _ (s : List ℕ) (long : 32768 < length s) where
+  long-first : (kind : ℕ → Kind) → firstField s kind ≡ Faulty 9 32768
+  unfolding firstField pick
+  long-first kind = rw (lt-leb (length s) 32768 long)
+
+  long-chart-read : readChart s ≡ chartRefused 9 32768
+  unfolding readChart onField
+  long-chart-read = rw (long-first (only 1 6))
+
+  long-rules-read : (steps : ℕ) → readDiagram s steps ≡ diagramRefused 9 32768
+  unfolding readDiagram onField
+  long-rules-read steps = rw (long-first (only 17 2))
+
+  -- the chart's length is judged before its fields, and before the diagram
+  pub long-chart : (rules : List ℕ) → readFiles s rules ≡ refused 9 1 32768
+  unfolding readFiles pick
+  long-chart rules = rw long-chart-read
+
+  -- the diagram's before its fields, and after the chart's fields
+  pub long-rules : readFiles (chartBytes chart) s ≡ refused 9 2 32768
+  unfolding readFiles pick
+  long-rules = rw (whole-chart, long-rules-read 6)
+
+  pub long-rules-later : readFiles (9 ∷ []) s ≡ refused 1 1 0
+  unfolding pick only orRemark fieldAt firstField onField readChart readFiles
+  long-rules-later = refl
+
+-- 32,768 bytes are not too long
+pub short-first : (s : List ℕ) → length s ≤ 32768 → (kind : ℕ → Kind) → firstField s kind ≡ fieldAt s 0 kind
+unfolding firstField pick
+short-first s short kind = rw (le-leb (length s) 32768 short)
+
+-- A caller that reads no more than 32,769 bytes of each file, as the program does, gets the same answer
+cut-first : (s : List ℕ) (A : List ℕ → Type 0) → (length s ≤ 32768 → A s) → (32768 < length (take 32769 s) → 32768 < length s → A (take 32769 s)) → A (take 32769 s)
+cut-first s A short long = go (decLt 32768 (length s))
+  where
+    go : Dec (32768 < length s) → A (take 32769 s)
+    go (yes h) = long (omega (arith, length-take-le 32769 s (omega arith))) h
+    go (no h) = let l : length s ≤ 32768 = omega arith in rw (take-all 32769 s (omega arith)) (short l)
+
+cut-chart : (s : List ℕ) → readChart (take 32769 s) ≡ readChart s
+cut-chart s = cut-first s (λ t. readChart t ≡ readChart s) (λ l. refl) (λ c l. long-chart-read (take 32769 s) c ∙ sym (long-chart-read s l))
+
+cut-rules : (s : List ℕ) (steps : ℕ) → readDiagram (take 32769 s) steps ≡ readDiagram s steps
+cut-rules s steps = cut-first s (λ t. readDiagram t steps ≡ readDiagram s steps) (λ l. refl) (λ c l. long-rules-read (take 32769 s) c steps ∙ sym (long-rules-read s l steps))
+
+pub cut-files : (chart rules : List ℕ) → readFiles (take 32769 chart) (take 32769 rules) ≡ readFiles chart rules
+unfolding readFiles
+cut-files chart rules = rw (cut-chart chart, cut-rules rules (length (readChart chart .chart .steps)))

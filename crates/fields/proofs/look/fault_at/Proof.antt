@@ -1,0 +1,51 @@
+-- `fields::look::fault_at` meets its contract.
+use borrow.Author.Needs.{needs}
+use Rattle.fields.specs.Positions.{field-laws, only-tag, only-unfit, only-short}
+use Rattle.fields.proofs.look.fault_at.Statement.{statement}
+use Rattle.fields.proofs.look.fault_at.Tie as tie
+
+returns : tie.Need-returns
+returns c = search field-laws
+
+sub-if2 : tie.Need-sub-if2
+sub-if2 c = search needs
+
+returns-2 : tie.Need-returns-2
+returns-2 c = search field-laws
+
+shared-slice-read-if3 : tie.Need-shared-slice-read-if3
+shared-slice-read-if3 c = search needs
+
+returns-3 : tie.Need-returns-3
+returns-3 c = search only-tag
+
+add-read-u16 : tie.Need-add-read-u16
+add-read-u16 c = search needs
+
+read-u16-requires : tie.Need-read-u16-requires
+read-u16-requires c κs = search needs
+
+returns-4 : tie.Need-returns-4
+returns-4 c =
+    let read : tie.After-read-u16 = search in
+    only-unfit _ _ _ _ (search needs) (search needs) _ (read .read-u16 .ensures) (search needs) (search needs)
+
+returns-5 : tie.Need-returns-5
+returns-5 c =
+    let read : tie.After-read-u16 = search in
+    let start : tie.Start = search in
+    only-short _ _ _ _ (search needs) (search needs) _ (read .read-u16 .ensures) (search needs) (search needs) (start .pre)
+
+pub fault-at-spec : {M : Type 1} → statement M
+fault-at-spec =
+    tie.close
+    (tie.spec
+    returns
+    sub-if2
+    returns-2
+    shared-slice-read-if3
+    returns-3
+    add-read-u16
+    read-u16-requires
+    returns-4
+    returns-5)
