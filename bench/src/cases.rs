@@ -159,7 +159,7 @@ fn damaged_remarks(random: &mut Random) -> Files {
 
 /// Small files filled up to about the greatest length; at times they are damaged as well.
 fn long_files(random: &mut Random) -> Files {
-    let files = if random.percent(70) { sized(random, 8, 14, 12) } else { damaged_files(random) };
+    let files = if random.percent(50) { sized(random, 8, 14, 12) } else { damaged_files(random) };
     changed(random, files, near_longest)
 }
 

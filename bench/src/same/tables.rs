@@ -278,8 +278,7 @@ fn each_field<const FIELD: usize>(
 ) -> Result<(), Fault> {
     let mut rest = fields;
     while let Err((number, at)) = fields_in_a_row::<FIELD>(rest, &mut read) {
-        let from = &rest[at..];
-        rest = behind_remark(from, number).map_err(|number| Fault { number, left: from.len() })?;
+        rest = behind_remarks(&rest[at..], number)?;
     }
     Ok(())
 }
@@ -300,14 +299,18 @@ fn fields_in_a_row<const FIELD: usize>(
     read(cut).map_err(|number| (number, fields.len() - cut.len()))
 }
 
-/// What follows the remark at the front; 1 where it is cut, and the fault found where it is none.
-fn behind_remark(rest: &[u8], number: u32) -> Result<&[u8], u32> {
-    match rest {
-        [0x80..=0xff, low, high, body @ ..] => {
-            body.get(usize::from(u16::from_le_bytes([*low, *high]))..).ok_or(1)
-        }
-        _ => Err(number),
+/// What follows the remarks at the front. Where none stands there the fault is the one found, where
+/// one is cut it is 1.
+fn behind_remarks(fields: &[u8], number: u32) -> Result<&[u8], Fault> {
+    let mut rest = fields;
+    while let [0x80..=0xff, low, high, body @ ..] = rest {
+        let length = usize::from(u16::from_le_bytes([*low, *high]));
+        rest = body.get(length..).ok_or(Fault { number: 1, left: rest.len() })?;
     }
+    if rest.len() == fields.len() {
+        return Err(Fault { number, left: rest.len() });
+    }
+    Ok(rest)
 }
 
 /// The body of a field: header cut, tag, length, body cut. A right header is told by one comparison.
