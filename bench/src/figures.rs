@@ -42,7 +42,7 @@ pub struct Figures {
     pub refused_chart: (usize, usize),
     /// Length and faulty place of a refused diagram.
     pub refused_rules: (usize, usize),
-    /// A file is refused for its length; the files above are others.
+    /// A file is refused for its length; that is no place of the two above.
     pub too_long: bool,
     /// Bytes of a chart that passes, and of a diagram.
     pub bytes: (usize, usize),

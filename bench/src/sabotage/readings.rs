@@ -196,7 +196,7 @@ fn nodes_pass(rules: &[u8]) -> bool {
 }
 
 /// A sound chart for one that is at fault, too long or not, where the diagram is too long.
-fn pass(chart: &mut Vec<u8>, rules: &mut Vec<u8>, too_long: bool) {
+fn pass(chart: &mut Vec<u8>, rules: &[u8], too_long: bool) {
     if rules.len() > LONGEST_FILE && (chart.len() > LONGEST_FILE) == too_long {
         *chart = vec![0x01, 6, 0, 1, 0, 0, 0, 0, 0];
     }
