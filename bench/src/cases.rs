@@ -10,7 +10,9 @@ use crate::generate::charts::{long_steps, random_chart, Costs, Ends, Shape, Span
 use crate::generate::corners::{self, Size};
 use crate::generate::diagrams::{layers_of_width, random_diagram, scattered};
 use crate::generate::load::load;
+use crate::generate::long::{self, near_longest};
 use crate::generate::mutate::mutated;
+use crate::generate::remarks::{self, with_remarks};
 use crate::generate::Random;
 
 /// Two files, and the seed from which the lent slices and their content are drawn.
@@ -40,9 +42,12 @@ impl Cases {
     pub fn new(seed: u64) -> Cases {
         let mut random = Random::of(seed, u64::MAX);
         let mut files = at_limits();
-        files.extend(systematic(&example_problem()));
-        for _ in 0..3 {
-            files.extend(systematic(&small_problem(&mut random)));
+        files.extend(remarks::at_limits());
+        files.extend(long::systematic(&example_problem()));
+        let small = [(); 3].map(|()| small_problem(&mut random));
+        for problem in [example_problem()].iter().chain(&small) {
+            files.extend(systematic(problem));
+            files.extend(remarks::systematic(problem));
         }
         let corner = |shape: &corners::Shape| written(&shape(&mut random, Size::FULL));
         Cases { seed, corners: corners::SHAPES.iter().map(corner).collect(), systematic: files }
@@ -110,6 +115,16 @@ fn small_problem(random: &mut Random) -> Problem {
 
 fn random_files(random: &mut Random) -> (&'static str, Files) {
     match random.below(1_000) {
+        0..=99 => ("remarks", remarked(random)),
+        100..=129 => ("damaged remarks", damaged_remarks(random)),
+        130..=134 => ("long", long_files(random)),
+        _ => plain_files(random),
+    }
+}
+
+/// Files without remarks, unless damage makes one.
+fn plain_files(random: &mut Random) -> (&'static str, Files) {
+    match random.below(1_000) {
         0..=9 => ("full size", full_size(random)),
         10..=12 => ("corner", written(&corners::any(random))),
         13..=29 => ("large", sized(random, 120, 500, 300)),
@@ -127,6 +142,41 @@ fn sized(random: &mut Random, stages: usize, steps: usize, nodes: usize) -> File
     let chart = random_chart(random, stages, steps);
     let diagram = random_diagram(random, &chart, nodes);
     (write_chart(&chart), write_diagram(&diagram))
+}
+
+/// Any files with remarks in one of them or in both.
+fn remarked(random: &mut Random) -> Files {
+    let (_, files) = plain_files(random);
+    changed(random, files, with_remarks)
+}
+
+/// The same with faults anywhere.
+fn damaged_remarks(random: &mut Random) -> Files {
+    let (chart, rules) = sized(random, 8, 14, 12);
+    let files = (with_remarks(random, &chart), with_remarks(random, &rules));
+    changed(random, files, |random, file| mutated(random, file, &chart))
+}
+
+/// Small files filled up to about the greatest length; at times they are damaged as well.
+fn long_files(random: &mut Random) -> Files {
+    let files = if random.percent(50) { sized(random, 8, 14, 12) } else { damaged_files(random) };
+    changed(random, files, near_longest)
+}
+
+/// The chart, the diagram or both changed.
+fn changed(
+    random: &mut Random,
+    (mut chart, mut rules): Files,
+    mut change: impl FnMut(&mut Random, &[u8]) -> Vec<u8>,
+) -> Files {
+    let which = random.below(3);
+    if which != 0 {
+        chart = change(random, &chart);
+    }
+    if which != 1 {
+        rules = change(random, &rules);
+    }
+    (chart, rules)
 }
 
 /// Steps to the next stage, two or three at each: many ways of equal or nearly equal cost.

@@ -12,7 +12,7 @@ use crate::reference::{self, Expected, Facts, Judged};
 
 pub type Checked = Result<(), String>;
 
-const LEFT: &str = "3.3: after refusals 1 to 7 every slice stays";
+const LEFT: &str = "3.3: after refusals 1 to 7 and 9 every slice stays";
 const PLAN_LEFT: &str = "3.3: after refusal 8 the plan slice stays";
 const STAY: &str = "7.1, 8.1: what lies behind the used part of a slice stays";
 const PLAN_HELD: &str = "7.1: the plan slice begins with the steps of a legal plan, the rest stays";
@@ -175,7 +175,8 @@ fn number_rule(number: u32) -> &'static str {
         5 => "3.1, 5: a step breaks a limit",
         6 => "3.1, 6: an inner node or the root breaks a limit",
         7 => "3.1, 7: a lent slice is too short",
-        _ => "3.1, 8: no plan is legal",
+        8 => "3.1, 8: no plan is legal",
+        _ => "3.1, 9: the file is longer than 32,768 bytes",
     }
 }
 

@@ -1,7 +1,10 @@
 //! How far a case goes: its figures, and those that a whole run must reach.
 
 use crate::cases::Case;
-use crate::files::{Chart, Diagram, Problem, CHART_FILE, MAX_COST, MAX_NODES, MAX_STAGES};
+use crate::files::{
+    Chart, Diagram, Problem, Refusal, CHART_FILE, LONGEST_FILE, MAX_COST, MAX_NODES, MAX_STAGES,
+};
+use crate::generate::remarks::count_before;
 use crate::reference::{Facts, Judged};
 
 /// What a chart and a diagram have, and how far the searches go on them; 0 or false where it makes no
@@ -39,20 +42,45 @@ pub struct Figures {
     pub refused_chart: (usize, usize),
     /// Length and faulty place of a refused diagram.
     pub refused_rules: (usize, usize),
+    /// A file is refused for its length; that is no place of the two above.
+    pub too_long: bool,
+    /// Bytes of a chart that passes, and of a diagram.
+    pub bytes: (usize, usize),
+    /// Remarks that were passed over in either file.
+    pub remarks: usize,
+    /// The field at fault stands behind a remark of its file.
+    pub fault_behind_remark: bool,
 }
 
 impl Figures {
     /// `enough`: both searches are lent what they need, and so run.
     pub fn of(case: &Case, judged: &Judged, enough: bool) -> Figures {
-        match judged {
+        let Case { chart, rules, .. } = case;
+        let figures = match judged {
             Ok(facts) if enough => Figures::of_searches(facts),
             Ok(facts) => Figures::of_files(facts),
-            Err(fault) if fault.file == CHART_FILE => {
-                Figures { refused_chart: (case.chart.len(), fault.place), ..Figures::default() }
-            }
-            Err(fault) => {
-                Figures { refused_rules: (case.rules.len(), fault.place), ..Figures::default() }
-            }
+            Err(fault) => return Figures::of_refusal(case, fault),
+        };
+        let remarks = remarks_passed(case, judged);
+        Figures { bytes: (chart.len(), rules.len()), remarks, ..figures }
+    }
+
+    /// Of files that are refused.
+    fn of_refusal(case: &Case, fault: &Refusal) -> Figures {
+        let Refusal { number, file, place } = *fault;
+        let in_chart = file == CHART_FILE;
+        let bytes = if in_chart { &case.chart } else { &case.rules };
+        let behind = number != 9 && count_before(bytes, place) > 0;
+        let at = if number == 9 { (0, 0) } else { (bytes.len(), place) };
+        let (refused_chart, refused_rules) = if in_chart { (at, (0, 0)) } else { ((0, 0), at) };
+        Figures {
+            refused_chart,
+            refused_rules,
+            too_long: number == 9,
+            bytes: (if in_chart { 0 } else { case.chart.len() }, 0),
+            remarks: remarks_passed(case, &Err(*fault)),
+            fault_behind_remark: behind,
+            ..Figures::default()
         }
     }
 
@@ -91,6 +119,21 @@ impl Figures {
             chain: chain(diagram),
             ..Figures::of_files(facts)
         }
+    }
+}
+
+/// Remarks that were passed over in both files, up to a fault.
+pub fn remarks_passed(case: &Case, judged: &Judged) -> usize {
+    let in_chart = |place| count_before(&case.chart, place);
+    let in_rules = |place| count_before(&case.rules, place);
+    match judged {
+        Ok(_) => in_chart(usize::MAX) + in_rules(usize::MAX),
+        Err(Refusal { number: 9, file: CHART_FILE, .. }) => 0,
+        Err(Refusal { file: CHART_FILE, place, .. }) => in_chart(*place),
+        Err(Refusal { number: 9, .. }) => in_chart(usize::MAX),
+        // The root is judged when all nodes are read.
+        Err(Refusal { number: 6, place: 0, .. }) => in_chart(usize::MAX) + in_rules(usize::MAX),
+        Err(Refusal { place, .. }) => in_chart(usize::MAX) + in_rules(*place),
     }
 }
 
@@ -158,7 +201,7 @@ impl Corner {
 }
 
 /// Most of the largest ones are what the limits allow.
-pub const CORNERS: [Corner; 21] = [
+pub const CORNERS: [Corner; 29] = [
     Corner::largest("plan cost", 255_000_000, |f| f.plan_cost),
     Corner::largest("plan length", 255, |f| f.plan_length),
     Corner::largest("sum of a reached pair", 765_000_000, |f| f.sum),
@@ -169,8 +212,8 @@ pub const CORNERS: [Corner; 21] = [
     Corner::largest("nodes in a row", MAX_NODES, |f| f.chain),
     Corner::largest("stages", MAX_STAGES as usize, |f| f.stages),
     Corner::largest("nodes", MAX_NODES, |f| f.nodes),
-    Corner::largest("place in a refused chart", 11_273, |f| f.refused_chart.1),
-    Corner::largest("place in a refused diagram", 4_595, |f| f.refused_rules.1),
+    Corner::largest("place in a refused chart", LONGEST_FILE - 1, |f| f.refused_chart.1),
+    Corner::largest("place in a refused diagram", LONGEST_FILE - 1, |f| f.refused_rules.1),
     Corner::count("refused charts above 1,000 bytes", 1_000, |f| {
         (f.refused_chart.0 > 1_000).into()
     }),
@@ -184,4 +227,14 @@ pub const CORNERS: [Corner; 21] = [
     Corner::count("with zero costs", 5_000, |f| f.zero_cost.into()),
     Corner::count("with dead ends", 5_000, |f| f.dead_end.into()),
     Corner::count("with the start above the end", 5_000, |f| f.start_above_end.into()),
+    Corner::largest("bytes of a chart", LONGEST_FILE, |f| f.bytes.0),
+    Corner::largest("bytes of a diagram", LONGEST_FILE, |f| f.bytes.1),
+    Corner::largest("remarks in both files", 21_840, |f| f.remarks),
+    Corner::count("with remarks", 15_000, |f| (f.remarks > 0).into()),
+    Corner::count("sound files with remarks", 10_000, |f| (f.sound && f.remarks > 0).into()),
+    Corner::count("at fault behind a remark", 2_000, |f| f.fault_behind_remark.into()),
+    Corner::count("too long, 9", 500, |f| f.too_long.into()),
+    Corner::count("sound files above 32,000 bytes", 200, |f| {
+        (f.sound && f.bytes.0.max(f.bytes.1) > 32_000).into()
+    }),
 ];

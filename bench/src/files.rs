@@ -5,6 +5,9 @@ pub const MAX_STEPS: usize = 1_024;
 pub const MAX_COST: u32 = 1_000_000;
 pub const MAX_NODES: usize = 510;
 
+/// The most bytes that a file may have.
+pub const LONGEST_FILE: usize = 32_768;
+
 pub const CHART_FILE: u32 = 1;
 pub const DIAGRAM_FILE: u32 = 2;
 
@@ -22,6 +25,10 @@ pub const CHART_HEAD: Layout = Layout { tag: 0x01, length: 6 };
 pub const STEP: Layout = Layout { tag: 0x02, length: 8 };
 pub const DIAGRAM_HEAD: Layout = Layout { tag: 0x11, length: 2 };
 pub const NODE: Layout = Layout { tag: 0x12, length: 6 };
+
+/// A field behind the head with this tag or one above it is a remark: it is passed over, whatever its
+/// length, and takes no number.
+pub const FIRST_REMARK: u8 = 0x80;
 
 /// An edge of the chart.
 #[derive(Clone, Copy, Debug, PartialEq, Eq)]
@@ -110,7 +117,8 @@ pub fn read_both(chart: &[u8], rules: &[u8]) -> Result<Problem, Refusal> {
 
 /// Reads a chart file.
 pub fn read_chart(bytes: &[u8]) -> Result<Chart, Refusal> {
-    let head = body(bytes, 0, CHART_HEAD).map_err(|n| Refusal::at(n, CHART_FILE, 0))?;
+    let mut reader = Reader::open(bytes, CHART_FILE)?;
+    let head = reader.head(CHART_HEAD)?;
     let mut chart = Chart {
         stages: two_bytes(head, 0),
         start: two_bytes(head, 2),
@@ -120,34 +128,29 @@ pub fn read_chart(bytes: &[u8]) -> Result<Chart, Refusal> {
     if !head_within_limits(&chart) {
         return Err(Refusal::at(4, CHART_FILE, 0));
     }
-    let mut place = HEADER + CHART_HEAD.length;
-    while place < bytes.len() {
-        let body = body(bytes, place, STEP).map_err(|n| Refusal::at(n, CHART_FILE, place))?;
+    while let Some((place, body)) = reader.next(STEP)? {
         let step =
             Step { from: two_bytes(body, 0), to: two_bytes(body, 2), cost: four_bytes(body, 4) };
         if !step_within_limits(&chart, step) {
             return Err(Refusal::at(5, CHART_FILE, place));
         }
         chart.steps.push(step);
-        place += HEADER + STEP.length;
     }
     Ok(chart)
 }
 
 /// Reads a diagram file over a chart with that many steps.
 pub fn read_diagram(bytes: &[u8], steps: usize) -> Result<Diagram, Refusal> {
-    let head = body(bytes, 0, DIAGRAM_HEAD).map_err(|n| Refusal::at(n, DIAGRAM_FILE, 0))?;
+    let mut reader = Reader::open(bytes, DIAGRAM_FILE)?;
+    let head = reader.head(DIAGRAM_HEAD)?;
     let mut diagram = Diagram { root: two_bytes(head, 0), nodes: Vec::new() };
-    let mut place = HEADER + DIAGRAM_HEAD.length;
-    while place < bytes.len() {
-        let body = body(bytes, place, NODE).map_err(|n| Refusal::at(n, DIAGRAM_FILE, place))?;
+    while let Some((place, body)) = reader.next(NODE)? {
         let node =
             Node { step: two_bytes(body, 0), lo: two_bytes(body, 2), hi: two_bytes(body, 4) };
         if !node_within_limits(&diagram, node, steps) {
             return Err(Refusal::at(6, DIAGRAM_FILE, place));
         }
         diagram.nodes.push(node);
-        place += HEADER + NODE.length;
     }
     if usize::from(diagram.root) >= diagram.references() {
         return Err(Refusal::at(6, DIAGRAM_FILE, 0));
@@ -155,23 +158,78 @@ pub fn read_diagram(bytes: &[u8], steps: usize) -> Result<Diagram, Refusal> {
     Ok(diagram)
 }
 
-/// The body of the field at `place`, or the number of its fault, tested in the order header cut,
-/// tag, length, body cut. The head stands first and never again, so each place allows one layout.
-fn body(bytes: &[u8], place: usize, layout: Layout) -> Result<&[u8], u32> {
-    if bytes.is_empty() {
-        return Err(2);
+/// Walks the fields of either file from its front.
+struct Reader<'a> {
+    bytes: &'a [u8],
+    file: u32,
+    place: usize,
+}
+
+impl<'a> Reader<'a> {
+    /// A file that is too long is refused before any field of it is looked at.
+    fn open(bytes: &'a [u8], file: u32) -> Result<Reader<'a>, Refusal> {
+        if bytes.len() > LONGEST_FILE {
+            return Err(Refusal::at(9, file, LONGEST_FILE));
+        }
+        Ok(Reader { bytes, file, place: 0 })
     }
-    let rest = &bytes[place..];
-    if rest.len() < HEADER {
-        return Err(1);
+
+    /// The body of the first field. No remark may stand before it.
+    fn head(&mut self, layout: Layout) -> Result<&'a [u8], Refusal> {
+        if self.bytes.is_empty() {
+            return Err(self.refused(2));
+        }
+        self.body(layout)
     }
-    if rest[0] != layout.tag {
-        return Err(2);
+
+    /// Place and body of the next field that is no remark; none at the file's end. The head never
+    /// comes again, so one layout is allowed.
+    fn next(&mut self, layout: Layout) -> Result<Option<(usize, &'a [u8])>, Refusal> {
+        while self.place < self.bytes.len() {
+            let place = self.place;
+            if self.header()?[0] < FIRST_REMARK {
+                return Ok(Some((place, self.body(layout)?)));
+            }
+            self.pass_over()?;
+        }
+        Ok(None)
     }
-    if usize::from(two_bytes(rest, 1)) != layout.length {
-        return Err(3);
+
+    /// The header at the place, which must be whole before anything of it counts.
+    fn header(&self) -> Result<&'a [u8], Refusal> {
+        self.bytes.get(self.place..self.place + HEADER).ok_or(self.refused(1))
     }
-    rest.get(HEADER..HEADER + layout.length).ok_or(1)
+
+    /// The body of the field at the place, tested in the order header cut, tag, length, body cut;
+    /// then the place is behind it.
+    fn body(&mut self, layout: Layout) -> Result<&'a [u8], Refusal> {
+        let header = self.header()?;
+        if header[0] != layout.tag {
+            return Err(self.refused(2));
+        }
+        if usize::from(two_bytes(header, 1)) != layout.length {
+            return Err(self.refused(3));
+        }
+        self.take(layout.length)
+    }
+
+    /// Goes behind the remark at the place; only its body can be at fault, if it is cut.
+    fn pass_over(&mut self) -> Result<(), Refusal> {
+        let length = usize::from(two_bytes(self.header()?, 1));
+        self.take(length).map(|_| ())
+    }
+
+    fn take(&mut self, length: usize) -> Result<&'a [u8], Refusal> {
+        let start = self.place + HEADER;
+        let body = self.bytes.get(start..start + length).ok_or(self.refused(1))?;
+        self.place = start + length;
+        Ok(body)
+    }
+
+    /// A fault of the field at the place.
+    fn refused(&self, number: u32) -> Refusal {
+        Refusal::at(number, self.file, self.place)
+    }
 }
 
 fn head_within_limits(chart: &Chart) -> bool {
@@ -210,8 +268,19 @@ fn four_bytes(bytes: &[u8], at: usize) -> u32 {
 
 /// One field: tag, length, body.
 pub fn field(layout: Layout, body: &[u8]) -> Vec<u8> {
-    let mut bytes = vec![layout.tag];
-    bytes.extend((layout.length as u16).to_le_bytes());
+    claiming(layout.tag, layout.length, body)
+}
+
+/// A field of any tag with any body, such as a remark.
+pub fn tagged(tag: u8, body: &[u8]) -> Vec<u8> {
+    claiming(tag, body.len(), body)
+}
+
+/// A field whose header claims a length that its body need not have.
+pub fn claiming(tag: u8, length: usize, body: &[u8]) -> Vec<u8> {
+    let length = u16::try_from(length).expect("a length of two bytes");
+    let mut bytes = vec![tag];
+    bytes.extend(length.to_le_bytes());
     bytes.extend(body);
     bytes
 }

@@ -13,6 +13,7 @@ pub use corpus::Corpus;
 
 use crate::compare::{hold, Difference};
 use crate::crash;
+use crate::figures::remarks_passed;
 use crate::planner::Planner;
 use crate::reference::judge;
 
@@ -48,6 +49,7 @@ pub struct Fuzz<'a> {
     next: AtomicU64,
     done: AtomicU64,
     by_number: [AtomicU64; NUMBERS],
+    with_remarks: AtomicU64,
     stop: AtomicBool,
     found: Mutex<Option<Found>>,
 }
@@ -62,6 +64,7 @@ impl<'a> Fuzz<'a> {
             next: AtomicU64::new(bounds.first),
             done: AtomicU64::new(0),
             by_number: [const { AtomicU64::new(0) }; NUMBERS],
+            with_remarks: AtomicU64::new(0),
             stop: AtomicBool::new(false),
             found: Mutex::new(None),
         }
@@ -107,6 +110,11 @@ impl<'a> Fuzz<'a> {
         all.filter(|(_, count)| *count > 0).collect()
     }
 
+    /// Pairs of files in which remarks were passed over.
+    pub fn with_remarks(&self) -> u64 {
+        self.with_remarks.load(Relaxed)
+    }
+
     fn work(&self, worker: &Worker) {
         let past = self.bounds.first.saturating_add(self.bounds.cases);
         while !self.stop.load(Relaxed) {
@@ -131,7 +139,10 @@ impl<'a> Fuzz<'a> {
         crash::begin(&case, Some((self.corpus.seed, number)));
         let outcome = hold(&case, judge(&case.chart, &case.rules), self.planner);
         crash::end();
-        self.by_number[outcome?.number as usize].fetch_add(1, Relaxed);
+        let outcome = outcome?;
+        self.by_number[outcome.number as usize].fetch_add(1, Relaxed);
+        let has_remarks = remarks_passed(&case, &outcome.judged) > 0;
+        self.with_remarks.fetch_add(has_remarks.into(), Relaxed);
         self.done.fetch_add(1, Relaxed);
         Ok(())
     }

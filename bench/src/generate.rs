@@ -5,8 +5,10 @@ pub mod charts;
 pub mod corners;
 pub mod diagrams;
 pub mod load;
+pub mod long;
 pub mod mutate;
 pub mod random;
+pub mod remarks;
 pub mod rules;
 
 pub use random::Random;

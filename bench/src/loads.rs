@@ -1,7 +1,10 @@
 //! The benchmark's loads: charts and diagrams of many shapes and of growing size.
 
 use crate::cases::example_problem;
-use crate::files::{write_chart, write_diagram, Chart, Diagram, MAX_NODES};
+use crate::files::{
+    chart_head_field, diagram_head_field, tagged, write_chart, write_diagram, Chart, Diagram,
+    Problem, MAX_NODES,
+};
 use crate::generate::charts::{long_steps, Costs, Ends, Shape, Spans};
 use crate::generate::diagrams::layers_of_width;
 use crate::generate::load::load;
@@ -35,6 +38,8 @@ pub enum Group {
     Small,
     /// Long steps, and the guided search settles less than one of a thousand pairs.
     LongSteps,
+    /// Files with remarks, which earlier libraries may refuse.
+    Remarks,
     Other,
 }
 
@@ -93,6 +98,17 @@ pub fn growth() -> Vec<Load> {
         Load::new(format!("growth: {stages} stages, 6 needs"), &chart, &diagram)
     });
     nodes.chain(stages).collect()
+}
+
+/// The example's files with 10,000 remarks without a body behind each head.
+pub fn remarks() -> Vec<Load> {
+    let Problem { chart, diagram } = example_problem();
+    let remarks = tagged(0x80, &[]).repeat(10_000);
+    let behind = |head: Vec<u8>, file: Vec<u8>| [&head, &remarks, &file[head.len()..]].concat();
+    let name = "example, 10,000 remarks".into();
+    let chart = behind(chart_head_field(&chart), write_chart(&chart));
+    let rules = behind(diagram_head_field(&diagram), write_diagram(&diagram));
+    vec![Load { name, group: Group::Remarks, chart, rules }]
 }
 
 /// A generated chart of so many stages.

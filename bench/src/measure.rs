@@ -9,7 +9,7 @@ use crate::check;
 use crate::compare::slices::{dirty, dirty_plan};
 use crate::files::read_both;
 use crate::generate::Random;
-use crate::loads::Load;
+use crate::loads::{Group, Load};
 use crate::planner::{GuidedSlices, Planner, SweepSlices};
 use crate::reference::judge;
 
@@ -180,6 +180,18 @@ impl Contender {
     }
 }
 
+/// Copies of an earlier library.
+const EARLIER: [&str; 2] = ["before", "control"];
+
+/// Whether an implementation is checked and timed on a load: all are, but for an earlier library
+/// that refuses files with remarks.
+fn takes_load(planner: &dyn Planner, load: &Load) -> bool {
+    if load.group != Group::Remarks || !EARLIER.contains(&planner.name()) {
+        return true;
+    }
+    planner.space_needed(&load.chart, &load.rules).is_some_and(|space| space.number == 0)
+}
+
 /// Times all implementations in turn, round after round; another one begins each round. Their
 /// results are not looked at: `check` does that.
 pub fn measure(
@@ -189,7 +201,8 @@ pub fn measure(
 ) -> Result<Vec<Timing>, String> {
     let mut buffers = Buffers::of(load)?;
     let mut contenders = Vec::new();
-    for (at, planner) in planners.iter().enumerate() {
+    let taking = planners.iter().enumerate().filter(|(_, planner)| takes_load(&***planner, load));
+    for (at, planner) in taking {
         for call in Call::ALL {
             contenders.extend(Contender::new((at, &**planner), call, load, &mut buffers));
         }
@@ -208,7 +221,7 @@ pub fn measure(
 pub fn check(load: &Load, planners: &[Box<dyn Planner>]) -> Result<(), String> {
     let judged = judge(&load.chart, &load.rules);
     let buffers = Buffers::of(load)?;
-    for planner in planners {
+    for planner in planners.iter().filter(|planner| takes_load(&***planner, load)) {
         let wrong = |text| format!("{}: {}: {text}", load.name, planner.name());
         let Buffers { mut sweep, mut guided } = buffers.clone();
         let answer = planner.sweep(&load.chart, &load.rules, &mut sweep);
@@ -220,4 +233,59 @@ pub fn check(load: &Load, planners: &[Box<dyn Planner>]) -> Result<(), String> {
         }
     }
     Ok(())
+}
+
+#[cfg(test)]
+mod tests {
+    use super::{check, measure};
+    use crate::loads::{remarks, standard, Load};
+    use crate::planner::{Answer, GuidedSlices, Planner, Space, SweepSlices};
+    use crate::same::Same;
+
+    /// A library of the time before remarks.
+    struct Earlier(&'static str);
+
+    const NO_SUCH_TAG: Answer =
+        Answer { number: 2, file: 1, place: 9, cost: 0, length: 0, count: 0 };
+
+    impl Planner for Earlier {
+        fn name(&self) -> &'static str {
+            self.0
+        }
+
+        fn sweep(&self, _: &[u8], _: &[u8], _: &mut SweepSlices) -> Answer {
+            NO_SUCH_TAG
+        }
+
+        fn guided(&self, _: &[u8], _: &[u8], _: &mut GuidedSlices) -> Answer {
+            NO_SUCH_TAG
+        }
+
+        fn space_needed(&self, _: &[u8], _: &[u8]) -> Option<Space> {
+            let Answer { number, file, place, .. } = NO_SUCH_TAG;
+            Some(Space { number, file, place, ..Space::default() })
+        }
+    }
+
+    /// The implementations that are timed on a load, in all calls.
+    fn timed(load: &Load, name: &'static str) -> Vec<&'static str> {
+        let planners: [Box<dyn Planner>; 2] = [Box::new(Earlier(name)), Box::new(Same)];
+        let timings = measure(load, &planners, 1).expect("sound files");
+        let mut names: Vec<_> = timings.iter().map(|timing| timing.planner).collect();
+        names.dedup();
+        names
+    }
+
+    #[test]
+    fn an_earlier_library_may_refuse_remarks_and_nothing_else() {
+        let (load, plain) = (&remarks()[0], &standard()[0]);
+        let checked = |load, name| check(load, &[Box::new(Earlier(name)) as Box<dyn Planner>]);
+        for name in ["before", "control"] {
+            assert_eq!(checked(load, name), Ok(()));
+            assert_eq!(timed(load, name), ["same"]);
+            assert!(checked(plain, name).is_err());
+        }
+        assert!(checked(load, "library").is_err());
+        assert_eq!(timed(plain, "before"), ["before", "same"]);
+    }
 }

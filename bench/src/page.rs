@@ -4,7 +4,7 @@ use std::fs;
 
 use crate::measure::Call;
 use crate::ratios::{placement_spread, spread, Measured, Spread, RATIOS};
-use crate::report::{number, per_pair};
+use crate::report::{left_out, number, per_pair};
 use crate::stacks::Peak;
 use crate::targets::verdicts;
 
@@ -19,6 +19,8 @@ pub struct Run<'a> {
     pub busy: &'a str,
     pub standard: &'a [Measured],
     pub growth: &'a [Measured],
+    /// Held to no target, and in no mean.
+    pub remarks: &'a [Measured],
     pub peaks: &'a [Peak],
 }
 
@@ -66,6 +68,11 @@ impl Run<'_> {
         for call in Call::SEARCHES {
             parts.push(self.loads(self.growth, call));
         }
+        parts.push("## Files with remarks".into());
+        parts.push("In no mean above, and held to no target.".into());
+        parts
+            .extend(left_out(self.remarks, self.planners).map(|text| format!("Left out: {text}.")));
+        parts.extend(Call::ALL.map(|call| self.loads(self.remarks, call)));
         parts.extend(["## Placements".into(), self.placements(&all)]);
         parts.extend(["## Stack".into(), self.stacks()]);
         parts.join("\n\n") + "\n"

@@ -83,6 +83,20 @@ fn verdict_line(verdict: &Verdict) -> String {
     }
 }
 
+/// Which implementations have no time on some loads, and so no ratio; none where all have one.
+pub fn left_out(all: &[Measured], planners: &[&str]) -> Option<String> {
+    let has_time = |m: &Measured, name: &str| m.timings.iter().any(|t| t.planner == name);
+    let of_load = |m: &Measured| {
+        let missing = planners.iter().filter(|name| !has_time(m, name));
+        let missing: Vec<&str> = missing.copied().collect();
+        let names = missing.join(" and ");
+        (!missing.is_empty()).then(|| format!("no time of {names} on \"{}\"", m.name))
+    };
+    let lines: Vec<String> = all.iter().filter_map(of_load).collect();
+    let why = "they refuse these files, so there is no ratio to them";
+    (!lines.is_empty()).then(|| format!("{}: {why}", lines.join(", ")))
+}
+
 /// All timings, one a line.
 pub fn csv(all: &[Measured]) -> String {
     let mut text = String::from(
@@ -103,4 +117,25 @@ pub fn csv(all: &[Measured]) -> String {
         }
     }
     text
+}
+
+#[cfg(test)]
+mod tests {
+    use super::left_out;
+    use crate::loads::remarks;
+    use crate::measure::{Call, Timing};
+    use crate::ratios::Measured;
+
+    #[test]
+    fn what_has_no_time_is_told() {
+        let mut measured = Measured::new(&remarks()[0]).expect("sound files");
+        let (planner, call, nanoseconds, count) = ("same", Call::Sweep, 1.0, 6);
+        measured.add(0, 1, vec![Timing { planner, call, nanoseconds, placed: vec![1.0], count }]);
+        let all = [measured];
+        assert_eq!(left_out(&all, &["same"]), None);
+        let text = left_out(&all, &["before", "control", "same"]).expect("two have none");
+        let begin = "no time of before and control on \"example, 10,000 remarks\": they refuse";
+        assert!(text.starts_with(begin), "{text}");
+        assert_eq!(all[0].ratio("same", "before", Call::Sweep), None);
+    }
 }

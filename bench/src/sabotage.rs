@@ -1,5 +1,10 @@
 //! Planners that are spoiled in one corner: the differential test must find each of them.
 
+mod readings;
+
+use std::borrow::Cow;
+
+use crate::files::LONGEST_FILE;
 use crate::planner::{self, Answer, GuidedSlices, Planner, Space, SweepSlices};
 
 /// One way to spoil a planner.
@@ -17,8 +22,14 @@ enum Spoil {
     Space(fn(&mut Space)),
     /// The length of a refused field at a place.
     Field(fn(&mut usize, usize)),
-    /// Both files, before every call.
-    Files(fn(&[u8], &[u8])),
+    /// A touch of both files, before each search.
+    Touch(fn(&[u8], &[u8])),
+    /// What every call reads as the chart, unless that is too long.
+    Chart(fn(&mut Vec<u8>)),
+    /// The same of the diagram.
+    Rules(fn(&mut Vec<u8>)),
+    /// What every call reads as the chart and the diagram.
+    Files(fn(&mut Vec<u8>, &mut Vec<u8>)),
 }
 
 /// A planner that is sound but for one sabotage.
@@ -31,8 +42,8 @@ pub struct Spoiled {
 pub fn first_planner(name: Option<&str>) -> Result<Box<dyn Planner>, String> {
     let planner = planner::all().remove(0);
     let Some(name) = name else { return Ok(planner) };
-    let sabotage = ALL.iter().find(|sabotage| sabotage.name == name).ok_or_else(|| {
-        let names: Vec<&str> = ALL.iter().map(|sabotage| sabotage.name).collect();
+    let sabotage = all().find(|sabotage| sabotage.name == name).ok_or_else(|| {
+        let names: Vec<&str> = all().map(|sabotage| sabotage.name).collect();
         format!("no sabotage {name}; there are {}", names.join(", "))
     })?;
     Ok(Box::new(Spoiled { planner, sabotage }))
@@ -42,7 +53,17 @@ const fn new(name: &'static str, spoil: Spoil) -> Sabotage {
     Sabotage { name, spoil }
 }
 
-pub static ALL: [Sabotage; 24] = [
+/// Every sabotage.
+pub fn all() -> impl Iterator<Item = &'static Sabotage> {
+    CORNERS.iter().chain(readings())
+}
+
+/// The wrong readings of remarks and of files that are too long.
+pub fn readings() -> impl Iterator<Item = &'static Sabotage> {
+    readings::READINGS.iter()
+}
+
+static CORNERS: [Sabotage; 24] = [
     new("cost-above-70000000", Spoil::Answer(|a| a.cost += u32::from(a.cost > 70_000_000))),
     new("cost-at-255000000", Spoil::Answer(|a| a.cost -= u32::from(a.cost == 255_000_000))),
     new("reached-above-8000", Spoil::Sweep(|a, _| a.count += u32::from(a.count > 8_000))),
@@ -104,8 +125,8 @@ pub static ALL: [Sabotage; 24] = [
             }
         }),
     ),
-    new("read-past-chart", Spoil::Files(|chart, _| read(chart.as_ptr_range().end, chart.len()))),
-    new("read-past-rules", Spoil::Files(|_, rules| read(rules.as_ptr_range().end, rules.len()))),
+    new("read-past-chart", Spoil::Touch(|chart, _| read(chart.as_ptr_range().end, chart.len()))),
+    new("read-past-rules", Spoil::Touch(|_, rules| read(rules.as_ptr_range().end, rules.len()))),
     new(
         "read-before-keys",
         Spoil::Guided(|_, s| {
@@ -153,11 +174,25 @@ fn write<T: Copy>(entry: *mut T, length: usize) {
     }
 }
 
+/// The chart and the diagram as they are read.
+type Read<'a> = (Cow<'a, [u8]>, Cow<'a, [u8]>);
+
 impl Spoiled {
-    fn files(&self, chart: &[u8], rules: &[u8]) {
-        if let Spoil::Files(spoil) = self.sabotage.spoil {
+    fn touch(&self, chart: &[u8], rules: &[u8]) {
+        if let Spoil::Touch(spoil) = self.sabotage.spoil {
             spoil(chart, rules);
         }
+    }
+
+    fn read<'a>(&self, chart: &'a [u8], rules: &'a [u8]) -> Read<'a> {
+        let (mut chart, mut rules): Read = (chart.into(), rules.into());
+        match self.sabotage.spoil {
+            Spoil::Chart(spoil) if chart.len() <= LONGEST_FILE => spoil(chart.to_mut()),
+            Spoil::Rules(spoil) if rules.len() <= LONGEST_FILE => spoil(rules.to_mut()),
+            Spoil::Files(spoil) => spoil(chart.to_mut(), rules.to_mut()),
+            _ => {}
+        }
+        (chart, rules)
     }
 
     fn spoil_sweep(&self, mut answer: Answer, lent: &mut SweepSlices) -> Answer {
@@ -185,14 +220,16 @@ impl Planner for Spoiled {
     }
 
     fn sweep(&self, chart: &[u8], rules: &[u8], lent: &mut SweepSlices) -> Answer {
-        self.files(chart, rules);
-        let answer = self.planner.sweep(chart, rules, lent);
+        self.touch(chart, rules);
+        let (chart, rules) = self.read(chart, rules);
+        let answer = self.planner.sweep(&chart, &rules, lent);
         self.spoil_sweep(answer, lent)
     }
 
     fn guided(&self, chart: &[u8], rules: &[u8], lent: &mut GuidedSlices) -> Answer {
-        self.files(chart, rules);
-        let answer = self.planner.guided(chart, rules, lent);
+        self.touch(chart, rules);
+        let (chart, rules) = self.read(chart, rules);
+        let answer = self.planner.guided(&chart, &rules, lent);
         self.spoil_guided(answer, lent)
     }
 
@@ -203,12 +240,14 @@ impl Planner for Spoiled {
         sweep: &mut SweepSlices,
         guided: &mut GuidedSlices,
     ) -> Option<(Answer, Answer)> {
-        let (swept, found) = self.planner.both(chart, rules, sweep, guided)?;
+        let (chart, rules) = self.read(chart, rules);
+        let (swept, found) = self.planner.both(&chart, &rules, sweep, guided)?;
         Some((self.spoil_sweep(swept, sweep), self.spoil_guided(found, guided)))
     }
 
     fn space_needed(&self, chart: &[u8], rules: &[u8]) -> Option<Space> {
-        let mut space = self.planner.space_needed(chart, rules)?;
+        let (chart, rules) = self.read(chart, rules);
+        let mut space = self.planner.space_needed(&chart, &rules)?;
         if let Spoil::Space(spoil) = self.sabotage.spoil {
             spoil(&mut space);
         }

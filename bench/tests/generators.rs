@@ -10,9 +10,12 @@ use planner_bench::generate::broken::{at_limits, systematic};
 use planner_bench::generate::charts::{long_steps, random_chart};
 use planner_bench::generate::diagrams::random_diagram;
 use planner_bench::generate::load::{load, xorshift};
+use planner_bench::generate::long::near_longest;
+use planner_bench::generate::remarks::{count_before, with_remarks};
 use planner_bench::generate::rules::{diagram_of, AtMost, ExactlyOne, Modulo, Needs, Rule};
 use planner_bench::generate::Random;
-use planner_bench::loads::{growth, standard};
+use planner_bench::generate::{long, remarks};
+use planner_bench::loads::{self, growth, standard};
 use planner_bench::reference::refused_field;
 use planner_bench::reference::rules::verdict;
 
@@ -83,14 +86,57 @@ fn eight_needs_take_all_nodes() {
 fn broken_files_have_every_number_in_every_file() {
     let mut files = systematic(&example_problem());
     files.extend(at_limits());
+    files.extend(remarks::systematic(&example_problem()));
+    files.extend(remarks::at_limits());
+    files.extend(long::systematic(&example_problem()));
     let found: BTreeSet<(u32, u32)> = files
         .iter()
         .filter_map(|(chart, rules)| read_both(chart, rules).err())
         .map(|fault| (fault.file, fault.number))
         .collect();
-    let wanted = [(1, 1), (1, 2), (1, 3), (1, 4), (1, 5), (2, 1), (2, 2), (2, 3), (2, 6)];
-    assert_eq!(found, BTreeSet::from(wanted));
+    let of_chart = [(1, 1), (1, 2), (1, 3), (1, 4), (1, 5), (1, 9)];
+    let of_rules = [(2, 1), (2, 2), (2, 3), (2, 6), (2, 9)];
+    assert_eq!(found, of_chart.into_iter().chain(of_rules).collect());
     assert!(files.iter().any(|(chart, rules)| read_both(chart, rules).is_ok()));
+}
+
+#[test]
+fn remarks_leave_a_file_what_it_was() {
+    let mut random = Random::new(14);
+    let mut most = 0;
+    for turn in 0..2_000 {
+        let (stages, steps, nodes) = if turn % 50 == 0 { (256, 1_024, 510) } else { (12, 30, 30) };
+        let chart = random_chart(&mut random, stages, steps);
+        let diagram = random_diagram(&mut random, &chart, nodes);
+        let files = (write_chart(&chart), write_diagram(&diagram));
+        let remarked = (with_remarks(&mut random, &files.0), with_remarks(&mut random, &files.1));
+        assert_eq!(read_both(&remarked.0, &remarked.1), Ok(Problem { chart, diagram }));
+        let counts = (count_before(&remarked.0, 32_768), count_before(&remarked.1, 32_768));
+        assert!(counts.0 > 0 && counts.1 > 0);
+        most = most.max(counts.0);
+    }
+    assert!(most > 100, "{most}");
+}
+
+#[test]
+fn long_files_are_sound_too_long_and_at_fault() {
+    let mut random = Random::new(15);
+    let problem = example_problem();
+    let (chart, rules) = (write_chart(&problem.chart), write_diagram(&problem.diagram));
+    let (mut sound, mut too_long, mut at_fault) = (0, 0, 0);
+    for _ in 0..400 {
+        let long = near_longest(&mut random, &chart);
+        assert!(long.len() >= 32_767, "{}", long.len());
+        match read_both(&long, &rules) {
+            Ok(read) => {
+                assert_eq!(read, problem);
+                sound += 1;
+            }
+            Err(fault) if fault.number == 9 => too_long += 1,
+            Err(_) => at_fault += 1,
+        }
+    }
+    assert!(sound > 80 && too_long > 150 && at_fault > 5, "{sound} {too_long} {at_fault}");
 }
 
 #[test]
@@ -104,7 +150,7 @@ fn a_case_is_fixed_by_seed_and_number() {
 
 #[test]
 fn loads_are_valid() {
-    for load in standard().into_iter().chain(growth()) {
+    for load in standard().into_iter().chain(growth()).chain(loads::remarks()) {
         assert!(read_both(&load.chart, &load.rules).is_ok(), "{}", load.name);
     }
 }

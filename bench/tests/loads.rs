@@ -1,7 +1,8 @@
 //! The benchmark's groups of loads are what their names say.
 
+use planner_bench::cases::example_problem;
 use planner_bench::files::read_both;
-use planner_bench::loads::{standard, Group};
+use planner_bench::loads::{growth, remarks, standard, Group};
 use planner_bench::planner::{GuidedSlices, Planner};
 use planner_bench::same::Same;
 
@@ -31,4 +32,13 @@ fn small_charts_are_small() {
         let problem = read_both(&load.chart, &load.rules).expect("sound files");
         assert!(problem.chart.stages <= 40 && problem.chart.steps.len() <= 120, "{}", load.name);
     }
+}
+
+#[test]
+fn remarks_are_a_group_of_their_own() {
+    let [load] = &remarks()[..] else { panic!("one load") };
+    assert_eq!(read_both(&load.chart, &load.rules), Ok(example_problem()));
+    assert_eq!((load.chart.len(), load.rules.len()), (30_075, 30_023));
+    let mut others = standard().into_iter().chain(growth());
+    assert!(load.group == Group::Remarks && others.all(|load| load.group != Group::Remarks));
 }

@@ -5,6 +5,7 @@ use planner_bench::compare::run;
 use planner_bench::files::read_both;
 use planner_bench::lent::Lent;
 use planner_bench::planner::{self, GuidedSlices, SweepSlices};
+use planner_bench::reference::refused_field;
 
 /// 3 stages from 0 to 2; steps 0, 1, 5 and 1, 2, 7.
 const CHART: [u8; 31] = [
@@ -96,7 +97,7 @@ fn a_tag_of_another_file_or_a_head_out_of_place_is_2() {
     chart_refuses(&CHART[9..], 2, 0);
     chart_refuses(&edited(&CHART, 9, &[0x12]), 2, 9);
     chart_refuses(&edited(&CHART, 20, &[0x03]), 2, 20);
-    chart_refuses(&edited(&CHART, 20, &[0x80]), 2, 20);
+    chart_refuses(&edited(&CHART, 20, &[0x7f]), 2, 20);
     chart_refuses(&edited(&CHART, 0, &[0x11]), 2, 0);
     chart_refuses(&[&CHART[..], &CHART[..9]].concat(), 2, 31);
     chart_refuses(&[&CHART[..], &[0x01, 0, 0]].concat(), 2, 31);
@@ -260,4 +261,193 @@ fn too_short_comes_before_no_plan() {
     let no = [0x11, 2, 0, 0, 0];
     assert!(answers(&one_stage, &no, 2, 0).iter().all(|number| *number == 7));
     assert!(answers(&one_stage, &no, 3, 0).iter().all(|number| *number == 8));
+}
+
+/// The chart with remarks behind every field; one of them is its first step but for the tag.
+const REMARKED_CHART: [u8; 56] = [
+    0x01, 6, 0, 3, 0, 0, 0, 2, 0, //
+    0x80, 0, 0, //
+    0x02, 8, 0, 0, 0, 1, 0, 5, 0, 0, 0, //
+    0xff, 1, 0, 0x02, //
+    0x82, 8, 0, 0, 0, 1, 0, 5, 0, 0, 0, //
+    0x02, 8, 0, 1, 0, 2, 0, 7, 0, 0, 0, //
+    0x91, 4, 0, 0x02, 8, 0, 1,
+];
+/// The diagram in the same way.
+const REMARKED_RULES: [u8; 42] = [
+    0x11, 2, 0, 3, 0, //
+    0x92, 6, 0, 1, 0, 0, 0, 1, 0, //
+    0x12, 6, 0, 1, 0, 0, 0, 1, 0, //
+    0x80, 0, 0, //
+    0xc0, 1, 0, 0xff, //
+    0x12, 6, 0, 0, 0, 1, 0, 2, 0, //
+    0xff, 0, 0,
+];
+
+#[test]
+fn remarks_are_passed_over() {
+    assert_eq!(read_both(&REMARKED_CHART, &REMARKED_RULES), read_both(&CHART, &RULES));
+    accepts(&REMARKED_CHART, &REMARKED_RULES);
+    accepts(&REMARKED_CHART, &RULES);
+    accepts(&CHART, &REMARKED_RULES);
+    for planner in planner::all() {
+        let mut sweep = SweepSlices::of(12, 2);
+        let answer = planner.sweep(&REMARKED_CHART, &REMARKED_RULES, &mut sweep);
+        assert_eq!((answer.number, answer.cost, answer.length), (0, 12, 2), "{}", planner.name());
+        assert_eq!(sweep.plan[..], [0, 1], "{}", planner.name());
+    }
+}
+
+#[test]
+fn a_remark_takes_no_number() {
+    // There is no step 2, and no node 4.
+    refuses(&REMARKED_CHART, &edited(&RULES, 8, &[2]), (6, 2, 5));
+    accepts(&REMARKED_CHART, &edited(&RULES, 3, &[2]));
+    refuses(&CHART, &edited(&REMARKED_RULES, 3, &[4]), (6, 2, 0));
+    // With its tag changed the last step is a remark, and step 1 is gone.
+    chart_refuses(&edited(&CHART, 20, &[0x03]), 2, 20);
+    for tag in [0x80, 0x82, 0xff] {
+        refuses(&edited(&CHART, 20, &[tag]), &RULES, (6, 2, 5));
+        refuses(&CHART, &edited(&RULES, 14, &[tag]), (6, 2, 0));
+    }
+}
+
+#[test]
+fn remarks_have_the_tags_from_80_on() {
+    for tag in 0x80..=0xff {
+        accepts(&[&CHART[..], &[tag, 0, 0]].concat(), &[&RULES[..], &[tag, 1, 0, 7]].concat());
+    }
+    for tag in [0x00, 0x03, 0x10, 0x13, 0x40, 0x7e, 0x7f] {
+        chart_refuses(&[&CHART[..], &[tag, 0, 0]].concat(), 2, 31);
+        rules_refuse(&[&RULES[..], &[tag, 0, 0]].concat(), 2, 23);
+        rules_refuse(&[&RULES[..5], &[tag, 0, 0], &RULES[5..]].concat(), 2, 5);
+    }
+}
+
+#[test]
+fn no_remark_may_stand_first() {
+    for remark in [&[0x80, 0, 0][..], &[0xff, 2, 0, 1, 2], &[0x81, 6, 0, 3, 0, 0, 0, 2, 0]] {
+        chart_refuses(&[remark, &CHART[..]].concat(), 2, 0);
+        rules_refuse(&[remark, &RULES[..]].concat(), 2, 0);
+        chart_refuses(remark, 2, 0);
+        rules_refuse(remark, 2, 0);
+    }
+    // The tag comes before the cut body, the cut header before the tag.
+    chart_refuses(&[0x80, 0xff, 0xff], 2, 0);
+    rules_refuse(&[0x80, 1, 0], 2, 0);
+    chart_refuses(&[0x80, 0], 1, 0);
+    rules_refuse(&[0x80], 1, 0);
+    // Behind a remark a head comes again.
+    chart_refuses(&[&CHART[..9], &[0x80, 0, 0], &CHART[..9]].concat(), 2, 12);
+    rules_refuse(&[&RULES[..5], &[0x80, 0, 0], &RULES[..5]].concat(), 2, 8);
+}
+
+#[test]
+fn a_cut_remark_is_1_at_its_own_place() {
+    let cut: [&[u8]; 8] = [
+        &[0x80],
+        &[0xff],
+        &[0x80, 0],
+        &[0xff, 0xff],
+        &[0x80, 1, 0],
+        &[0x80, 3, 0, 1, 2],
+        &[0x80, 0, 1, 1, 2],
+        &[0xff, 0xff, 0xff],
+    ];
+    for end in cut {
+        chart_refuses(&[&CHART[..], end].concat(), 1, 31);
+        rules_refuse(&[&RULES[..], end].concat(), 1, 23);
+        chart_refuses(&[&CHART[..], &[0x80, 2, 0, 1, 2], end].concat(), 1, 36);
+        rules_refuse(&[&RULES[..5], end].concat(), 1, 5);
+    }
+    // The fields behind a header are its body, as far as its length goes.
+    refuses(&[&CHART[..9], &[0x80, 22, 0], &CHART[9..]].concat(), &RULES, (6, 2, 5));
+    chart_refuses(&[&CHART[..9], &[0x80, 23, 0], &CHART[9..]].concat(), 1, 9);
+    chart_refuses(&[&CHART[..9], &[0x80, 21, 0], &CHART[9..]].concat(), 1, 33);
+    refuses(&CHART, &[&RULES[..5], &[0x80, 18, 0], &RULES[5..]].concat(), (6, 2, 0));
+    rules_refuse(&[&RULES[..5], &[0x80, 19, 0], &RULES[5..]].concat(), 1, 5);
+}
+
+#[test]
+fn faults_behind_remarks_are_told_at_their_places() {
+    let remark = [0x85, 2, 0, 0x02, 8];
+    let behind = |end: &[u8]| [&CHART[..20], &remark, end].concat();
+    chart_refuses(&behind(&[0x02, 8, 0, 1, 0, 1, 0, 7, 0, 0, 0]), 5, 25);
+    chart_refuses(&behind(&[0x02, 7, 0]), 3, 25);
+    chart_refuses(&behind(&CHART[20..30]), 1, 25);
+    chart_refuses(&behind(&[0x7f, 0, 0]), 2, 25);
+    // The step before is the one before the remark.
+    chart_refuses(&[&CHART[..9], &CHART[20..], &remark, &CHART[9..20]].concat(), 5, 25);
+    let behind = |end: &[u8]| [&RULES[..14], &remark, end].concat();
+    rules_refuse(&behind(&[0x12, 6, 0, 0, 0, 3, 0, 2, 0]), 6, 19);
+    rules_refuse(&behind(&[0x12, 5, 0]), 3, 19);
+    rules_refuse(&behind(&RULES[14..22]), 1, 19);
+    // The root comes after all remarks as well.
+    let bad_root = edited(&RULES, 3, &[9]);
+    rules_refuse(&[&bad_root[..], &remark].concat(), 6, 0);
+    rules_refuse(&[&bad_root[..], &remark[..4]].concat(), 1, 23);
+}
+
+#[test]
+fn remarks_do_not_count_to_1024_and_510() {
+    let (step, node) = (&CHART[9..20], &RULES[5..14]);
+    let remark = [0xaa, 1, 0, 0];
+    let yes = [0x11, 2, 0, 1, 0];
+    let chart = [&CHART[..9], &[step, &remark].concat().repeat(1_024)].concat();
+    accepts(&chart, &yes);
+    refuses(&[&chart[..], step].concat(), &yes, (5, 1, 9 + 15 * 1_024));
+    refuses(&[&chart[..], &step[..10]].concat(), &yes, (1, 1, 9 + 15 * 1_024));
+    let rules = [&[0x11, 2, 0, 255, 1], &[node, &remark].concat().repeat(510)[..]].concat();
+    accepts(&CHART, &rules);
+    rules_refuse(&[&rules[..], node].concat(), 6, 5 + 13 * 510);
+    rules_refuse(&[&rules[..], &[0x12, 5, 0]].concat(), 3, 5 + 13 * 510);
+}
+
+/// A file with bytes behind it up to a length.
+fn up_to(file: &[u8], length: usize, byte: u8) -> Vec<u8> {
+    let mut bytes = file.to_vec();
+    bytes.resize(length, byte);
+    bytes
+}
+
+#[test]
+fn a_file_above_32768_bytes_is_9_before_its_first_field() {
+    for byte in [0x00, 0x02, 0x7f, 0x80, 0xff] {
+        for length in [32_769, 32_770, 40_000, 65_536, 100_000] {
+            for begin in [&CHART[..], &RULES, &[], &[0x80, 0, 0], &[0x01, 7, 0], &[0x01, 6, 0, 0]] {
+                let file = up_to(begin, length, byte);
+                chart_refuses(&file, 9, 32_768);
+                rules_refuse(&file, 9, 32_768);
+            }
+        }
+    }
+    chart_refuses(&up_to(&CHART, 32_768, 0), 2, 31);
+    rules_refuse(&up_to(&RULES, 32_768, 0), 2, 23);
+    chart_refuses(&up_to(&[], 32_768, 0), 2, 0);
+    rules_refuse(&up_to(&[], 32_768, 0xff), 2, 0);
+    chart_refuses(&up_to(&CHART, 32_768, 0xff), 1, 31);
+}
+
+#[test]
+fn the_diagrams_9_comes_after_the_chart() {
+    let long = up_to(&RULES, 32_769, 0x80);
+    let chart = up_to(&CHART, 32_769, 0x80);
+    refuses(&chart, &long, (9, 1, 32_768));
+    refuses(&chart, &[], (9, 1, 32_768));
+    refuses(&[], &long, (2, 1, 0));
+    refuses(&CHART[..30], &long, (1, 1, 20));
+    refuses(&edited(&CHART, 9, &[0x7f]), &long, (2, 1, 9));
+    refuses(&edited(&CHART, 1, &[7]), &long, (3, 1, 0));
+    refuses(&edited(&CHART, 3, &[0]), &long, (4, 1, 0));
+    refuses(&edited(&CHART, 25, &[3]), &long, (5, 1, 20));
+    refuses(&CHART, &long, (9, 2, 32_768));
+}
+
+#[test]
+fn the_refused_field_of_a_9_is_what_stands_there() {
+    let chart = [&up_to(&CHART, 32_768, 0)[..], &[0x80, 2, 0, 1, 2, 3]].concat();
+    chart_refuses(&chart, 9, 32_768);
+    assert_eq!(refused_field(&chart, &RULES, 1, 32_768), [0x80, 2, 0, 1, 2]);
+    assert_eq!(refused_field(&chart[..32_769], &RULES, 1, 32_768), [0x80]);
+    assert_eq!(refused_field(&CHART, &REMARKED_RULES, 2, 5), &REMARKED_RULES[5..14]);
 }

@@ -3,6 +3,10 @@
 
 use std::path::PathBuf;
 use std::process::{Command, Output};
+use std::time::Duration;
+
+use planner_bench::fuzz::{Bounds, Corpus, Fuzz};
+use planner_bench::sabotage::{first_planner, readings};
 
 const DIFFTEST: &str = env!("CARGO_BIN_EXE_difftest");
 const FUZZ: &str = env!("CARGO_BIN_EXE_fuzz");
@@ -52,6 +56,18 @@ fn fuzzing_finds_wrong_places_and_touches_outside() {
         let again = Command::new(DIFFTEST).args(replay).output().expect("it runs");
         assert_eq!(again.status.code(), Some(1), "{}", shown(&again));
         std::fs::remove_dir_all(folder).expect("the case was saved");
+    }
+}
+
+#[test]
+fn fuzzing_finds_every_wrong_reading() {
+    let corpus = Corpus::new(58);
+    let time = Duration::from_secs(60);
+    let bounds = Bounds { first: 0, cases: 60_000, time, threads: 2 };
+    for sabotage in readings() {
+        let planner = [first_planner(Some(sabotage.name)).expect("a sabotage of that name")];
+        let agreed = Fuzz::new(&corpus, &planner, bounds).run(|_| {}, |_| {});
+        assert!(!agreed, "{}", sabotage.name);
     }
 }
 

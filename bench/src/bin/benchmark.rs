@@ -7,13 +7,13 @@ use std::path::{Path, PathBuf};
 use std::process::ExitCode;
 
 use planner_bench::history;
-use planner_bench::loads::{growth, standard, Load};
+use planner_bench::loads::{growth, remarks, standard, Group, Load};
 use planner_bench::page::{load_average, Run};
 use planner_bench::placements::{serve, Placement, SERVE};
 use planner_bench::planner::{self, Planner};
 use planner_bench::plot::svg;
 use planner_bench::ratios::Measured;
-use planner_bench::report::{csv, summary, table_head, table_rows};
+use planner_bench::report::{csv, left_out, summary, table_head, table_rows};
 use planner_bench::stacks::{peaks, Peak};
 
 const HELP: &str = "\
@@ -87,7 +87,7 @@ fn main() -> ExitCode {
         println!("{HELP}");
         return ExitCode::SUCCESS;
     }
-    let loads = [standard(), growth()].concat();
+    let loads = [standard(), growth(), remarks()].concat();
     let done = match options.serve {
         true => serve(&loads, &planner::timed()).map_err(|error| error.to_string()),
         false => run(&options, &loads),
@@ -154,10 +154,13 @@ fn run(options: &Options, loads: &[Load]) -> Result<(), String> {
     let all = measure_all(loads, options, &mut placements, &planners)?;
     let codes: Vec<usize> = placements.iter().map(|placement| placement.code).collect();
     drop(placements);
-    let main = all.iter().take_while(|measured| !measured.name.starts_with("growth: ")).count();
-    let (main, growing) = all.split_at(main);
-    println!("\n{}\n", summary(main, &all));
-    let peaks = peaks(&planners, &standard());
+    let has_remarks = |measured: &Measured| measured.group == Group::Remarks;
+    let (remarked, plain): (Vec<_>, Vec<_>) = all.iter().cloned().partition(has_remarks);
+    let main = plain.iter().take_while(|measured| !measured.name.starts_with("growth: ")).count();
+    let (main, growing) = plain.split_at(main);
+    println!("\n{}\n", summary(main, &plain));
+    left_out(&all, &names).iter().for_each(|text| println!("{text}\n"));
+    let peaks = peaks(&planners, &[standard(), remarks()].concat());
     for Peak { planner, call, bytes } in &peaks {
         println!("peak stack of {planner}, {call}: {bytes} bytes");
     }
@@ -167,7 +170,7 @@ fn run(options: &Options, loads: &[Load]) -> Result<(), String> {
     };
     write(&table, csv(&all))?;
     let drawn: Vec<&str> = names.iter().copied().filter(|name| *name != "control").collect();
-    write(&plot, svg(&all, &drawn))?;
+    write(&plot, svg(&plain, &drawn))?;
     let Some(docs) = &options.docs else { return Ok(()) };
     let run = Run {
         planners: &names,
@@ -177,6 +180,7 @@ fn run(options: &Options, loads: &[Load]) -> Result<(), String> {
         busy: &busy,
         standard: main,
         growth: growing,
+        remarks: &remarked,
         peaks: &peaks,
     };
     write(&docs.join("PERFORMANCE-TABLES.md"), run.page())?;

@@ -212,7 +212,7 @@ fn replay(folder: &Path, planners: &[Box<dyn Planner>]) -> ExitCode {
 /// Runs this program with each sabotage, since some of them end it.
 fn sabotage_all() -> ExitCode {
     let mut missed = 0;
-    for sabotage in &sabotage::ALL {
+    for sabotage in sabotage::all() {
         match caught(sabotage.name) {
             Ok(line) => println!("{}: {line}", sabotage.name),
             Err(text) => {
@@ -221,7 +221,7 @@ fn sabotage_all() -> ExitCode {
             }
         }
     }
-    println!("{} sabotages, {missed} not found", sabotage::ALL.len());
+    println!("{} sabotages, {missed} not found", sabotage::all().count());
     ExitCode::from(u8::from(missed > 0))
 }
 

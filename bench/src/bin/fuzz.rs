@@ -14,8 +14,8 @@ use planner_bench::saved;
 
 const HELP: &str = "\
 fuzz: spoils sound chart and diagram files (bits, cuts, numbers, lengths, tags; fields doubled,
-exchanged, left out, spliced) and holds every call of the library on them against the reference:
-number, file and place of a refusal, and all that a search answers and writes.
+exchanged, left out, spliced; remarks) and holds every call of the library on them against the
+reference: number, file and place of a refusal, and all that a search answers and writes.
 
 usage: fuzz [--seconds N] [--cases N] [--seed N] [--first N] [--threads N] [--save DIR]
             [--sabotage NAME]
@@ -115,6 +115,7 @@ fn run(options: &Options, planner: Box<dyn Planner>) -> ExitCode {
     };
     let agreed = fuzz.run(progress, |found| tell(options, &corpus.case(found.number), found));
     println!("by the sweep's number: {}", by_number(&fuzz));
+    println!("with remarks: {}", fuzz.with_remarks());
     println!("{}, {}", speed(&fuzz), if agreed { "no difference" } else { "then a difference" });
     ExitCode::from(u8::from(!agreed))
 }

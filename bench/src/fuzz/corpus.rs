@@ -5,6 +5,7 @@ use crate::files::{write_chart, write_diagram};
 use crate::generate::broken::Files;
 use crate::generate::charts::random_chart;
 use crate::generate::diagrams::random_diagram;
+use crate::generate::long::near_longest;
 use crate::generate::mutate::mutated;
 use crate::generate::Random;
 
@@ -52,8 +53,13 @@ impl Corpus {
         };
         // At times the fields of the other kind of file come in.
         let odd = number % 16 == 0;
-        let chart = spoil(which < 5, chart, if odd { rules } else { other_chart });
-        let rules = spoil(which > 3, rules, if odd { other_chart } else { other_rules });
+        let mut chart = spoil(which < 5, chart, if odd { rules } else { other_chart });
+        let mut rules = spoil(which > 3, rules, if odd { other_chart } else { other_rules });
+        // Seldom both are about as long as they may be.
+        if number % 512 == 9 {
+            chart = near_longest(&mut random, &chart);
+            rules = near_longest(&mut random, &rules);
+        }
         Case { kind: "fuzzed", chart, rules, dirt: random.word() }
     }
 

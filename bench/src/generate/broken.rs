@@ -9,9 +9,11 @@ use crate::files::{
 /// A chart file and a diagram file.
 pub type Files = (Vec<u8>, Vec<u8>);
 
-type Fields = Vec<Vec<u8>>;
+/// The fields of a file, one by one.
+pub(super) type Fields = Vec<Vec<u8>>;
 
-pub const TAGS: [u8; 12] = [0x00, 0x01, 0x02, 0x03, 0x10, 0x11, 0x12, 0x13, 0x21, 0x22, 0x80, 0xff];
+pub const TAGS: [u8; 15] =
+    [0x00, 0x01, 0x02, 0x03, 0x10, 0x11, 0x12, 0x13, 0x21, 0x22, 0x7f, 0x80, 0x82, 0xfe, 0xff];
 
 /// Every way of spoiling a small valid problem, and the problem itself.
 pub fn systematic(problem: &Problem) -> Vec<Files> {
@@ -27,12 +29,12 @@ pub fn systematic(problem: &Problem) -> Vec<Files> {
     files
 }
 
-fn chart_fields(chart: &Chart) -> Fields {
+pub(super) fn chart_fields(chart: &Chart) -> Fields {
     let head = std::iter::once(chart_head_field(chart));
     head.chain(chart.steps.iter().map(|step| step_field(*step))).collect()
 }
 
-fn diagram_fields(diagram: &Diagram) -> Fields {
+pub(super) fn diagram_fields(diagram: &Diagram) -> Fields {
     let head = std::iter::once(diagram_head_field(diagram));
     head.chain(diagram.nodes.iter().map(|node| node_field(*node))).collect()
 }
@@ -187,12 +189,13 @@ pub fn at_limits() -> Vec<Files> {
     files
 }
 
-/// Fields of the greatest length, whole and cut, at the front and behind a head.
+/// Fields of the greatest length, whole and cut, at the front and behind a head. The whole ones make
+/// their file too long.
 fn long_fields() -> Vec<Files> {
     let chart = write_chart(&Chart { stages: 2, start: 0, end: 1, steps: Vec::new() });
     let rules = write_diagram(&Diagram { root: 1, nodes: Vec::new() });
     let mut files = Vec::new();
-    for body in [usize::from(u16::MAX) - 1, usize::from(u16::MAX), usize::from(u16::MAX) + 5] {
+    for body in [100, 32_000, 65_534, 65_535, 65_540] {
         for tag in [0x01, 0x02, 0x11, 0x12, 0x80] {
             let field = [&[tag, 0xff, 0xff][..], &vec![tag; body]].concat();
             files.push(([&chart[..], &field].concat(), rules.clone()));

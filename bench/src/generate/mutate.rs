@@ -1,8 +1,8 @@
 //! Sound files spoiled at any place: bits and bytes, cuts, lengths, tags, numbers near limits, and
-//! whole fields doubled, exchanged, moved, left out or taken from another file.
+//! whole fields doubled, exchanged, moved, left out or taken from another file, and remarks.
 
 use super::broken::TAGS;
-use super::Random;
+use super::{remarks, Random};
 use crate::files::{two_bytes, HEADER};
 
 /// Numbers that limits speak of, and their neighbours.
@@ -28,12 +28,13 @@ fn mutate(random: &mut Random, bytes: &mut Vec<u8>, other: &[u8]) {
         bytes.extend(&other[..random.between(0, other.len())]);
         return;
     }
-    match random.below(12) {
+    match random.below(14) {
         0 | 1 => flip(random, bytes),
         2 => cut(random, bytes),
         3..=5 => change_number(random, bytes),
         6 => change_header(random, bytes),
         7 => lengthen(random, bytes),
+        8 | 9 => remarks::mutate(random, bytes),
         _ => move_fields(random, bytes, other),
     }
 }
@@ -131,7 +132,7 @@ fn move_fields(random: &mut Random, bytes: &mut Vec<u8>, other: &[u8]) {
 
 /// First and past-the-last byte of every field, by the lengths that they claim, cut at the end. There
 /// is one at least where the file isn't empty.
-fn fields(bytes: &[u8]) -> Vec<(usize, usize)> {
+pub fn fields(bytes: &[u8]) -> Vec<(usize, usize)> {
     let mut places = Vec::new();
     let mut at = 0;
     while at < bytes.len() {

@@ -8,6 +8,9 @@ const NODES: usize = 512;
 const STAGES: usize = 256;
 const MAX_COST: u32 = 1_000_000;
 
+/// The most bytes of a file.
+const LONGEST: usize = 32_768;
+
 /// Bytes of each field, header and body: the chart's head and steps, the diagram's head and nodes.
 const HEAD: usize = 9;
 const STEP_FIELD: usize = 11;
@@ -85,7 +88,7 @@ impl Tables {
 
     /// Fills the chart's tables.
     pub fn read_chart(&mut self, file: &[u8]) -> Result<(), Answer> {
-        let head: &[u8; 6] = first_body(file, 0x01).map_err(|n| Answer::refused(n, 1, 0))?;
+        let head: &[u8; 6] = first_body(file, 0x01, 1)?;
         self.stages = number(head[0], head[1]);
         self.start = number(head[2], head[3]);
         self.end = number(head[4], head[5]);
@@ -93,18 +96,15 @@ impl Tables {
         if stages == 0 || stages > STAGES || self.start >= stages || self.end >= stages {
             return Err(Answer::refused(4, 1, 0));
         }
-        let refused = |number, at| Answer::refused(number, 1, HEAD + STEP_FIELD * at);
-        let fields = file[HEAD..].chunks_exact(STEP_FIELD);
-        let (whole, cut) = (fields.len(), fields.remainder());
-        let mut from = 0;
-        for (at, field) in fields.enumerate() {
-            from = self.read_step(field, at, from).map_err(|number| refused(number, at))?;
-        }
-        self.steps = whole;
-        if cut.is_empty() {
-            return Ok(());
-        }
-        self.read_step(cut, whole, from).map_err(|number| refused(number, whole)).map(|_| ())
+        let (mut steps, mut from) = (0, 0);
+        each_field::<STEP_FIELD>(&file[HEAD..], |field| {
+            from = self.read_step(field, steps, from)?;
+            steps += 1;
+            Ok(())
+        })
+        .map_err(|Fault { number, left }| Answer::refused(number, 1, file.len() - left))?;
+        self.steps = steps;
+        Ok(())
     }
 
     /// Reads a step that leaves no stage before `least`, and gives the stage that it leaves.
@@ -135,19 +135,17 @@ impl Tables {
 
     /// Fills the diagram's tables; the chart's are filled already.
     pub fn read_rules(&mut self, file: &[u8]) -> Result<(), Answer> {
-        let head: &[u8; 2] = first_body(file, 0x11).map_err(|n| Answer::refused(n, 2, 0))?;
+        let head: &[u8; 2] = first_body(file, 0x11, 2)?;
         self.root = number(head[0], head[1]);
         self.nodes[..2].fill(Inner::new(NO_STEP, 0, 0));
-        let refused = |number, at| Answer::refused(number, 2, RULES_HEAD + NODE_FIELD * at);
-        let fields = file[RULES_HEAD..].chunks_exact(NODE_FIELD);
-        let (whole, cut) = (fields.len(), fields.remainder());
-        for (at, field) in fields.enumerate() {
-            self.read_node(field, at + 2).map_err(|number| refused(number, at))?;
-        }
-        if !cut.is_empty() {
-            self.read_node(cut, whole + 2).map_err(|number| refused(number, whole))?;
-        }
-        self.references = whole + 2;
+        let mut own = 2;
+        each_field::<NODE_FIELD>(&file[RULES_HEAD..], |field| {
+            self.read_node(field, own)?;
+            own += 1;
+            Ok(())
+        })
+        .map_err(|Fault { number, left }| Answer::refused(number, 2, file.len() - left))?;
+        self.references = own;
         if self.root >= self.references {
             return Err(Answer::refused(6, 2, 0));
         }
@@ -251,12 +249,68 @@ fn number(low: u8, high: u8) -> usize {
     usize::from(u16::from_le_bytes([low, high]))
 }
 
-/// The body of a file's first field.
-fn first_body<const LENGTH: usize>(file: &[u8], tag: u8) -> Result<&[u8; LENGTH], u32> {
-    if file.is_empty() {
-        return Err(2);
+/// The body of a file's first field; a file that is too long is refused before it.
+fn first_body<const LENGTH: usize>(
+    file: &[u8],
+    tag: u8,
+    mark: u32,
+) -> Result<&[u8; LENGTH], Answer> {
+    if file.len() > LONGEST {
+        return Err(Answer::refused(9, mark, LONGEST));
     }
-    body(file, tag)
+    if file.is_empty() {
+        return Err(Answer::refused(2, mark, 0));
+    }
+    body(file, tag).map_err(|number| Answer::refused(number, mark, 0))
+}
+
+/// The number of a fault, and the bytes from its field to the file's end.
+struct Fault {
+    number: u32,
+    left: usize,
+}
+
+/// Hands over the fields behind a head one by one, without the remarks between them. The last one
+/// may be cut.
+fn each_field<const FIELD: usize>(
+    fields: &[u8],
+    mut read: impl FnMut(&[u8]) -> Result<(), u32>,
+) -> Result<(), Fault> {
+    let mut rest = fields;
+    while let Err((number, at)) = fields_in_a_row::<FIELD>(rest, &mut read) {
+        rest = behind_remarks(&rest[at..], number)?;
+    }
+    Ok(())
+}
+
+/// The same up to the first field that is at fault: its number, and where it is.
+fn fields_in_a_row<const FIELD: usize>(
+    fields: &[u8],
+    read: &mut impl FnMut(&[u8]) -> Result<(), u32>,
+) -> Result<(), (u32, usize)> {
+    let whole = fields.chunks_exact(FIELD);
+    let cut = whole.remainder();
+    for (at, field) in whole.enumerate() {
+        read(field).map_err(|number| (number, FIELD * at))?;
+    }
+    if cut.is_empty() {
+        return Ok(());
+    }
+    read(cut).map_err(|number| (number, fields.len() - cut.len()))
+}
+
+/// What follows the remarks at the front. Where none stands there the fault is the one found, where
+/// one is cut it is 1.
+fn behind_remarks(fields: &[u8], number: u32) -> Result<&[u8], Fault> {
+    let mut rest = fields;
+    while let [0x80..=0xff, low, high, body @ ..] = rest {
+        let length = usize::from(u16::from_le_bytes([*low, *high]));
+        rest = body.get(length..).ok_or(Fault { number: 1, left: rest.len() })?;
+    }
+    if rest.len() == fields.len() {
+        return Err(Fault { number, left: rest.len() });
+    }
+    Ok(rest)
 }
 
 /// The body of a field: header cut, tag, length, body cut. A right header is told by one comparison.

@@ -30,7 +30,10 @@ pub enum Field {
     // The file ends here.
     Absent,
     // The refusal's number and place.
-    Faulty { number: u8, place: usize },
+    Faulty {
+        number: u8,
+        place: usize,
+    },
     // The field is whole: the place of its tag, where its body starts, and where it ends and the next field is due.
     Whole {
         place: usize,
