@@ -8,7 +8,7 @@ use Rattle.definitions.specs.Basics.{pick}
 use Rattle.definitions.specs.Fields.{part, only, firstField, onField}
 use Rattle.definitions.specs.Charts.{headFault, chartRefused, withSteps, scanSteps, readChart}
 use Rattle.definitions.specs.declared.Field.{Field}
-use Rattle.definitions.specs.declared.Field.the-variants.{Absent, Faulty, Whole}
+use Rattle.definitions.specs.declared.Field.the-variants.{Absent, Faulty, Passed, Whole}
 use Rattle.chart_fields.specs.Bodies.{headBody}
 use Rattle.chart_fields.specs.declared.bodies.HeadBody.{HeadBody}
 use Rattle.chart.specs.Held.{nothing-filled}
@@ -44,6 +44,17 @@ module _ (s : List ℕ) (r : Field) (given : r ≡ firstField s (only 1 6)) wher
     pub chart-faulty-filled : (packed : List (List ℕ)) → Room packed → Filled (readChart s .chart .steps) packed packed
     chart-faulty-filled packed = untouched s k p packed faulty
 
+  module _ (e : ℕ) (found : r ≡ Passed e) where
+    over : readChart s ≡ chartRefused 2 0
+    unfolding readChart onField
+    over = rw (← given, found)
+
+    pub chart-over : (x : ChartRead) → x ≡ chartAnswer (chartRefused 2 0) → x ≡ chartAnswer (readChart s)
+    chart-over x q = rw over q
+
+    pub chart-over-filled : (packed : List (List ℕ)) → Room packed → Filled (readChart s .chart .steps) packed packed
+    chart-over-filled packed = untouched s 2 0 packed over
+
   module _ (p a e : ℕ) (found : r ≡ Whole p a e) where
     module _ (v : ℕ) (judged : v ≡ headFault (part s a e)) where
       module _ (fails : v ≡ 0 → ⊥) where
@@ -74,6 +85,8 @@ pub ruleset chart-laws = (
   chart-empty-filled,
   chart-faulty,
   chart-faulty-filled,
+  chart-over,
+  chart-over-filled,
   chart-bad,
   chart-bad-filled,
   chart-good,

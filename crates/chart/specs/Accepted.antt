@@ -16,7 +16,7 @@ use Rattle.definitions.specs.Charts.{Chart, ChartStep, ChartRead, noStep, headF
 use Rattle.theory.specs.Limits.{Small, Valid}
 use Rattle.definitions.specs.Plans.{graph}
 use Rattle.definitions.specs.declared.Field.{Field}
-use Rattle.definitions.specs.declared.Field.the-variants.{Absent, Faulty, Whole}
+use Rattle.definitions.specs.declared.Field.the-variants.{Absent, Faulty, Passed, Whole}
 use Rattle.fields.specs.First.{first-number}
 use Rattle.fields.specs.Scans.{scan-keeps}
 use Rattle.chart.specs.Limits.{HeadFits, head-fits, StepFits, step-fits}
@@ -82,7 +82,7 @@ module _ (stages : ℕ) (l : List ChartStep) (b : List ℕ) (passes : 0 ≡ step
 -- the steps that passed keep the limits, also where a later field is refused
 scanned-fit : (s : List ℕ) (stages at : ℕ) → StepsFit stages (scanSteps s stages at .passed)
 scanned-fit s stages at =
-    scan-keeps s (stepGrammar stages) (StepsFit stages) (λ at q a e l w o p old. steps-grown stages l (part s a e) (sym p) old) (length s) at []
+    scan-keeps s (stepGrammar stages) (StepsFit stages) (λ at q a e l w p old. steps-grown stages l (part s a e) (sym p) old) (length s) at []
     (none-fit stages)
 
 -- a chart within its limits
@@ -121,8 +121,10 @@ chart-accepted s = go (firstField s (only 1 6)) refl
         let b = part s a e in
         pick (eqb (headFault b) 0) (withSteps b (scanSteps s (two b 0) e)) (chartRefused (headFault b) q)
 
-    go : (r : Field) → r ≡ firstField s (only 1 6) → onField r (chartRefused 2 0) chartRefused found .number ≡ 0 → Within (onField r (chartRefused 2 0) chartRefused found .chart)
+    go : (r : Field) → r ≡ firstField s (only 1 6) → onField r (chartRefused 2 0) chartRefused (λ end. chartRefused 2 0) found .number ≡ 0
+        → Within (onField r (chartRefused 2 0) chartRefused (λ end. chartRefused 2 0) found .chart)
     go Absent g p = absurd (omega arith)
+    go (Passed e) g p = absurd (omega arith)
     go (Faulty k q) g p = absurd (omega (arith, first-number s (only 1 6) k q g))
     go (Whole q a e) g p =
         head-passed (part s a e) (withSteps (part s a e) (scanSteps s (two (part s a e) 0) e)) q (eqb (headFault (part s a e)) 0) refl

@@ -1,11 +1,12 @@
 -- The walk over the steps of a chart file, turn by turn.
 -- Assumes nothing.
-use Prim.Native.Nat.{ℕ, _-_, _<_}
+use Prim.Native.Nat.{ℕ, _-_, _≤_, _<_}
 use mathlib.Core.Path.{_≡_}
-use mathlib.Core.Bool.{true, false}
+use mathlib.Core.Bool.{Bool, true, false}
 use mathlib.Core.List.{List}
 use lib.ListN.{length}
 use Rattle.definitions.specs.Charts.{ChartStep, lastFrom, stepGrammar, scanSteps}
+use Rattle.fields.specs.Positions.{HasField}
 use Rattle.fields.specs.Scans.{Reading}
 use Rattle.chart.specs.Tables.{Room, Filled, stepsAnswer}
 use Rattle.chart.specs.declared.reader.StepsRead.{StepsRead}
@@ -32,3 +33,13 @@ pub record Stands (s : List ℕ) (first stages : ℕ) (packed₀ packed : List (
 pub record Takes (s : List ℕ) (stages : ℕ) (t : StepsRead) (packed packed′ : List (List ℕ)) (r : StepsRead) : Type 0 where
   pub nearer : r .going ≡ true → length s - r .place < length s - t .place
   pub stands : (first : ℕ) (packed₀ : List (List ℕ)) → SoFar s first stages packed₀ packed (t .place) (t .last) (t .steps) → Stands s first stages packed₀ packed′ r
+
+-- a run of turns from t, which has come to r; here says whether a step stands there, and so whether the run goes on
+pub record Run (s : List ℕ) (stages : ℕ) (t : StepsRead) (packed₁ packed : List (List ℕ)) (r : StepsRead) (here : Bool) : Type 0 where
+  pub sofar : here ≡ true → (first : ℕ) (packed₀ : List (List ℕ)) → SoFar s first stages packed₀ packed₁ (t .place) (t .last) (t .steps)
+      → SoFar s first stages packed₀ packed (r .place) (r .last) (r .steps)
+  pub stands : here ≡ false → (first : ℕ) (packed₀ : List (List ℕ)) → SoFar s first stages packed₀ packed₁ (t .place) (t .last) (t .steps)
+      → Stands s first stages packed₀ packed r
+  pub has : here ≡ true → HasField s (r .place) 2 8
+  pub nearer : here ≡ true → length s - r .place ≤ length s - t .place
+  pub less : here ≡ false → r .going ≡ true → length s - r .place < length s - t .place

@@ -1,9 +1,9 @@
 // The reader of the chart file: its steps go into a table with two columns.
 ghost use mathlib.Core.Path.{_≡_};
 ghost use mathlib.Core.Bool.{true, false};
-ghost use Rattle.definitions.specs.Fields.{only};
+ghost use Rattle.definitions.specs.Fields.{only, orRemark, fieldAt};
 ghost use Rattle.definitions.specs.Charts.{chartRefused, readChart};
-ghost use Rattle.fields.specs.Remarks.{nextField};
+ghost use Rattle.fields.specs.Positions.{HasField};
 ghost use Rattle.chart.specs.Tables.{Room, Filled, chartAnswer};
 ghost use Rattle.chart.specs.Turns.{Over, Takes};
 use chart_fields::COST;
@@ -16,6 +16,7 @@ use chart_fields::step_of;
 use definitions::Field;
 use definitions::Stage;
 use fields::first_field;
+use fields::goes_on;
 use fields::reader::moved;
 use fields::reader::new;
 use fields::reader::next;
@@ -24,7 +25,7 @@ use fields::reader::next;
 pub struct StepsRead {
     // the refusal's number, 0 where there is none
     pub number: u8,
-    // from where on the next field is looked for; once the walk is over, the refusal's place, 0 where there is none
+    // where the next field is due; once the walk is over, the refusal's place, 0 where there is none
     pub place: usize,
     // how many steps passed
     pub steps: usize,
@@ -46,39 +47,70 @@ fn stopped(steps: usize, number: u8, place: usize) -> StepsRead
     }
 }
 
-// One turn of the walk: the next field is taken, a step into the table.
-fn take_step(
+// The step whose field stands whole at the read's place, into the table.
+fn store_step(file: &[u8], read: StepsRead, stages: u16, steps: &mut [[u32; 1024]; 2]) -> StepsRead
+    requires { ⌜ HasField (now file) (read .place) 2 8 ⌝ }
+    ensures { λ r. ⌜ Takes (now (file .entry)) stages read (now (steps .entry)) (now (steps .exit)) r ⌝ }
+{
+    let count = read.steps;
+    let place = read.place;
+    let start = place + 3;
+    let end = start + 8;
+    let body = &file[start..end];
+    let fault = step_fault(body, stages, read.last, count);
+    if fault != 0 {
+        return stopped(count, fault, place);
+    }
+    let step = step_of(body);
+    let ends = ends_of(Stage(step.from), Stage(step.to));
+    steps[ENDS][count] = ends;
+    steps[COST][count] = step.cost;
+    StepsRead {
+        number: 0,
+        place: end,
+        steps: count + 1,
+        last: step.from,
+        going: true,
+    }
+}
+
+// The steps that stand one behind the other from the read's place on, into the table: a loop of its own, so that the
+// compiler keeps what it counts in registers.
+fn store_run(file: &[u8], first: StepsRead, stages: u16, steps: &mut [[u32; 1024]; 2]) -> StepsRead
+    requires { ⌜ HasField (now file) (first .place) 2 8 ⌝ }
+    ensures { λ r. ⌜ Takes (now (file .entry)) stages first (now (steps .entry)) (now (steps .exit)) r ⌝ }
+{
+    let mut read = first;
+    let mut here = true;
+    while here {
+        read = store_step(file, read, stages, steps);
+        here = goes_on(file, read.going, read.place, 2, 8);
+    }
+    read
+}
+
+// One turn of the walk: the end, a fault, a remark, or a run of steps, which go into the table.
+fn take_steps(
     file: &[u8],
     found: Field,
     read: StepsRead,
     stages: u16,
     steps: &mut [[u32; 1024]; 2],
 ) -> StepsRead
-    requires { ⌜ found ≡ nextField (now file) (read .place) (only 2 8) ⌝ }
+    requires { ⌜ found ≡ fieldAt (now file) (read .place) (orRemark (only 2 8)) ⌝ }
     ensures { λ r. ⌜ Takes (now (file .entry)) stages read (now (steps .entry)) (now (steps .exit)) r ⌝ }
 {
-    let count = read.steps;
     match found {
-        Field::Absent => stopped(count, 0, 0),
-        Field::Faulty { number, place } => stopped(count, number, place),
-        Field::Whole { place, start, end } => {
-            let body = &file[start..end];
-            let fault = step_fault(body, stages, read.last, count);
-            if fault != 0 {
-                return stopped(count, fault, place);
-            }
-            let step = step_of(body);
-            let ends = ends_of(Stage(step.from), Stage(step.to));
-            steps[ENDS][count] = ends;
-            steps[COST][count] = step.cost;
-            StepsRead {
-                number: 0,
-                place: end,
-                steps: count + 1,
-                last: step.from,
-                going: true,
-            }
-        }
+        Field::Absent => stopped(read.steps, 0, 0),
+        Field::Faulty { number, place } => stopped(read.steps, number, place),
+        Field::Passed { end } => StepsRead {
+            number: 0,
+            place: end,
+            steps: read.steps,
+            last: read.last,
+            going: true,
+        },
+        Field::Whole { .. } => store_run(file, read, stages, steps),
     }
 }
 
@@ -97,7 +129,7 @@ fn read_steps(file: &[u8], first: usize, stages: u16, steps: &mut [[u32; 1024]; 
     };
     while read.going {
         let found = next(reader, 2, 8);
-        read = take_step(file, found, read, stages, steps);
+        read = take_steps(file, found, read, stages, steps);
         reader = moved(reader, read.place);
     }
     read
@@ -125,6 +157,7 @@ pub fn read_chart(file: &[u8], steps: &mut [[u32; 1024]; 2]) -> ChartRead
     match first_field(file, 1, 6) {
         Field::Absent => refused(2, 0),
         Field::Faulty { number, place } => refused(number, place),
+        Field::Passed { end: _ } => refused(2, 0),
         Field::Whole { place, start, end } => {
             let body = &file[start..end];
             let fault = head_fault(body);

@@ -80,10 +80,10 @@ stepGrammar stages = record { kind = λ before. only 2 8; fault = λ before tag.
 abbrev pub scanSteps : List ℕ → ℕ → ℕ → Scan ChartStep
 scanSteps s stages at = scan s (stepGrammar stages) (length s) at []
 
--- the head first, once; then steps to the file's end. An empty file is 2 at place 0
+-- the head first, once; then steps to the file's end. An empty file is 2 at place 0. (Before the head no field is passed over)
 unfoldable pub readChart : List ℕ → ChartRead
 readChart s =
-    onField (firstField s (only 1 6)) (chartRefused 2 0) chartRefused
+    onField (firstField s (only 1 6)) (chartRefused 2 0) chartRefused (λ end. chartRefused 2 0)
     (λ place start end.
     let b = part s start end in
     let whole = withSteps b (scanSteps s (two b 0) end) in

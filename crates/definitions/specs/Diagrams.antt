@@ -79,10 +79,10 @@ nodeGrammar steps = record { kind = λ before. only 18 6; fault = λ before tag.
 abbrev pub scanNodes : List ℕ → ℕ → ℕ → Scan InnerNode
 scanNodes s steps at = scan s (nodeGrammar steps) (length s) at []
 
--- the head first, once; then nodes to the file's end. An empty file is 2 at place 0
+-- the head first, once; then nodes to the file's end. An empty file is 2 at place 0. (Before the head no field is passed over)
 unfoldable pub readDiagram : List ℕ → ℕ → DiagramRead
 readDiagram s steps =
-    onField (firstField s (only 17 2)) (diagramRefused 2 0) diagramRefused
+    onField (firstField s (only 17 2)) (diagramRefused 2 0) diagramRefused (λ end. diagramRefused 2 0)
     (λ place start end. withNodes (two (part s start end) 0) (scanNodes s steps end))
 
 -- ---- the walk

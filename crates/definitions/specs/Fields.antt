@@ -7,7 +7,7 @@ use lib.Dec.{leb, ltb, eqb}
 use lib.ListN.{length, getD, take, drop}
 use Rattle.definitions.specs.Basics.{pick}
 use Rattle.definitions.specs.declared.Field.{Field}
-use Rattle.definitions.specs.declared.Field.the-variants.{Absent, Faulty, Whole}
+use Rattle.definitions.specs.declared.Field.the-variants.{Absent, Faulty, Passed, Whole}
 
 -- the two-byte and the four-byte number at a place
 abbrev pub two : List ℕ → ℕ → ℕ
@@ -20,22 +20,32 @@ four s at = two s at + 65536 * two s (at + 2)
 abbrev pub part : List ℕ → ℕ → ℕ → List ℕ
 part s a e = take (e - a) (drop a s)
 
--- What a tag is at its place: not of this file, a field of exactly n bytes, or a field of at least n bytes
+-- What a tag is at its place: not of this file, a field of exactly n bytes, a field of at least n bytes whose length is judged with its content, or
+-- a field of any length that is passed over
 pub data Kind : Type 0 where
   foreign : Kind
   exactly : ℕ → Kind
   atLeast : ℕ → Kind
+  passedOver : Kind
 
 abbrev pub isForeign : Kind → Bool
 isForeign foreign = true
 isForeign (exactly n) = false
 isForeign (atLeast n) = false
+isForeign passedOver = false
+
+abbrev pub isPassedOver : Kind → Bool
+isPassedOver foreign = false
+isPassedOver (exactly n) = false
+isPassedOver (atLeast n) = false
+isPassedOver passedOver = true
 
 -- a length is one that the kind may have
 abbrev pub lengthFits : Kind → ℕ → Bool
 lengthFits foreign len = false
 lengthFits (exactly n) len = eqb len n
 lengthFits (atLeast n) len = leb n len
+lengthFits passedOver len = true
 
 -- fields of one tag and length only
 unfoldable pub only : ℕ → ℕ → ℕ → Kind
@@ -45,9 +55,9 @@ only tag len found = pick (eqb found tag) (exactly len) foreign
 abbrev pub isRemark : ℕ → Bool
 isRemark tag = leb 128 tag
 
--- after a file's head: remarks, of any length, beside what `kind` says of the other tags
+-- after a file's head remarks are passed over; `kind` says what the other tags are
 unfoldable pub orRemark : (ℕ → Kind) → ℕ → Kind
-orRemark kind tag = pick (isRemark tag) (atLeast 0) (kind tag)
+orRemark kind tag = pick (isRemark tag) passedOver (kind tag)
 
 -- The field at a place where `kind` says what each tag is. In this order: header cut (1), tag (2), length (3), body cut (1)
 unfoldable pub fieldAt : List ℕ → ℕ → (ℕ → Kind) → Field
@@ -59,17 +69,23 @@ fieldAt s at kind =
     (pick (isForeign (kind tag)) (Faulty 2 at)
     (pick (not (lengthFits (kind tag) len)) (Faulty 3 at)
     (pick (ltb (length s - at - 3) len) (Faulty 1 at)
-    (Whole at (at + 3) (at + 3 + len))))))
+    (pick (isPassedOver (kind tag)) (Passed (at + 3 + len))
+    (Whole at (at + 3) (at + 3 + len)))))))
 
--- The first field of a file. Ahead of it: a file of more than 32,768 bytes is 9 at place 32,768
+-- how many bytes a file may have
+abbrev pub longest : ℕ
+longest = 32768
+
+-- A file's first field. Its length comes first: a file that is too long is 9, at the place of its first byte too many
 unfoldable pub firstField : List ℕ → (ℕ → Kind) → Field
-firstField s kind = pick (not (leb (length s) 32768)) (Faulty 9 32768) (fieldAt s 0 kind)
+firstField s kind = pick (not (leb (length s) longest)) (Faulty 9 longest) (fieldAt s 0 kind)
 
 -- by cases on what stands in a file
-unfoldable pub onField {ℓ} : {A : Type ℓ} → Field → A → (ℕ → ℕ → A) → (ℕ → ℕ → ℕ → A) → A
-onField Absent absent faulty whole = absent
-onField (Faulty number place) absent faulty whole = faulty number place
-onField (Whole place start end) absent faulty whole = whole place start end
+unfoldable pub onField {ℓ} : {A : Type ℓ} → Field → A → (ℕ → ℕ → A) → (ℕ → A) → (ℕ → ℕ → ℕ → A) → A
+onField Absent absent faulty passed whole = absent
+onField (Faulty number place) absent faulty passed whole = faulty number place
+onField (Passed end) absent faulty passed whole = passed end
+onField (Whole place start end) absent faulty passed whole = whole place start end
 
 -- What a walk from field to field gives: what the fields hold that passed, and the number and place of the first faulty one, 0 and 0 where none is
 pub record Scan (A : Type 0) : Type 0 where
@@ -87,20 +103,20 @@ pub record Grammar (A : Type 0) : Type 0 where
   pub fault : List A → ℕ → List ℕ → ℕ
   pub holds : List A → ℕ → List ℕ → A
 
--- The fields from a place to the file's end. A remark is passed over: it gives no element, and its body is not looked at.
+-- The fields from a place to the file's end. Remarks are passed over: they give no element, and their bodies are not looked at.
 -- Each turn passes a field, so as many turns as the file has bytes are enough
 module _ {A : Type 0} (s : List ℕ) (g : Grammar A) where
   unfoldable pub scan : ℕ → ℕ → List A → Scan A
   scan zero at before = stopped before 0 0
   scan (suc turns) at before =
       onField (fieldAt s at (orRemark (g .kind before))) (stopped before 0 0) (stopped before)
+      (λ end. scan turns end before)
       (λ place start end.
       let tag = getD s place 0 in
       let body = part s start end in
       let fault = g .fault before tag body in
-      let over = scan turns end before in
       let rest = scan turns end (before ++ g .holds before tag body ∷ []) in
-      pick (isRemark tag) over (pick (eqb fault 0) rest (stopped before fault place)))
+      pick (eqb fault 0) rest (stopped before fault place))
 
 -- The refused field: three header bytes and the body by its length, cut at the file's end
 unfoldable pub fieldBytes : List ℕ → ℕ → List ℕ

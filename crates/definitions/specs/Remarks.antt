@@ -1,8 +1,8 @@
 -- Remarks in both files, and files that are too long (REFERENCE 2.1, 3.2): what reading them gives, and mistakes refuted.
 -- Assumes nothing.
-use Prim.Native.Nat.{ℕ, _≤_, _<_}
+use Prim.Native.Nat.{ℕ, _+_, _≤_, _<_}
 use mathlib.Core.Path.{_≡_, refl, sym, _∙_}
-use mathlib.Core.Bool.{Bool, false}
+use mathlib.Core.Bool.{false}
 use mathlib.Core.List.{List, [], _∷_, _++_, map}
 use native.Mathlib.Omega.{arith}
 use native.Mathlib.Decide.{decLt}
@@ -10,11 +10,11 @@ use lib.ListN.{length, take, replicate}
 use lib.Seq.{length-take-le, take-all}
 use borrow.Author.Tests.{lt-leb, le-leb}
 use Rattle.definitions.specs.Basics.{pick, each}
-use Rattle.definitions.specs.Fields.{Kind, only, orRemark, fieldAt, firstField, onField, scan}
-use Rattle.definitions.specs.Charts.{ChartRead, headFault, stepFault, chartRefused, readChart}
+use Rattle.definitions.specs.Fields.{Kind, passedOver, only, orRemark, fieldAt, longest, firstField, onField, scan}
+use Rattle.definitions.specs.Charts.{headFault, stepFault, chartRefused, readChart}
 use Rattle.definitions.specs.Diagrams.{nodeFault, diagramRefused, readDiagram}
 use Rattle.definitions.specs.Bytes.{headBytes, field, stepBytes, rootBytes, nodeBytes, chartBytes, diagramBytes}
-use Rattle.definitions.specs.Answers.{Load, refused, readFiles, load}
+use Rattle.definitions.specs.Answers.{refused, readFiles, load}
 use Rattle.definitions.specs.Marked.{st, nd, chart, rules}
 use Rattle.definitions.specs.Examples.{alike, rooted, chartRefusal, rulesRefusal, loadRefusal, whole-chart}
 use Rattle.definitions.specs.declared.Field.the-variants.{Faulty}
@@ -93,39 +93,48 @@ pub remark-mistakes-refuted : map (λ x. alike (x .0) (x .1)) remarkMistakes ≡
 unfolding remarkMistakes pick only orRemark fieldAt firstField onField scan headFault stepFault nodeFault readChart readDiagram readFiles load
 remark-mistakes-refuted = refl
 
+-- after a head every tag from 128 on is passed over, and no other for that reason
+pub tag-over : (kind : ℕ → Kind) (tag : ℕ) → 128 ≤ tag → orRemark kind tag ≡ passedOver
+unfolding orRemark pick
+tag-over kind tag h = rw (le-leb 128 tag h)
+
+pub tag-kept : (kind : ℕ → Kind) (tag : ℕ) → tag < 128 → orRemark kind tag ≡ kind tag
+unfolding orRemark pick
+tag-kept kind tag h = rw (lt-leb 128 tag h)
+
 -- ---- too long: more than 32,768 bytes, whatever they are
 
 -- the longest remark that fits behind each head: 32,756 and 32,760 bytes
-pub longest : List (List ℕ)
-longest =
+pub fullFiles : List (List ℕ)
+fullFiles =
     after (128 ∷ 244 ∷ 127 ∷ replicate 32756 0) ∷ after (128 ∷ 244 ∷ 127 ∷ replicate 32755 0) ∷ after (128 ∷ 244 ∷ 127 ∷ replicate 32757 0)
     ∷ afterRoot (128 ∷ 248 ∷ 127 ∷ replicate 32760 0) ∷ afterRoot (128 ∷ 248 ∷ 127 ∷ replicate 32759 0) ∷ afterRoot (128 ∷ 248 ∷ 127 ∷ replicate 32761 0)
     ∷ []
 
-pub longest-hold : longest ≡ (0 ∷ 0 ∷ []) ∷ (1 ∷ 9 ∷ []) ∷ (9 ∷ 32768 ∷ []) ∷ (0 ∷ 0 ∷ []) ∷ (1 ∷ 5 ∷ []) ∷ (9 ∷ 32768 ∷ []) ∷ []
-unfolding longest pick only orRemark fieldAt firstField onField scan headFault readChart readDiagram
-longest-hold = refl
+pub full-files-hold : fullFiles ≡ (0 ∷ 0 ∷ []) ∷ (1 ∷ 9 ∷ []) ∷ (9 ∷ 32768 ∷ []) ∷ (0 ∷ 0 ∷ []) ∷ (1 ∷ 5 ∷ []) ∷ (9 ∷ 32768 ∷ []) ∷ []
+unfolding fullFiles pick only orRemark fieldAt firstField onField scan headFault readChart readDiagram
+full-files-hold = refl
 
-module _ (s : List ℕ) (long : 32768 < length s) where
-  long-first : (kind : ℕ → Kind) → firstField s kind ≡ Faulty 9 32768
+module _ (s : List ℕ) (long : longest < length s) where
+  long-first : (kind : ℕ → Kind) → firstField s kind ≡ Faulty 9 longest
   unfolding firstField pick
-  long-first kind = rw (lt-leb (length s) 32768 long)
+  long-first kind = rw (lt-leb (length s) longest long)
 
-  long-chart-read : readChart s ≡ chartRefused 9 32768
+  long-chart-read : readChart s ≡ chartRefused 9 longest
   unfolding readChart onField
   long-chart-read = rw (long-first (only 1 6))
 
-  long-rules-read : (steps : ℕ) → readDiagram s steps ≡ diagramRefused 9 32768
+  long-rules-read : (steps : ℕ) → readDiagram s steps ≡ diagramRefused 9 longest
   unfolding readDiagram onField
   long-rules-read steps = rw (long-first (only 17 2))
 
   -- the chart's length is judged before its fields, and before the diagram
-  pub long-chart : (rules : List ℕ) → readFiles s rules ≡ refused 9 1 32768
+  pub long-chart : (rules : List ℕ) → readFiles s rules ≡ refused 9 1 longest
   unfolding readFiles pick
   long-chart rules = rw long-chart-read
 
   -- the diagram's before its fields, and after the chart's fields
-  pub long-rules : readFiles (chartBytes chart) s ≡ refused 9 2 32768
+  pub long-rules : readFiles (chartBytes chart) s ≡ refused 9 2 longest
   unfolding readFiles pick
   long-rules = rw (whole-chart, long-rules-read 6)
 
@@ -134,24 +143,24 @@ module _ (s : List ℕ) (long : 32768 < length s) where
   long-rules-later = refl
 
 -- 32,768 bytes are not too long
-pub short-first : (s : List ℕ) → length s ≤ 32768 → (kind : ℕ → Kind) → firstField s kind ≡ fieldAt s 0 kind
+pub short-first : (s : List ℕ) → length s ≤ longest → (kind : ℕ → Kind) → firstField s kind ≡ fieldAt s 0 kind
 unfolding firstField pick
-short-first s short kind = rw (le-leb (length s) 32768 short)
+short-first s short kind = rw (le-leb (length s) longest short)
 
 -- A caller that reads no more than 32,769 bytes of each file, as the program does, gets the same answer
-cut-first : (s : List ℕ) (A : List ℕ → Type 0) → (length s ≤ 32768 → A s) → (32768 < length (take 32769 s) → 32768 < length s → A (take 32769 s)) → A (take 32769 s)
-cut-first s A short long = go (decLt 32768 (length s))
+cut-first : (s : List ℕ) (A : List ℕ → Type 0) → (length s ≤ longest → A s) → (longest < length (take (longest + 1) s) → longest < length s → A (take (longest + 1) s)) → A (take (longest + 1) s)
+cut-first s A short long = go (decLt longest (length s))
   where
-    go : Dec (32768 < length s) → A (take 32769 s)
-    go (yes h) = long (omega (arith, length-take-le 32769 s (omega arith))) h
-    go (no h) = let l : length s ≤ 32768 = omega arith in rw (take-all 32769 s (omega arith)) (short l)
+    go : Dec (longest < length s) → A (take (longest + 1) s)
+    go (yes h) = long (omega (arith, length-take-le (longest + 1) s (omega arith))) h
+    go (no h) = let l : length s ≤ longest = omega arith in rw (take-all (longest + 1) s (omega arith)) (short l)
 
-cut-chart : (s : List ℕ) → readChart (take 32769 s) ≡ readChart s
-cut-chart s = cut-first s (λ t. readChart t ≡ readChart s) (λ l. refl) (λ c l. long-chart-read (take 32769 s) c ∙ sym (long-chart-read s l))
+cut-chart : (s : List ℕ) → readChart (take (longest + 1) s) ≡ readChart s
+cut-chart s = cut-first s (λ t. readChart t ≡ readChart s) (λ l. refl) (λ c l. long-chart-read (take (longest + 1) s) c ∙ sym (long-chart-read s l))
 
-cut-rules : (s : List ℕ) (steps : ℕ) → readDiagram (take 32769 s) steps ≡ readDiagram s steps
-cut-rules s steps = cut-first s (λ t. readDiagram t steps ≡ readDiagram s steps) (λ l. refl) (λ c l. long-rules-read (take 32769 s) c steps ∙ sym (long-rules-read s l steps))
+cut-rules : (s : List ℕ) (steps : ℕ) → readDiagram (take (longest + 1) s) steps ≡ readDiagram s steps
+cut-rules s steps = cut-first s (λ t. readDiagram t steps ≡ readDiagram s steps) (λ l. refl) (λ c l. long-rules-read (take (longest + 1) s) c steps ∙ sym (long-rules-read s l steps))
 
-pub cut-files : (chart rules : List ℕ) → readFiles (take 32769 chart) (take 32769 rules) ≡ readFiles chart rules
+pub cut-files : (chart rules : List ℕ) → readFiles (take (longest + 1) chart) (take (longest + 1) rules) ≡ readFiles chart rules
 unfolding readFiles
 cut-files chart rules = rw (cut-chart chart, cut-rules rules (length (readChart chart .chart .steps)))

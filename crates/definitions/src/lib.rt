@@ -34,7 +34,11 @@ pub enum Field {
         number: u8,
         place: usize,
     },
-    // The field is whole: the place of its tag, where its body starts, and where it ends and the next field is due.
+    // A field that is passed over is whole: where it ends and the next field is due.
+    Passed {
+        end: usize,
+    },
+    // A field that holds something is whole: the place of its tag, where its body starts, and where it ends and the next field is due.
     Whole {
         place: usize,
         start: usize,

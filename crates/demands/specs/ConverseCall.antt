@@ -64,8 +64,8 @@ module _ (chart rules : List ℕ) (x : Call) (one : Demand1 chart rules x) (two 
       by o u t = subst (λ (o : Load). Promised o x) (sym u ∙ e) t
 
       go : Judged chart rules x → Promised (refused n f p) x
-      go (chart-bad h u) = by _ u (stops _ _ _ (one .chart-refused h) h (chart-own chart))
-      go (rules-bad h i u) = by _ u (stops _ _ _ (one .rules-refused h i) i (rules-own rules (length (readChart chart .chart .steps))))
+      go (chart-bad h u) = by _ u (stops _ _ _ (one .chart-refused h) h (chart-own chart .1))
+      go (rules-bad h i u) = by _ u (stops _ _ _ (one .rules-refused h i) i (rules-own rules (length (readChart chart .chart .steps)) .1))
       go (too-short h i u) = by _ u (stops 7 0 0 (one .space-refused _ _ h i) (λ q. omega arith) (λ q. omega arith))
       go (all-pass a u) = absurd (refused-not-ready n f p _ _ (sym e ∙ u))
 

@@ -130,8 +130,8 @@ module _ (chart rules : List ℕ) (x : Call) (promise : Promised (loadOf chart r
   result = go (judged chart rules x)
     where
       go : Judged chart rules x → Result
-      go (chart-bad p e) = stop _ _ _ e p (chart-own chart)
-      go (rules-bad p q e) = stop _ _ _ e q (rules-own rules (length (readChart chart .chart .steps)))
+      go (chart-bad p e) = stop _ _ _ e p (chart-own chart .1)
+      go (rules-bad p q e) = stop _ _ _ e q (rules-own rules (length (readChart chart .chart .steps)) .1)
       go (too-short f s e) = stop 7 0 0 e (λ q. omega arith) (λ q. omega arith)
       go (all-pass a e) = either (ends _ _ a) (found _ _ a) (lacks _ _ a)
 

@@ -2,23 +2,24 @@
 -- Assumes nothing.
 use Prim.Native.Nat.{ℕ, suc, _+_, _-_, _≤_, _<_}
 use mathlib.Core.Path.{_≡_, refl, sym, _∙_, ap}
-use mathlib.Core.Bool.{true, false}
+use mathlib.Core.Bool.{Bool, true, false}
 use mathlib.Core.List.{List, [], _∷_, _++_, map, append-nil, append-assoc, map-append}
 use lib.ListN.{length, getD, take, set, length-append, length-set, List·getD-map}
 use lib.Seq.{getD-append-add, getD-take, length-take-le, take-suc-set}
 use native.Mathlib.Omega.{arith}
 use mir.Val.{Fits}
 use mir.Syntax.{w64}
-use Rattle.definitions.specs.Fields.{two, part, only, stopped}
+use Rattle.definitions.specs.Fields.{two, part, only, orRemark, fieldAt, stopped}
 use Rattle.definitions.specs.Diagrams.{InnerNode, noNode, nodeFault, innerNodeOf, nodeFaultAfter, nodeGrammar, scanNodes}
 use Rattle.definitions.specs.declared.Field.{Field}
-use Rattle.definitions.specs.declared.Field.the-variants.{Absent, Faulty, Whole}
+use Rattle.definitions.specs.declared.Field.the-variants.{Absent, Faulty, Passed, Whole}
 use Rattle.theory.specs.Basics.{true-not-false, rest-kept}
-use Rattle.fields.specs.Remarks.{nextField, next-less}
-use Rattle.fields.specs.Scans.{leftOf, left-less, reading-start, reading-done, reading-faulty, reading-bad, reading-step}
+use Rattle.fields.specs.Positions.{passed-within, HasField, GoesOn}
+use Rattle.fields.specs.Remarks.{has-whole, has-less}
+use Rattle.fields.specs.Scans.{leftOf, left-less, reading-start, reading-done, reading-faulty, reading-passed, reading-bad, reading-step}
 use Rattle.diagram_fields.specs.Words.{wordOf}
 use Rattle.diagram.specs.Files.{Room}
-use Rattle.diagram.specs.Turns.{Stored, stepIn, Halfway, SoFar, Stands, Takes}
+use Rattle.diagram.specs.Turns.{Stored, stepIn, Halfway, SoFar, Stands, Takes, Run}
 use Rattle.diagram.specs.declared.reader.NodesRead.{NodesRead}
 use Rattle.diagram.specs.Limits.{NodeFits, node-fits, nodeFault-same}
 
@@ -83,7 +84,7 @@ module _ (v steps count : ℕ) (stepAt : ℕ → ℕ) (b : List ℕ) (judged : v
   node-hi-below = omega (arith, node-room .few, node-room .hi .below)
 
 -- the ways out of a turn from t
-module _ (s : List ℕ) (steps : ℕ) (t : NodesRead) (step words : List ℕ) (f : Field) (given : f ≡ nextField s (t .place) (only 18 6)) where
+module _ (s : List ℕ) (steps : ℕ) (t : NodesRead) (step words : List ℕ) where
   -- the walk stops
   stops : (number place : ℕ) (x : NodesRead) → x ≡ record { number = number; place = place; nodes = t .nodes; going = false }
       → ((first : ℕ) (step₀ words₀ : List ℕ) (h : Halfway s first steps step₀ words₀ step words (t .place) (t .nodes)) → Room step₀
@@ -102,38 +103,65 @@ module _ (s : List ℕ) (steps : ℕ) (t : NodesRead) (step words : List ℕ) (f
     };
   })
 
-  pub take-done : f ≡ Absent → (x : NodesRead) → x ≡ record { number = 0; place = 0; nodes = t .nodes; going = false } → Takes s steps t step words step words x
-  take-done found x e = stops 0 0 x e (λ first step₀ words₀ h r. reading-done s (nodeGrammar steps) first (t .place) (h .before) (h .reading) f given found)
+  module _ (f : Field) (given : f ≡ fieldAt s (t .place) (orRemark (only 18 6))) where
+    pub take-done : f ≡ Absent → (x : NodesRead) → x ≡ record { number = 0; place = 0; nodes = t .nodes; going = false } → Takes s steps t step words step words x
+    take-done found x e = stops 0 0 x e (λ first step₀ words₀ h r. reading-done s (nodeGrammar steps) first (t .place) (h .before) (h .reading) f given found)
 
-  pub take-faulty : (k p : ℕ) → f ≡ Faulty k p → (x : NodesRead) → x ≡ record { number = k; place = p; nodes = t .nodes; going = false } → Takes s steps t step words step words x
-  take-faulty k p found x e =
-      stops k p x e (λ first step₀ words₀ h r. reading-faulty s (nodeGrammar steps) first (t .place) (h .before) (h .reading) f given k p found)
+    pub take-faulty : (k p : ℕ) → f ≡ Faulty k p → (x : NodesRead) → x ≡ record { number = k; place = p; nodes = t .nodes; going = false } → Takes s steps t step words step words x
+    take-faulty k p found x e =
+        stops k p x e (λ first step₀ words₀ h r. reading-faulty s (nodeGrammar steps) first (t .place) (h .before) (h .reading) f given k p found)
 
-  module _ (p a e : ℕ) (found : f ≡ Whole p a e) (v : ℕ) (judged : v ≡ nodeFault steps (λ k. getD step k 0) (t .nodes) (part s a e)) where
+    pub take-passed : (e : ℕ) → f ≡ Passed e → Takes s steps t step words step words (record { number = 0; place = e; nodes = t .nodes; going = true })
+    take-passed e found = record {
+      nearer = λ g. let w = passed-within s (t .place) (orRemark (only 18 6)) e (sym found ∙ given) in omega (arith, w .later, w .inside);
+      stands = λ first step₀ words₀ sofar. record {
+        goes = λ g. record {
+          few = sofar .few;
+          halfway = λ r.
+              let h = sofar .halfway r in
+              record {
+                before = h .before;
+                reading = reading-passed s (nodeGrammar steps) first (t .place) (h .before) (h .reading) f given e found;
+                counted = h .counted;
+                known = h .known;
+                stored = h .stored;
+              };
+        };
+        over = λ g. absurd (true-not-false g);
+      };
+    }
+
+  -- a node stands there
+  module _ (has : HasField s (t .place) 18 6) (v : ℕ) (judged : v ≡ nodeFault steps (λ k. getD step k 0) (t .nodes) (part s (t .place + 3) (t .place + 3 + 6))) where
+    abbrev b : List ℕ
+    b = part s (t .place + 3) (t .place + 3 + 6)
+
+    whole : Whole (t .place) (t .place + 3) (t .place + 3 + 6) ≡ fieldAt s (t .place) (orRemark (only 18 6))
+    whole = has-whole s (t .place) 18 6 (omega arith) has
+
     -- the table of steps has those of the nodes before
-    same-fault : (first : ℕ) (step₀ words₀ : List ℕ) (h : Halfway s first steps step₀ words₀ step words (t .place) (t .nodes)) → Room step₀
-        → v ≡ nodeFaultAfter steps (h .before) (part s a e)
+    same-fault : (first : ℕ) (step₀ words₀ : List ℕ) (h : Halfway s first steps step₀ words₀ step words (t .place) (t .nodes)) → Room step₀ → v ≡ nodeFaultAfter steps (h .before) b
     same-fault first step₀ words₀ h room =
         rw (h .counted)
-        (judged ∙ nodeFault-same steps (λ k. getD step k 0) (λ k. getD (h .before) (k - 2) noNode .step) (t .nodes) (part s a e)
+        (judged ∙ nodeFault-same steps (λ k. getD step k 0) (λ k. getD (h .before) (k - 2) noNode .step) (t .nodes) b
         (step-known (h .before) (t .nodes) step₀ step (h .counted) room (h .known)))
 
-    pub take-bad : (v ≡ 0 → ⊥) → (x : NodesRead) → x ≡ record { number = v; place = p; nodes = t .nodes; going = false } → Takes s steps t step words step words x
+    pub take-bad : (v ≡ 0 → ⊥) → (x : NodesRead) → x ≡ record { number = v; place = t .place; nodes = t .nodes; going = false } → Takes s steps t step words step words x
     take-bad fails x q =
-        stops v p x q (λ first step₀ words₀ h r.
-        reading-bad s (nodeGrammar steps) first (t .place) (h .before) (h .reading) f given p a e found v (same-fault first step₀ words₀ h r) fails)
+        stops v (t .place) x q (λ first step₀ words₀ h r.
+        reading-bad s (nodeGrammar steps) first (t .place) (h .before) (h .reading) _ whole (t .place) (t .place + 3) (t .place + 3 + 6) refl v (same-fault first step₀ words₀ h r) fails)
 
     module _ (passes : v ≡ 0) where
       abbrev x : InnerNode
-      x = innerNodeOf (part s a e)
+      x = innerNodeOf b
 
-      fits : NodeFits steps (λ k. getD step k 0) (t .nodes) (part s a e)
-      fits = node-room v steps (t .nodes) _ (part s a e) judged passes
+      fits : NodeFits steps (λ k. getD step k 0) (t .nodes) b
+      fits = node-room v steps (t .nodes) _ b judged passes
 
       pub take-node : (step′ words′ : List ℕ) → step′ ≡ set step (t .nodes + 2) (x .step) → words′ ≡ set words (t .nodes + 2) (wordOf x)
-          → Takes s steps t step words step′ words′ (record { number = 0; place = e; nodes = t .nodes + 1; going = true })
+          → Takes s steps t step words step′ words′ (record { number = 0; place = t .place + 3 + 6; nodes = t .nodes + 1; going = true })
       take-node step′ words′ es ew = rw (es, ew) (record {
-        nearer = λ g. next-less s (t .place) 18 6 p a e f given found;
+        nearer = λ g. has-less s (t .place) 18 6 has;
         stands = λ first step₀ words₀ sofar. record {
           goes = λ g. record {
             few = omega (arith, fits .few);
@@ -141,7 +169,9 @@ module _ (s : List ℕ) (steps : ℕ) (t : NodesRead) (step words : List ℕ) (f
                 let h = sofar .halfway r in
                 record {
                   before = h .before ++ x ∷ [];
-                  reading = reading-step s (nodeGrammar steps) first (t .place) (h .before) (h .reading) f given p a e found v (same-fault first step₀ words₀ h r) passes;
+                  reading =
+                      reading-step s (nodeGrammar steps) first (t .place) (h .before) (h .reading) _ whole (t .place) (t .place + 3) (t .place + 3 + 6) refl v
+                      (same-fault first step₀ words₀ h r) passes;
                   counted = omega (arith, length-append (h .before) (x ∷ []), h .counted);
                   known = stored-grown stepIn (h .before) x (t .nodes) step₀ step (h .counted) (fits .few) (h .known);
                   stored = λ room. stored-grown wordOf (h .before) x (t .nodes) words₀ words (h .counted) (fits .few) (h .stored room);
@@ -150,6 +180,38 @@ module _ (s : List ℕ) (steps : ℕ) (t : NodesRead) (step words : List ℕ) (f
           over = λ g. absurd (true-not-false g);
         };
       })
+
+-- ---- a run of nodes
+
+module _ (s : List ℕ) (steps : ℕ) (t : NodesRead) (step₁ words₁ : List ℕ) where
+  pub run-start : HasField s (t .place) 18 6 → Run s steps t step₁ words₁ step₁ words₁ t true
+  run-start h = record {
+    sofar = λ e first step₀ words₀ sofar. sofar;
+    stands = λ e. absurd (true-not-false e);
+    has = λ e. h;
+    nearer = λ e. omega arith;
+    less = λ e. absurd (true-not-false e);
+  }
+
+  module _ (step words step′ words′ : List ℕ) (z r : NodesRead) (h : Bool) (run : Run s steps t step₁ words₁ step words z h) (here : h ≡ true)
+      (takes : Takes s steps z step words step′ words′ r) (n : Bool) (goes : GoesOn n (r .going) s (r .place) 18 6) where
+    turned : (first : ℕ) (step₀ words₀ : List ℕ) → SoFar s first steps step₀ words₀ step₁ words₁ (t .place) (t .nodes) → Stands s first steps step₀ words₀ step′ words′ r
+    turned first step₀ words₀ sofar = takes .stands first step₀ words₀ (run .sofar here first step₀ words₀ sofar)
+
+    pub run-next : Run s steps t step₁ words₁ step′ words′ r n
+    run-next = record {
+      sofar = λ e first step₀ words₀ sofar. turned first step₀ words₀ sofar .goes (goes .has e .0);
+      stands = λ e. turned;
+      has = λ e. goes .has e .1;
+      nearer = λ e. omega (arith, run .nearer here, takes .nearer (goes .has e .0));
+      less = λ e g. omega (arith, run .nearer here, takes .nearer g);
+    }
+
+    pub run-less : leftOf n (length s - r .place) < leftOf h (length s - z .place)
+    run-less = rw here (left-less n (length s - r .place) (length s - z .place) (λ e. takes .nearer (goes .has e .0)))
+
+  pub run-done : (step words : List ℕ) (r : NodesRead) (h : Bool) → Run s steps t step₁ words₁ step words r h → h ≡ false → Takes s steps t step₁ words₁ step words r
+  run-done step words r h run e = record { nearer = run .less e; stands = run .stands e }
 
 -- ---- the whole walk
 
@@ -164,4 +226,6 @@ pub take-nearer : (s : List ℕ) (steps : ℕ) (step words step′ words′ : Li
     → leftOf (r .going) (length s - r .place) < leftOf (t .going) (length s - t .place)
 take-nearer s steps step words step′ words′ t r going e = rw going (left-less (r .going) (length s - r .place) (length s - t .place) (e .nearer))
 
-pub ruleset take-laws = (take-done, take-faulty, take-bad, node-own, node-below, node-more, take-node)
+pub ruleset take-laws = (take-done, take-faulty, take-passed)
+
+pub ruleset node-laws = (node-own, node-below, node-more)

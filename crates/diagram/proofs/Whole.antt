@@ -11,7 +11,7 @@ use Rattle.definitions.specs.Basics.{pick}
 use Rattle.definitions.specs.Fields.{two, part, only, firstField, onField, Scan}
 use Rattle.definitions.specs.Diagrams.{InnerNode, diagramRead, diagramRefused, withNodes, scanNodes, readDiagram}
 use Rattle.definitions.specs.declared.Field.{Field}
-use Rattle.definitions.specs.declared.Field.the-variants.{Absent, Faulty, Whole}
+use Rattle.definitions.specs.declared.Field.the-variants.{Absent, Faulty, Passed, Whole}
 use Rattle.fields.specs.First.{first-length}
 use Rattle.diagram_fields.specs.Words.{wordOf, leaf}
 use Rattle.diagram.specs.Files.{Room, tableWith, nodesAnswer, diagramAnswer, Reads}
@@ -72,6 +72,10 @@ module _ (s : List ℕ) (steps : ℕ) (words : List ℕ) (w : ℕ) (is : w ≡ w
   unfolding readDiagram onField
   whole-faulty k p found v e = no-head k p v e (rw (← given, found))
 
+  pub whole-over : (e : ℕ) → r ≡ Passed e → (v : DiagramRead) → v ≡ diagramAnswer (diagramRefused 2 0) → Reads s steps words (marks words w) v
+  unfolding readDiagram onField
+  whole-over e found v q = no-head 2 0 v q (rw (← given, found))
+
   module _ (p a e : ℕ) (found : r ≡ Whole p a e) where
     module _ (root : ℕ) (ro : root ≡ two (part s a e) 0) (step step′ words′ : List ℕ) (long : length step ≡ 512) (x : NodesRead)
         (reads : Over s e steps step (marks words w) step′ words′ x) where
@@ -106,4 +110,4 @@ module _ (s : List ℕ) (steps : ℕ) (words : List ℕ) (w : ℕ) (is : w ≡ w
 pub whole-word : (s : List ℕ) (r : Field) → r ≡ firstField s (only 17 2) → (p a e : ℕ) → r ≡ Whole p a e → 0 + 1 < length (part s a e)
 whole-word s r given p a e found = omega (arith, first-length s 17 2 p a e r given found)
 
-pub ruleset whole-laws = (whole-absent, whole-faulty, whole-word, whole-bad, whole-root, whole-good)
+pub ruleset whole-laws = (whole-absent, whole-faulty, whole-over, whole-word, whole-bad, whole-root, whole-good)

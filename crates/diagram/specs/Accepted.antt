@@ -14,7 +14,7 @@ use Rattle.definitions.specs.Fields.{two, part, only, firstField, onField, Scan
 use Rattle.definitions.specs.Diagrams.{Diagram, InnerNode, noNode, inner, innerNodeOf, DiagramRead, diagramRefused, withNodes, nodeGrammar, scanNodes, readDiagram}
 use Rattle.theory.specs.Limits.{Ordered, Sound}
 use Rattle.definitions.specs.declared.Field.{Field}
-use Rattle.definitions.specs.declared.Field.the-variants.{Absent, Faulty, Whole}
+use Rattle.definitions.specs.declared.Field.the-variants.{Absent, Faulty, Passed, Whole}
 use Rattle.fields.specs.Scans.{scan-keeps}
 use Rattle.theory.specs.Basics.{either, lt-or-le, Order, less, same, more, order}
 use Rattle.diagram.specs.Files.{tableWith, Filled}
@@ -103,7 +103,7 @@ module _ (root steps : ℕ) where
   scanned : (s : List ℕ) (at : ℕ) → Limited root steps (scanNodes s steps at .passed)
   scanned s at =
       scan-keeps s (nodeGrammar steps) (Limited root steps)
-      (λ at q a e before w o t was.
+      (λ at q a e before w t was.
       let f = node-fits steps (λ r. getD before (r - 2) noNode .step) (length before) (part s a e) (sym t) in
       node-added before (innerNodeOf (part s a e)) was (f .few) (f .exists) (f .lo) (f .hi))
       (length s) at [] none-limited
@@ -120,11 +120,12 @@ module _ (root steps : ℕ) where
 
 abbrev readFrom : List ℕ → ℕ → Field → DiagramRead
 readFrom s steps r =
-    onField r (diagramRefused 2 0) diagramRefused (λ place start end. withNodes (two (part s start end) 0) (scanNodes s steps end))
+    onField r (diagramRefused 2 0) diagramRefused (λ end. diagramRefused 2 0) (λ place start end. withNodes (two (part s start end) 0) (scanNodes s steps end))
 
 from-field : (s : List ℕ) (steps : ℕ) (r : Field) → readFrom s steps r .number ≡ 0 → Sound steps (readFrom s steps r .diagram)
 unfolding onField
 from-field s steps Absent e = absurd (omega arith)
+from-field s steps (Passed p) e = absurd (omega arith)
 from-field s steps (Faulty k p) e =
     let l = none-limited 0 steps in
     record { ordered = l .ordered; exist = l .exist; few = l .few; root-inside = omega arith }

@@ -2,10 +2,11 @@
 -- Assumes nothing.
 use Prim.Native.Nat.{ℕ, _+_, _-_, _≤_, _<_}
 use mathlib.Core.Path.{_≡_}
-use mathlib.Core.Bool.{true, false}
+use mathlib.Core.Bool.{Bool, true, false}
 use mathlib.Core.List.{List, _++_, map}
 use lib.ListN.{length, take, drop}
 use Rattle.definitions.specs.Diagrams.{InnerNode, nodeGrammar, scanNodes}
+use Rattle.fields.specs.Positions.{HasField}
 use Rattle.fields.specs.Scans.{Reading}
 use Rattle.diagram_fields.specs.Words.{wordOf}
 use Rattle.diagram.specs.Files.{Room, nodesAnswer}
@@ -52,3 +53,13 @@ pub record Takes (s : List ℕ) (steps : ℕ) (t : NodesRead) (step words step�
   pub nearer : r .going ≡ true → length s - r .place < length s - t .place
   pub stands : (first : ℕ) (step₀ words₀ : List ℕ) → SoFar s first steps step₀ words₀ step words (t .place) (t .nodes)
       → Stands s first steps step₀ words₀ step′ words′ r
+
+-- a run of turns from t, which has come to r; here says whether a node stands there, and so whether the run goes on
+pub record Run (s : List ℕ) (steps : ℕ) (t : NodesRead) (step₁ words₁ step words : List ℕ) (r : NodesRead) (here : Bool) : Type 0 where
+  pub sofar : here ≡ true → (first : ℕ) (step₀ words₀ : List ℕ) → SoFar s first steps step₀ words₀ step₁ words₁ (t .place) (t .nodes)
+      → SoFar s first steps step₀ words₀ step words (r .place) (r .nodes)
+  pub stands : here ≡ false → (first : ℕ) (step₀ words₀ : List ℕ) → SoFar s first steps step₀ words₀ step₁ words₁ (t .place) (t .nodes)
+      → Stands s first steps step₀ words₀ step words r
+  pub has : here ≡ true → HasField s (r .place) 18 6
+  pub nearer : here ≡ true → length s - r .place ≤ length s - t .place
+  pub less : here ≡ false → r .going ≡ true → length s - r .place < length s - t .place

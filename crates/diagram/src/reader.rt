@@ -2,9 +2,9 @@
 // as well, for the checks of later nodes, so that a caller that only wants the answer pays for no more than that one.
 ghost use mathlib.Core.Path.{_≡_};
 ghost use mathlib.Core.Bool.{true, false};
-ghost use Rattle.definitions.specs.Fields.{only};
+ghost use Rattle.definitions.specs.Fields.{only, orRemark, fieldAt};
 ghost use Rattle.definitions.specs.Diagrams.{diagramRefused};
-ghost use Rattle.fields.specs.Remarks.{nextField};
+ghost use Rattle.fields.specs.Positions.{HasField};
 ghost use Rattle.diagram.specs.Files.{Reads, diagramAnswer};
 ghost use Rattle.diagram.specs.Turns.{Over, Takes};
 use definitions::Field;
@@ -13,6 +13,7 @@ use diagram_fields::node_fault;
 use diagram_fields::store_node;
 use field_numbers::read_u16;
 use fields::first_field;
+use fields::goes_on;
 use fields::reader::moved;
 use fields::reader::new;
 use fields::reader::next;
@@ -21,7 +22,7 @@ use fields::reader::next;
 pub struct NodesRead {
     // the refusal's number, 0 where there is none
     pub number: u8,
-    // from where on the next field is looked for; once the walk is over, the refusal's place, 0 where there is none
+    // where the next field is due; once the walk is over, the refusal's place, 0 where there is none
     pub place: usize,
     // how many nodes passed
     pub nodes: usize,
@@ -40,8 +41,63 @@ fn stopped(nodes: usize, number: u8, place: usize) -> NodesRead
     }
 }
 
-// One turn of the walk: the next field is taken, a node into the tables.
-fn take_node(
+// The node whose field stands whole at the read's place, into the tables.
+fn put_node(
+    file: &[u8],
+    read: NodesRead,
+    steps: usize,
+    step: &mut [u16; 512],
+    inner: &mut [u32; 512],
+) -> NodesRead
+    requires { ⌜ HasField (now file) (read .place) 18 6 ⌝ }
+    ensures { λ r. ⌜
+        Takes (now (file .entry)) steps read (now (step .entry)) (now (inner .entry)) (now (step .exit)) (now (inner .exit)) r
+        ⌝ }
+{
+    let count = read.nodes;
+    let place = read.place;
+    let start = place + 3;
+    let end = start + 6;
+    let body = &file[start..end];
+    let fault = node_fault(body, steps, step, count);
+    if fault != 0 {
+        return stopped(count, fault, place);
+    }
+    // The first node is 2.
+    store_node(body, count + 2, step, inner);
+    NodesRead {
+        number: 0,
+        place: end,
+        nodes: count + 1,
+        going: true,
+    }
+}
+
+// The nodes that stand one behind the other from the read's place on, into the tables: a loop of its own, so that the
+// compiler keeps what it counts in registers.
+fn put_run(
+    file: &[u8],
+    first: NodesRead,
+    steps: usize,
+    step: &mut [u16; 512],
+    inner: &mut [u32; 512],
+) -> NodesRead
+    requires { ⌜ HasField (now file) (first .place) 18 6 ⌝ }
+    ensures { λ r. ⌜
+        Takes (now (file .entry)) steps first (now (step .entry)) (now (inner .entry)) (now (step .exit)) (now (inner .exit)) r
+        ⌝ }
+{
+    let mut read = first;
+    let mut here = true;
+    while here {
+        read = put_node(file, read, steps, step, inner);
+        here = goes_on(file, read.going, read.place, 18, 6);
+    }
+    read
+}
+
+// One turn of the walk: the end, a fault, a remark, or a run of nodes, which go into the tables.
+fn take_nodes(
     file: &[u8],
     found: Field,
     read: NodesRead,
@@ -49,30 +105,21 @@ fn take_node(
     step: &mut [u16; 512],
     inner: &mut [u32; 512],
 ) -> NodesRead
-    requires { ⌜ found ≡ nextField (now file) (read .place) (only 18 6) ⌝ }
+    requires { ⌜ found ≡ fieldAt (now file) (read .place) (orRemark (only 18 6)) ⌝ }
     ensures { λ r. ⌜
         Takes (now (file .entry)) steps read (now (step .entry)) (now (inner .entry)) (now (step .exit)) (now (inner .exit)) r
         ⌝ }
 {
-    let count = read.nodes;
     match found {
-        Field::Absent => stopped(count, 0, 0),
-        Field::Faulty { number, place } => stopped(count, number, place),
-        Field::Whole { place, start, end } => {
-            let body = &file[start..end];
-            let fault = node_fault(body, steps, step, count);
-            if fault != 0 {
-                return stopped(count, fault, place);
-            }
-            // The first node is 2.
-            store_node(body, count + 2, step, inner);
-            NodesRead {
-                number: 0,
-                place: end,
-                nodes: count + 1,
-                going: true,
-            }
-        }
+        Field::Absent => stopped(read.nodes, 0, 0),
+        Field::Faulty { number, place } => stopped(read.nodes, number, place),
+        Field::Passed { end } => NodesRead {
+            number: 0,
+            place: end,
+            nodes: read.nodes,
+            going: true,
+        },
+        Field::Whole { .. } => put_run(file, read, steps, step, inner),
     }
 }
 
@@ -98,7 +145,7 @@ fn read_nodes(
     };
     while read.going {
         let found = next(reader, 18, 6);
-        read = take_node(file, found, read, steps, step, inner);
+        read = take_nodes(file, found, read, steps, step, inner);
         reader = moved(reader, read.place);
     }
     read
@@ -135,6 +182,7 @@ pub fn read_diagram(file: &[u8], steps: usize, inner: &mut [u32; 512]) -> Diagra
     match first_field(file, 17, 2) {
         Field::Absent => refused(2, 0),
         Field::Faulty { number, place } => refused(number, place),
+        Field::Passed { end: _ } => refused(2, 0),
         Field::Whole { start, end, .. } => {
             let root = read_u16(&file[start..end], 0);
             let mut step = [0u16; 512];

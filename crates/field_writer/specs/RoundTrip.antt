@@ -89,8 +89,9 @@ module _ (c : Chart) (v : Valid (graph c)) (small : Small c) where
     step-reads : Reads (stepGrammar (c .stages)) 2 bodyOfStep before x
     unfolding only pick
     step-reads = record {
-      given = refl;
+      other = refl;
       known = refl;
+      given = refl;
       fits = refl;
       passes =
           step-passes (c .stages) (lastFrom before) k (bodyOfStep x) (omega (arith, v .few, inside)) (omega (arith, forward)) (omega (arith, to-inside)) (omega (arith, rises))
@@ -117,7 +118,7 @@ module _ (c : Chart) (v : Valid (graph c)) (small : Small c) where
   chart-read-back =
       let b = bodyOfHead (c .stages) (c .start) (c .end) in
       let head : Whole 0 3 9 ≡ firstField (chartBytes c) (only 1 6)
-      = first-short (chartBytes c) 1 6 (omega (arith, chart-long c, v .few)) _ (fieldAt-written [] b (each stepBytes (c .steps)) 1 (only 1 6) refl refl) in
+      = first-short (chartBytes c) 1 6 (omega (arith, chart-long c, v .few)) _ (fieldAt-written [] b (each stepBytes (c .steps)) 1 (only 1 6) refl refl refl) in
       let good : headFault b ≡ 0 = head-passes b (omega (arith, v .some-stages)) (omega (arith, v .few-stages)) (omega (arith, v .start-inside)) (omega (arith, v .end-inside)) in
       let steps : scanSteps (chartBytes c) (c .stages) 9 ≡ stopped (c .steps) 0 0
       = scan-written (stepGrammar (c .stages)) 2 bodyOfStep (c .steps) step-reads (chartBytes c) (headBytes (c .stages) (c .start) (c .end)) refl in
@@ -170,8 +171,9 @@ module _ (steps : ℕ) (d : Diagram) (p : Sound steps d) where
     node-reads : Reads (nodeGrammar steps) 18 bodyOfNode before x
     unfolding only pick
     node-reads = record {
-      given = refl;
+      other = refl;
       known = refl;
+      given = refl;
       fits = refl;
       passes =
           node-passes steps (length before) (x .step) (x .lo) (x .hi) stepAt (bodyOfNode x) (le2-back (x .step)) (le2-back (x .lo)) (le2-back (x .hi)) few-before exists
@@ -193,7 +195,7 @@ module _ (steps : ℕ) (d : Diagram) (p : Sound steps d) where
   unfolding readDiagram onField only pick
   diagram-read-back =
       let head : Whole 0 3 5 ≡ firstField (diagramBytes d) (only 17 2)
-      = first-short (diagramBytes d) 17 2 (omega (arith, diagram-long d, p .few)) _ (fieldAt-written [] (le2 (d .root)) (each nodeBytes (d .nodes)) 17 (only 17 2) refl refl) in
+      = first-short (diagramBytes d) 17 2 (omega (arith, diagram-long d, p .few)) _ (fieldAt-written [] (le2 (d .root)) (each nodeBytes (d .nodes)) 17 (only 17 2) refl refl refl) in
       let nodes : scanNodes (diagramBytes d) steps 5 ≡ stopped (d .nodes) 0 0
       = scan-written (nodeGrammar steps) 18 bodyOfNode (d .nodes) node-reads (diagramBytes d) (rootBytes (d .root)) refl in
       rw (← head, le2-back (d .root), nodes, lt-leb (length (d .nodes) + 2) (d .root) (p .root-inside))

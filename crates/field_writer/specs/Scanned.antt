@@ -8,7 +8,7 @@ use native.Mathlib.Omega.{arith}
 use lib.ListN.{length, getD, take, length-append}
 use lib.Seq.{getD-append-seam, getD-append-add, drop-append-add, take-append-seam}
 use Rattle.definitions.specs.Basics.{each}
-use Rattle.definitions.specs.Fields.{two, part, Kind, isForeign, isRemark, lengthFits, orRemark, fieldAt, Grammar, scan, stopped}
+use Rattle.definitions.specs.Fields.{two, part, Kind, isForeign, isPassedOver, isRemark, lengthFits, orRemark, fieldAt, Grammar, scan, stopped}
 use Rattle.definitions.specs.declared.Field.the-variants.{Whole}
 use Rattle.fields.specs.Positions.{field-absent, field-whole}
 use Rattle.fields.specs.Remarks.{or-kind}
@@ -34,12 +34,12 @@ module _ (before body behind : List ℕ) (tag : ℕ) where
   pub tag-written : getD file (length before) 0 ≡ tag
   tag-written = getD-append-seam before tag ((le2 (length body) ++ body) ++ behind) 0
 
-  pub fieldAt-written : (kind : ℕ → Kind) → isForeign (kind tag) ≡ false → lengthFits (kind tag) (length body) ≡ true
+  pub fieldAt-written : (kind : ℕ → Kind) → isForeign (kind tag) ≡ false → lengthFits (kind tag) (length body) ≡ true → isPassedOver (kind tag) ≡ false
       → Whole (length before) (length before + 3) (length before + 3 + length body) ≡ fieldAt file (length before) kind
-  fieldAt-written kind known fits =
+  fieldAt-written kind known fits given =
       ap (λ (k : ℕ). Whole (length before) (length before + 3) (length before + 3 + k)) (sym said)
       ∙ field-whole file (length before) kind (omega (arith, file-long)) (omega (arith, file-long)) (ap (λ (t : ℕ). isForeign (kind t)) tag-written ∙ known)
-      (ap₂ (λ (t k : ℕ). lengthFits (kind t) k) tag-written said ∙ fits) (omega (arith, file-long, said))
+      (ap₂ (λ (t k : ℕ). lengthFits (kind t) k) tag-written said ∙ fits) (omega (arith, file-long, said)) (ap (λ (t : ℕ). isPassedOver (kind t)) tag-written ∙ given)
 
   pub part-written : part file (length before + 3) (length before + 3 + length body) ≡ body
   part-written =
@@ -51,8 +51,9 @@ module _ (before body behind : List ℕ) (tag : ℕ) where
 module _ {A : Type 0} (g : Grammar A) (tag : ℕ) (body : A → List ℕ) where
   -- after the members before it, a member's body is that of a field with this tag, passes, and holds the member
   pub record Reads (before : List A) (x : A) : Type 0 where
-    pub given : isRemark tag ≡ false
+    pub other : isRemark tag ≡ false
     pub known : isForeign (g .kind before tag) ≡ false
+    pub given : isPassedOver (g .kind before tag) ≡ false
     pub fits : lengthFits (g .kind before tag) (length (body x)) ≡ true
     pub passes : g .fault before tag (body x) ≡ 0
     pub same : g .holds before tag (body x) ≡ x
@@ -71,14 +72,14 @@ module _ {A : Type 0} (g : Grammar A) (tag : ℕ) (body : A → List ℕ) where
     rest-written (x ∷ rest) before front turns split e h =
         let r = reads before x rest split in
         let n = length (body x) in
-        let kind = or-kind (g .kind before) tag (r .given) in
+        let kind = or-kind (g .kind before) tag (r .other) in
         let here : Whole (length front) (length front + 3) (length front + 3 + n) ≡ fieldAt s (length front) (orRemark (g .kind before))
         = rw e (fieldAt-written front (body x) (fieldsOf rest) tag (orRemark (g .kind before)) (ap isForeign kind ∙ r .known)
-        (ap (λ (k : Kind). lengthFits k (length (body x))) kind ∙ r .fits)) in
+        (ap (λ (k : Kind). lengthFits k (length (body x))) kind ∙ r .fits) (ap isPassedOver kind ∙ r .given)) in
         let got : part s (length front + 3) (length front + 3 + n) ≡ body x = rw e (part-written front (body x) (fieldsOf rest) tag) in
         let tagged : getD s (length front) 0 ≡ tag = rw e (tag-written front (body x) (fieldsOf rest) tag) in
         let next : length (front ++ field tag (body x)) ≡ length front + 3 + n = omega (arith, length-append front (field tag (body x))) in
-        scan-step s g (length front) before (length front) (length front + 3) (length front + 3 + n) here (ap isRemark tagged ∙ r .given) turns h
+        scan-step s g (length front) before (length front) (length front + 3) (length front + 3 + n) here turns h
         (ap₂ (λ (t : ℕ) (b : List ℕ). g .fault before t b) tagged got ∙ r .passes)
         ∙ ap₂ (λ (k : ℕ) (y : A). scan s g (pred turns) k (before ++ y ∷ [])) (sym next) (ap₂ (λ (t : ℕ) (b : List ℕ). g .holds before t b) tagged got ∙ r .same)
         ∙ rest-written rest (before ++ x ∷ []) (front ++ field tag (body x)) (pred turns) (split ∙ sym (append-assoc before (x ∷ []) rest))

@@ -27,9 +27,8 @@ use denote.Steps.{nothing, owned}
 use denote.Triple.Statement.{Contract}
 use denote.Triple.Spec.{tripleOf}
 use denote.Triple.Clauses.{ensured, lasts}
-use Rattle.definitions.specs.Fields.{only}
+use Rattle.definitions.specs.Fields.{only, orRemark, fieldAt}
 use Rattle.definitions.specs.declared.Field.{Field}
-use Rattle.fields.specs.Remarks.{nextField}
 use Rattle.fields.specs.declared.reader.Reader.{Reader}
 use Rattle.fields.proofs.reader.Reader as T
 use Rattle.fields.proofs.reader.new as new
@@ -96,5 +95,5 @@ module _ {M : Type 1} (𝓤 : URA M) (H : Heap 𝓤) (A : Atoms 𝓤) (W : Given
         move ! (1 ∷ 0 ∷ []) $ fjoin ! $ move ! (1 ∷ 0 ∷ []) $ join ! $ frame ! $ done !
 
     pub next-said : (r : Reader) (t : Field)
-        → ent 𝓤 (ensured 𝓤 H A next.ended (next.clauses 𝓤 H A mem run) (κ, tt) (r, (tag, (len, tt))) tt t) (fact 𝓤 (t ≡ nextField (now (r .src)) (r .at) (only tag len)))
-    next-said r t = exE 𝓤 _ (λ ws. snd∗ 𝓤 (sem 𝓤 H A (lasts next.ended (κ, tt) (r, (tag, (len, tt))) ws)) (fact 𝓤 (t ≡ nextField (now (r .src)) (r .at) (only tag len))))
+        → ent 𝓤 (ensured 𝓤 H A next.ended (next.clauses 𝓤 H A mem run) (κ, tt) (r, (tag, (len, tt))) tt t) (fact 𝓤 (t ≡ fieldAt (now (r .src)) (r .at) (orRemark (only tag len))))
+    next-said r t = exE 𝓤 _ (λ ws. snd∗ 𝓤 (sem 𝓤 H A (lasts next.ended (κ, tt) (r, (tag, (len, tt))) ws)) (fact 𝓤 (t ≡ fieldAt (now (r .src)) (r .at) (orRemark (only tag len)))))

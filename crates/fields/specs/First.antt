@@ -9,31 +9,31 @@ use native.Mathlib.Omega.{arith}
 use lib.ListN.{length, getD}
 use borrow.Author.Tests.{le-leb, lt-leb}
 use Rattle.definitions.specs.Basics.{pick}
-use Rattle.definitions.specs.Fields.{two, part, Kind, only, fieldAt, firstField}
+use Rattle.definitions.specs.Fields.{two, part, Kind, only, fieldAt, longest, firstField}
 use Rattle.definitions.specs.declared.Field.{Field}
 use Rattle.definitions.specs.declared.Field.the-variants.{Faulty, Whole}
 use Rattle.theory.specs.Choices.{past, both}
 use Rattle.fields.specs.Positions.{Numbered, numbered, Within, within, unlike-faulty, only-length, whole-order, whole-length}
 
 module _ (s : List ℕ) (tag len : ℕ) where
-  pub first-long : 32768 < length s → Faulty 9 32768 ≡ firstField s (only tag len)
+  pub first-long : longest < length s → Faulty 9 longest ≡ firstField s (only tag len)
   unfolding firstField pick
-  first-long h = rw (lt-leb (length s) 32768 h)
+  first-long h = rw (lt-leb (length s) longest h)
 
-  pub first-short : length s ≤ 32768 → (r : Field) → r ≡ fieldAt s 0 (only tag len) → r ≡ firstField s (only tag len)
+  pub first-short : length s ≤ longest → (r : Field) → r ≡ fieldAt s 0 (only tag len) → r ≡ firstField s (only tag len)
   unfolding firstField pick
-  first-short h r e = rw (le-leb (length s) 32768 h) e
+  first-short h r e = rw (le-leb (length s) longest h) e
 
 -- a fault has a number other than 0
 pub first-number : (s : List ℕ) (kind : ℕ → Kind) (number place : ℕ) → Faulty number place ≡ firstField s kind → 0 < number
 unfolding firstField
-first-number s kind number place p = subst Numbered (sym p) (both Numbered (not (leb (length s) 32768)) (omega arith) (numbered s 0 kind))
+first-number s kind number place p = subst Numbered (sym p) (both Numbered (not (leb (length s) longest)) (omega arith) (numbered s 0 kind))
 
 -- what a caller asks of the body that it was given
 module _ (s : List ℕ) (tag len p a e : ℕ) (r : Field) (given : r ≡ firstField s (only tag len)) (found : r ≡ Whole p a e) where
   first-within : Within s 0 (only tag len) p a e
   unfolding firstField
-  first-within = within s 0 (only tag len) p a e (past (not (leb (length s) 32768)) unlike-faulty (sym found ∙ given) .1)
+  first-within = within s 0 (only tag len) p a e (past (not (leb (length s) longest)) unlike-faulty (sym found ∙ given) .1)
 
   first-said : two s 1 ≡ len
   first-said = only-length tag len (getD s 0 0) (two s 1) (first-within .fits)

@@ -1,7 +1,7 @@
 -- The walk from field to field, over any grammar: one law for each case of a turn, what a reader's loop keeps, and an induction.
 -- Assumes nothing.
 use Prim.Native.Nat.{ℕ, zero, suc, pred, _+_, _≤_, _<_}
-use mathlib.Core.Path.{_≡_, refl, sym, _∙_, ap}
+use mathlib.Core.Path.{_≡_, refl, sym, _∙_}
 use mathlib.Core.Bool.{Bool, true, false}
 use mathlib.Core.List.{List, [], _∷_, _++_}
 use lib.Dec.{eqb}
@@ -9,11 +9,10 @@ use lib.ListN.{length, getD}
 use native.Mathlib.Omega.{arith}
 use borrow.Author.Tests.{eqb-true, eq-eqb, ne-eqb}
 use Rattle.definitions.specs.Basics.{pick}
-use Rattle.definitions.specs.Fields.{two, part, Kind, isRemark, orRemark, fieldAt, onField, Grammar, Scan, stopped, scan}
+use Rattle.definitions.specs.Fields.{part, Kind, orRemark, fieldAt, onField, Grammar, Scan, stopped, scan}
 use Rattle.definitions.specs.declared.Field.{Field}
-use Rattle.definitions.specs.declared.Field.the-variants.{Absent, Faulty, Whole}
-use Rattle.fields.specs.Positions.{field-absent, within}
-use Rattle.fields.specs.Remarks.{remarkAt, past, pastRemarks, nextField, remark-is, remark-whole, next-other}
+use Rattle.definitions.specs.declared.Field.the-variants.{Absent, Faulty, Passed, Whole}
+use Rattle.fields.specs.Positions.{field-absent, within, passed-within}
 
 -- how far a walk is from its end: one turn more than the bytes left while it goes on, none once it is over
 abbrev pub leftOf : Bool → ℕ → ℕ
@@ -26,6 +25,9 @@ left-less false a b h = omega arith
 
 absent-faulty : {n p : ℕ} → Absent ≡ Faulty n p → ⊥
 absent-faulty p = let z : _≡_ {A = ℕ} 0 1 = cc in omega arith
+
+absent-passed : {e : ℕ} → Absent ≡ Passed e → ⊥
+absent-passed p = let z : _≡_ {A = ℕ} 0 1 = cc in omega arith
 
 absent-whole : {p a e : ℕ} → Absent ≡ Whole p a e → ⊥
 absent-whole p = let z : _≡_ {A = ℕ} 0 1 = cc in omega arith
@@ -55,22 +57,21 @@ module _ {A : Type 0} (s : List ℕ) (g : Grammar A) where
     scan-faulty zero number place h p = absurd (absent-faulty (field-absent s at (kinds before) (omega arith) ∙ sym p))
     scan-faulty (suc n) number place h p = rw (← p)
 
+    pub scan-passed : (turns e : ℕ) → length s ≤ at + turns → Passed e ≡ fieldAt s at (kinds before) → scan s g turns at before ≡ scan s g (pred turns) e before
+    unfolding scan onField
+    scan-passed zero e h p = absurd (absent-passed (field-absent s at (kinds before) (omega arith) ∙ sym p))
+    scan-passed (suc n) e h p = rw (← p)
+
     module _ (place a e : ℕ) (p : Whole place a e ≡ fieldAt s at (kinds before)) where
-      pub scan-over : (turns : ℕ) → length s ≤ at + turns → isRemark (getD s place 0) ≡ true → scan s g turns at before ≡ scan s g (pred turns) e before
+      pub scan-bad : (turns : ℕ) → length s ≤ at + turns → (faultOf place before a e ≡ 0 → ⊥) → scan s g turns at before ≡ stopped before (faultOf place before a e) place
       unfolding scan onField pick
-      scan-over zero h o = absurd (absent-whole (field-absent s at (kinds before) (omega arith) ∙ sym p))
-      scan-over (suc n) h o = rw (← p, o)
+      scan-bad zero h b = absurd (absent-whole (field-absent s at (kinds before) (omega arith) ∙ sym p))
+      scan-bad (suc n) h b = rw (← p, ne-eqb (faultOf place before a e) 0 b)
 
-      module _ (o : isRemark (getD s place 0) ≡ false) where
-        pub scan-bad : (turns : ℕ) → length s ≤ at + turns → (faultOf place before a e ≡ 0 → ⊥) → scan s g turns at before ≡ stopped before (faultOf place before a e) place
-        unfolding scan onField pick
-        scan-bad zero h b = absurd (absent-whole (field-absent s at (kinds before) (omega arith) ∙ sym p))
-        scan-bad (suc n) h b = rw (← p, o, ne-eqb (faultOf place before a e) 0 b)
-
-        pub scan-step : (turns : ℕ) → length s ≤ at + turns → faultOf place before a e ≡ 0 → scan s g turns at before ≡ scan s g (pred turns) e (with place before a e)
-        unfolding scan onField pick
-        scan-step zero h b = absurd (absent-whole (field-absent s at (kinds before) (omega arith) ∙ sym p))
-        scan-step (suc n) h b = rw (← p, o, eq-eqb (faultOf place before a e) 0 b)
+      pub scan-step : (turns : ℕ) → length s ≤ at + turns → faultOf place before a e ≡ 0 → scan s g turns at before ≡ scan s g (pred turns) e (with place before a e)
+      unfolding scan onField pick
+      scan-step zero h b = absurd (absent-whole (field-absent s at (kinds before) (omega arith) ∙ sym p))
+      scan-step (suc n) h b = rw (← p, eq-eqb (faultOf place before a e) 0 b)
 
   -- ---- what a reader's loop keeps
 
@@ -83,88 +84,54 @@ module _ {A : Type 0} (s : List ℕ) (g : Grammar A) where
   pub reading-start : (first : ℕ) → Reading first first []
   reading-start first = record { turns = length s; same = refl; enough = omega arith }
 
-  -- a remark at the place changes nothing, nor do any number of them
-  module _ (first : ℕ) (before : List A) where
-    reading-over : (at : ℕ) → Reading first at before → remarkAt s at ≡ true → Reading first (at + (3 + two s (at + 1))) before
-    reading-over at read p =
-        let r = remark-is s at p in
-        let e : at + 3 + two s (at + 1) ≡ at + (3 + two s (at + 1)) = omega arith in
-        record {
-          turns = pred (read .turns);
-          same = read .same ∙ scan-over at before at (at + 3) (at + 3 + two s (at + 1)) (remark-whole s at (g .kind before) r) (read .turns) (read .enough) (r .tagged)
-              ∙ ap (λ (k : ℕ). scan s g (pred (read .turns)) k before) e;
-          enough = omega (arith, read .enough);
-        }
-
-    reading-past : (n at : ℕ) → Reading first at before → Reading first (past s n at) before
-    unfolding past pick
-    reading-past zero at read = read
-    reading-past (suc n) at read = go (remarkAt s at) refl (reading-past n)
-      where
-        go : (b : Bool) → remarkAt s at ≡ b → ((at : ℕ) → Reading first at before → Reading first (past s n at) before)
-            → Reading first (pick b (past s n (at + (3 + two s (at + 1)))) at) before
-        go true p k = k (at + (3 + two s (at + 1))) (reading-over at read p)
-        go false p k = read
-
-  -- the next field, remarks passed over
-  module _ (first at : ℕ) (before : List A) (here : Reading first at before) (r : Field) (given : r ≡ nextField s at (g .kind before)) where
-    abbrev next : ℕ
-    next = pastRemarks s at
-
-    read : Reading first next before
-    read = reading-past first before (length s) at here
-
+  module _ (first at : ℕ) (before : List A) (read : Reading first at before) (r : Field) (given : r ≡ fieldAt s at (kinds before)) where
     pub reading-done : r ≡ Absent → scan s g (length s) first [] ≡ stopped before 0 0
-    reading-done p = read .same ∙ scan-absent (read .turns) next before (sym p ∙ given)
+    reading-done p = read .same ∙ scan-absent (read .turns) at before (sym p ∙ given)
 
     pub reading-faulty : (number place : ℕ) → r ≡ Faulty number place → scan s g (length s) first [] ≡ stopped before number place
-    reading-faulty number place p = read .same ∙ scan-faulty next before (read .turns) number place (read .enough) (sym p ∙ given)
+    reading-faulty number place p = read .same ∙ scan-faulty at before (read .turns) number place (read .enough) (sym p ∙ given)
 
-    module _ (place a e : ℕ) (found : r ≡ Whole place a e) where
-      whole : Whole place a e ≡ fieldAt s next (kinds before)
-      whole = sym found ∙ given
+    pub reading-passed : (e : ℕ) → r ≡ Passed e → Reading first e before
+    reading-passed e p = record {
+      turns = pred (read .turns);
+      same = read .same ∙ scan-passed at before (read .turns) e (read .enough) (sym p ∙ given);
+      enough = let w = passed-within s at (kinds before) e (sym p ∙ given) in omega (arith, read .enough, w .later);
+    }
 
-      other : isRemark (getD s place 0) ≡ false
-      other = next-other s at (g .kind before) place a e whole
+    module _ (place a e : ℕ) (found : r ≡ Whole place a e) (v : ℕ) (judged : v ≡ faultOf place before a e) where
+      pub reading-bad : (v ≡ 0 → ⊥) → scan s g (length s) first [] ≡ stopped before v place
+      reading-bad p = rw judged (read .same ∙ scan-bad at before place a e (sym found ∙ given) (read .turns) (read .enough) (λ q. p (judged ∙ q)))
 
-      module _ (v : ℕ) (judged : v ≡ faultOf place before a e) where
-        pub reading-bad : (v ≡ 0 → ⊥) → scan s g (length s) first [] ≡ stopped before v place
-        reading-bad p = rw judged (read .same ∙ scan-bad next before place a e whole other (read .turns) (read .enough) (λ q. p (judged ∙ q)))
-
-        pub reading-step : v ≡ 0 → Reading first e (with place before a e)
-        reading-step p = record {
-          turns = pred (read .turns);
-          same = read .same ∙ scan-step next before place a e whole other (read .turns) (read .enough) (sym judged ∙ p);
-          enough = omega (arith, read .enough, within s next (kinds before) place a e whole);
-        }
+      pub reading-step : v ≡ 0 → Reading first e (with place before a e)
+      reading-step p = record {
+        turns = pred (read .turns);
+        same = read .same ∙ scan-step at before place a e (sym found ∙ given) (read .turns) (read .enough) (sym judged ∙ p);
+        enough = omega (arith, read .enough, within s at (kinds before) place a e (sym found ∙ given));
+      }
 
   -- ---- what holds at the start, and is kept by each field that passes, holds of all that passed
 
   module _ (P : List A → Type 0)
-      (keeps : (at place a e : ℕ) (before : List A) → Whole place a e ≡ fieldAt s at (kinds before) → isRemark (getD s place 0) ≡ false → faultOf place before a e ≡ 0 → P before
-      → P (with place before a e))
+      (keeps : (at place a e : ℕ) (before : List A) → Whole place a e ≡ fieldAt s at (kinds before) → faultOf place before a e ≡ 0 → P before → P (with place before a e))
     where
       -- what a whole field leads to
       abbrev on : ℕ → List A → ℕ → ℕ → ℕ → Scan A
-      on turns before p a e =
-          pick (isRemark (getD s p 0)) (scan s g turns e before)
-          (pick (eqb (faultOf p before a e) 0) (scan s g turns e (with p before a e)) (stopped before (faultOf p before a e) p))
+      on turns before p a e = pick (eqb (faultOf p before a e) 0) (scan s g turns e (with p before a e)) (stopped before (faultOf p before a e) p)
 
       pub scan-keeps : (turns at : ℕ) (before : List A) → P before → P (scan s g turns at before .passed)
       unfolding scan onField pick
       scan-keeps zero at before p = p
       scan-keeps (suc n) at before p = go (fieldAt s at (kinds before)) refl (scan-keeps n)
         where
-          -- by the tag of a whole field, and by the test of its body
+          -- by the test of a whole field's body
           chosen : (q a e : ℕ) → Whole q a e ≡ fieldAt s at (kinds before) → ((at : ℕ) (before : List A) → P before → P (scan s g n at before .passed))
-              → (o : Bool) → isRemark (getD s q 0) ≡ o → (b : Bool) → eqb (faultOf q before a e) 0 ≡ b
-              → P (pick o (scan s g n e before) (pick b (scan s g n e (with q before a e)) (stopped before (faultOf q before a e) q)) .passed)
-          chosen q a e w k true o b t = k e before p
-          chosen q a e w k false o true t = k e (with q before a e) (keeps at q a e before w o (eqb-true (faultOf q before a e) 0 t) p)
-          chosen q a e w k false o false t = p
+              → (b : Bool) → eqb (faultOf q before a e) 0 ≡ b → P (pick b (scan s g n e (with q before a e)) (stopped before (faultOf q before a e) q) .passed)
+          chosen q a e w k true t = k e (with q before a e) (keeps at q a e before w (eqb-true (faultOf q before a e) 0 t) p)
+          chosen q a e w k false t = p
 
           go : (r : Field) → r ≡ fieldAt s at (kinds before) → ((at : ℕ) (before : List A) → P before → P (scan s g n at before .passed))
-              → P (onField r (stopped before 0 0) (stopped before) (on n before) .passed)
+              → P (onField r (stopped before 0 0) (stopped before) (λ end. scan s g n end before) (on n before) .passed)
           go Absent w k = p
           go (Faulty number place) w k = p
-          go (Whole q a e) w k = chosen q a e w k (isRemark (getD s q 0)) refl (eqb (faultOf q before a e) 0) refl
+          go (Passed e) w k = k e before p
+          go (Whole q a e) w k = chosen q a e w k (eqb (faultOf q before a e) 0) refl

@@ -3,3 +3,4 @@ mod look;
 pub mod reader;
 
 pub use look::first_field;
+pub use look::goes_on;

@@ -1,12 +1,12 @@
-// What stands at a place of a file, or from a place on. Plain slices and numbers, so the borrow checker covers all of it.
+// What stands at a place of a file. Plain slices and numbers, so the borrow checker covers all of it.
 ghost use mathlib.Core.Path.{_≡_};
-ghost use mathlib.Core.Bool.{false};
-ghost use Prim.Native.Nat.{_+_, _*_, _<_, _^_};
+ghost use mathlib.Core.Bool.{true};
+ghost use Prim.Native.Nat.{ℕ, _+_, _*_, _<_, _^_};
 ghost use lib.ListN.{length, getD};
-ghost use Rattle.definitions.specs.Fields.{two, only, orRemark, fieldAt, firstField};
-ghost use Rattle.definitions.specs.declared.Field.the-variants.{Whole};
-ghost use Rattle.fields.specs.Positions.{HasField, Tells};
-ghost use Rattle.fields.specs.Remarks.{remarkHeader, remarkAt, pastRemarks, nextField};
+ghost use Rattle.definitions.specs.Fields.{two, Kind, only, orRemark, fieldAt, firstField};
+ghost use Rattle.definitions.specs.declared.Field.the-variants.{Faulty, Whole};
+ghost use Rattle.fields.specs.Positions.{HasField, Tells, GoesOn};
+ghost use Rattle.fields.specs.Remarks.{remarkAt};
 use definitions::Field;
 use field_numbers::read_u16;
 use field_numbers::wide;
@@ -41,6 +41,12 @@ fn is_whole(s: &[u8], at: usize, tag: u8, len: u16) -> bool
     header(s, at) == tag as u32 + 256 * len as u32
 }
 
+fn faulty(number: u8, place: usize) -> Field
+    ensures { λ r. ⌜ r ≡ Faulty number place ⌝ }
+{
+    Field::Faulty { number, place }
+}
+
 // A whole field of this length.
 fn whole(at: usize, len: u16) -> Field
     requires { ⌜ at + (3 + len) < 2 ^ 64 ⌝ }
@@ -63,27 +69,15 @@ fn fault_at(s: &[u8], at: usize, tag: u8, len: u16) -> Field
         return Field::Absent;
     }
     if s.len() - at < 3 {
-        return Field::Faulty {
-            number: 1,
-            place: at,
-        };
+        return faulty(1, at);
     }
     if s[at] != tag {
-        return Field::Faulty {
-            number: 2,
-            place: at,
-        };
+        return faulty(2, at);
     }
     if read_u16(s, at + 1) != len {
-        return Field::Faulty {
-            number: 3,
-            place: at,
-        };
+        return faulty(3, at);
     }
-    Field::Faulty {
-        number: 1,
-        place: at,
-    }
+    faulty(1, at)
 }
 
 // What stands at a place where only a field of this tag and length is due.
@@ -101,19 +95,26 @@ pub fn first_field(s: &[u8], tag: u8, len: u16) -> Field
     ensures { λ r. ⌜ r ≡ firstField (now (s .entry)) (only tag len) ⌝ }
 {
     if LONGEST < s.len() {
-        return Field::Faulty {
-            number: 9,
-            place: LONGEST,
-        };
+        return faulty(9, LONGEST);
     }
     field_at(s, 0, tag, len)
 }
 
-// ---- remarks
+// ---- after the head
+
+// Whether a walk that stands at a place goes on with a whole field of this tag and length.
+pub fn goes_on(s: &[u8], going: bool, at: usize, tag: u8, len: u16) -> bool
+    ensures { λ r. ⌜ GoesOn r going (now (s .entry)) at tag len ⌝ }
+{
+    if going {
+        return is_whole(s, at, tag, len);
+    }
+    false
+}
 
 // Whether the header of a remark stands at a place.
-fn is_remark_header(s: &[u8], at: usize) -> bool
-    ensures { λ r. ⌜ r ≡ remarkHeader (now (s .entry)) at ⌝ }
+fn is_remark(s: &[u8], at: usize) -> bool
+    ensures { λ r. ⌜ r ≡ remarkAt (now (s .entry)) at ⌝ }
 {
     if s.len() <= at {
         return false;
@@ -124,48 +125,24 @@ fn is_remark_header(s: &[u8], at: usize) -> bool
     REMARK <= s[at]
 }
 
-// Whether a whole remark stands at a place.
-fn is_remark(s: &[u8], at: usize) -> bool
-    ensures { λ r. ⌜ r ≡ remarkAt (now (s .entry)) at ⌝ }
+// The remark whose header stands at a place: it is passed over, or its body is cut (1). The other tags do not matter.
+fn remark_at(s: &[u8], at: usize) -> Field
+    requires { ⌜ remarkAt (now s) at ≡ true ⌝ }
+    ensures { λ r. ⌜ ((kind : ℕ → Kind) → r ≡ fieldAt (now (s .entry)) at (orRemark kind)) ⌝ }
 {
-    if is_remark_header(s, at) {
-        return 3 + read_u16(s, at + 1) as usize <= s.len() - at;
+    let field = 3 + read_u16(s, at + 1) as usize;
+    if s.len() - at < field {
+        return faulty(1, at);
     }
-    false
+    Field::Passed { end: at + field }
 }
 
-// The place of the first field from a place on that is no whole remark.
-fn past_remarks(s: &[u8], first: usize) -> usize
-    ensures { λ r. ⌜ r ≡ pastRemarks (now (s .entry)) first ⌝ }
-{
-    let mut at = first;
-    while is_remark(s, at) {
-        at += 3 + read_u16(s, at + 1) as usize;
-    }
-    at
-}
-
-// What stands at a place after remarks, where a field of this tag and length is due. Another remark there is cut (1).
-fn field_after(s: &[u8], at: usize, tag: u8, len: u16) -> Field
-    requires { ⌜ remarkAt (now s) at ≡ false ⌝ }
+// What stands at a place after the head, where remarks are passed over and else only a field of this tag and length is due.
+pub fn next_field(s: &[u8], at: usize, tag: u8, len: u16) -> Field
     ensures { λ r. ⌜ r ≡ fieldAt (now (s .entry)) at (orRemark (only tag len)) ⌝ }
 {
-    if is_remark_header(s, at) {
-        return Field::Faulty {
-            number: 1,
-            place: at,
-        };
+    if is_remark(s, at) {
+        return remark_at(s, at);
     }
     field_at(s, at, tag, len)
-}
-
-// The next field from a place on, where one of this tag and length is due; remarks are passed over. Mostly it stands right
-// there.
-pub fn next_field(s: &[u8], at: usize, tag: u8, len: u16) -> Field
-    ensures { λ r. ⌜ r ≡ nextField (now (s .entry)) at (only tag len) ⌝ }
-{
-    if tag < REMARK && is_whole(s, at, tag, len) {
-        return whole(at, len);
-    }
-    field_after(s, past_remarks(s, at), tag, len)
 }

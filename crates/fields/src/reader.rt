@@ -2,12 +2,11 @@
 // The borrow checker covers no function over a struct that holds a reference, so these are proved by hand. They are thin:
 // the work is done by `next_field`, which takes a plain slice and is covered.
 ghost use mathlib.Core.Path.{_≡_};
-ghost use Rattle.definitions.specs.Fields.{only};
-ghost use Rattle.fields.specs.Remarks.{nextField};
+ghost use Rattle.definitions.specs.Fields.{only, orRemark, fieldAt};
 use crate::look::next_field;
 use definitions::Field;
 
-// A file, and the place from which on its next field is looked for.
+// A file, and the place of its next field.
 pub struct Reader<'a> {
     pub src: &'a [u8],
     pub at: usize,
@@ -27,9 +26,9 @@ pub fn moved<'a>(r: Reader<'a>, at: usize) -> Reader<'a>
     Reader { src: r.src, at }
 }
 
-// The next field, where one of this tag and length is due, remarks passed over: its place and body, or what is wrong there.
+// The next field: a remark, or one of this tag and length, which is due, or what is wrong there.
 pub fn next<'a>(r: Reader<'a>, tag: u8, len: u16) -> Field
-    ensures { λ f. ⌜ f ≡ nextField (now (r .entry .src)) (r .entry .at) (only tag len) ⌝ }
+    ensures { λ f. ⌜ f ≡ fieldAt (now (r .entry .src)) (r .entry .at) (orRemark (only tag len)) ⌝ }
 {
     next_field(r.src, r.at, tag, len)
 }

@@ -20,6 +20,12 @@ enum-known-number c = search needs
 refused-requires-2 : tie.Need-refused-requires-2
 refused-requires-2 c κs = search needs
 
+enum-told-2 : tie.Need-enum-told-2
+enum-told-2 c = search needs
+
+refused-requires-3 : tie.Need-refused-requires-3
+refused-requires-3 c κs = search needs
+
 enum-known-place : tie.Need-enum-known-place
 enum-known-place c = search needs
 
@@ -35,8 +41,8 @@ part-body-end c = search first-laws
 head-fault-requires : tie.Need-head-fault-requires
 head-fault-requires c κs = search first-laws
 
-refused-requires-3 : tie.Need-refused-requires-3
-refused-requires-3 c κs = search needs
+refused-requires-4 : tie.Need-refused-requires-4
+refused-requires-4 c κs = search needs
 
 returns : tie.Need-returns
 returns c = search chart-laws
@@ -56,6 +62,9 @@ returns-3 c = search chart-laws
 returns-4 : tie.Need-returns-4
 returns-4 c = search chart-laws
 
+returns-5 : tie.Need-returns-5
+returns-5 c = search chart-laws
+
 pub read-chart-spec : {M : Type 1} → statement M
 read-chart-spec =
     tie.close
@@ -65,15 +74,18 @@ read-chart-spec =
     refused-requires
     enum-known-number
     refused-requires-2
+    enum-told-2
+    refused-requires-3
     enum-known-place
     sub-body
     part-body-start
     part-body-end
     head-fault-requires
-    refused-requires-3
+    refused-requires-4
     returns
     head-of-requires
     read-steps-requires
     returns-2
     returns-3
-    returns-4)
+    returns-4
+    returns-5)

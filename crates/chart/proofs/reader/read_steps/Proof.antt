@@ -1,4 +1,4 @@
--- `chart::read_steps` meets its contract: a walk of its MIR, by hand, since a local holds the reader. The reader is made and moved to the first place. In each turn it is asked for the next field, `take_step` takes what it found,
+-- `chart::read_steps` meets its contract: a walk of its MIR, by hand, since a local holds the reader. The reader is made and moved to the first place. In each turn it is asked for the next field, `take_steps` takes what it found,
 -- with the table lent again for the call, and the reader is moved on. What a turn comes to is `Steps.antt`'s `take-turn`; how the reader's functions are called, `Calls.antt` of `fields`.
 -- Assumes nothing.
 use mathlib.Core.Path.{_≡_, refl, _∙_, ap, subst}
@@ -46,8 +46,7 @@ use denote.Triple.Table.{entered, cited}
 use denote.Triple.Walked.{says, Stays, stay-none, stay-none-slice, stay-ref, walkOf, goes-none, goes-none-slice, goes-ref, Walks, ends-at, walked, walk-meets}
 use denote.Exit.{yes}
 use denote.Signature.{plain, namedLft}
-use Rattle.definitions.specs.Fields.{only}
-use Rattle.fields.specs.Remarks.{nextField}
+use Rattle.definitions.specs.Fields.{only, orRemark, fieldAt}
 use Rattle.definitions.specs.declared.Field.{Field}
 use Rattle.fields.specs.declared.reader.Reader.{Reader}
 use Rattle.chart.specs.declared.reader.StepsRead.{StepsRead}
@@ -73,10 +72,10 @@ use Rattle.fields.proofs.reader.next as next
 use Rattle.fields.proofs.reader.next.Symbol as next-def
 use Rattle.fields.proofs.reader.next.Symbol.{name as #fields·reader·next}
 use Rattle.fields.proofs.reader.next.Met as next-thm
-use Rattle.chart.proofs.reader.take_step as take
-use Rattle.chart.proofs.reader.take_step.Symbol as take-def
-use Rattle.chart.proofs.reader.take_step.Symbol.{name as #chart·reader·take-step}
-use Rattle.chart.proofs.reader.take_step.Met as take-thm
+use Rattle.chart.proofs.reader.take_steps as take
+use Rattle.chart.proofs.reader.take_steps.Symbol as take-def
+use Rattle.chart.proofs.reader.take_steps.Symbol.{name as #chart·reader·take-steps}
+use Rattle.chart.proofs.reader.take_steps.Met as take-thm
 use Rattle.chart.proofs.reader.read_steps.Key.{name as #chart·reader·read-steps}
 use Rattle.chart.proofs.reader.read_steps as reads
 use Rattle.chart.proofs.reader.read_steps.Statement as stated
@@ -146,7 +145,7 @@ module _ {M : Type 1} (𝓤 : URA M) (H : Heap 𝓤) (A : Atoms 𝓤) (W : Given
   abbrev Own : Fml
   Own = fileOwn κ s
 
-  -- the call of `take_step`: the field f, what is read so far, t, and the table lent again for the lifetime ν, under the name δ
+  -- the call of `take_steps`: the field f, what is read so far, t, and the table lent again for the lifetime ν, under the name δ
   abbrev with-take : GName → Field → StepsRead → List (List ℕ) → RefT (List ℕ) × (Field × (StepsRead × (ℕ × (RefT (List (List ℕ)) × Unit {0}))))
   with-take δ f t vs = (s, (f, (t, (stages, (x δ vs, tt)))))
 
@@ -156,7 +155,7 @@ module _ {M : Type 1} (𝓤 : URA M) (H : Heap 𝓤) (A : Atoms 𝓤) (W : Given
   abbrev to-take : ℕ → GName → Field → Val → StepsRead → List (List ℕ) → Take 𝓤 H A mem run .Ghost
   to-take ν δ f u t vs = (((κ, (ν ∷ [], tt)), (q, (fullShare, tt)), tt, with-take δ f t vs, vals-take u t), tt)
 
-  asked-take : (ν : ℕ) (δ : GName) (f : Field) (u : Val) (t : StepsRead) (vs : List (List ℕ)) → f ≡ nextField (now s) (t .place) (only 2 8)
+  asked-take : (ν : ℕ) (δ : GName) (f : Field) (u : Val) (t : StepsRead) (vs : List (List ℕ)) → f ≡ fieldAt (now s) (t .place) (orRemark (only 2 8))
       → ent 𝓤 (onEntry 𝓤 H A take.signature (κ, (ν ∷ [], tt)) (q, (fullShare, tt)) (with-take δ f t vs) (vals-take u t)) (Take 𝓤 H A mem run .pre (to-take ν δ f u t vs))
   asked-take ν δ f u t vs found =
       qed W ((‵ (flft κ q) ⊛ ‵ (flft (ν ∷ []) fullShare) ⊛ ‵ ftrue) ∷ ‵ (owns (ShrSlice (named 0) κ u8 ∷ S.the-row ∷ SR ∷ u16 ∷ MutRef (named 1) (ν ∷ []) TB ∷ []) (with-take δ f t vs) (vals-take u t)) ∷ []) ∵
@@ -198,7 +197,7 @@ module _ {M : Type 1} (𝓤 : URA M) (H : Heap 𝓤) (A : Atoms 𝓤) (W : Given
   begun-is = LL.owes R.the-type R′.the-laws begun ((refl, lit< tt), ((refl, start-fits), ((refl, lit< tt), ((refl, lit< tt), (refl, tt)))))
 
   module _ (𝓣 : Tables 𝓤 H) (known-new : Triple 𝓤 (𝓣 .C #fields·reader·new) (New 𝓤 H A mem run)) (known-next : Triple 𝓤 (𝓣 .C #fields·reader·next) (Next 𝓤 H A mem run)) (known-moved : Triple 𝓤 (𝓣 .C #fields·reader·moved) (Moved 𝓤 H A mem run))
-      (known-take : Triple 𝓤 (𝓣 .C #chart·reader·take-step) (Take 𝓤 H A mem run)) (l₀ l₁ l₂ l₃ l₄ l₅ l₆ l₇ l₈ l₉ l₁₀ l₁₁ l₁₂ : ℕ) where
+      (known-take : Triple 𝓤 (𝓣 .C #chart·reader·take-steps) (Take 𝓤 H A mem run)) (l₀ l₁ l₂ l₃ l₄ l₅ l₆ l₇ l₈ l₉ l₁₀ l₁₁ l₁₂ : ℕ) where
     abbrev C : Calls 𝓤 H
     C = 𝓣 .C
 
@@ -238,7 +237,7 @@ module _ {M : Type 1} (𝓤 : URA M) (H : Heap 𝓤) (A : Atoms 𝓤) (W : Given
         use2 W (raw (Next 𝓤 H A mem run .pre (to-next 𝓤 H A W mem run κ q 2 8 d u))) (goes-next 𝓤 H A W mem run κ q 2 8 (lit< tt) (lit< tt) d u) $
         calls-at ! fm (Next 𝓤 H A mem run) known-next (to-next 𝓤 H A W mem run κ q 2 8 d u) (and-then ! (load ! (from ! (stop !)) (look ! 9 refl)) (and-then ! (lit ! tt) (and-then ! (lit ! tt) (no-more !)))) (λ k.
         use1 W (later (some (λ (f : Field). ((‵ (flft κ q) ⊛ ‵ ftrue) ⊛ ‵ (S.the-row .own f (k ∷ []))) ⊛ raw (ensured 𝓤 H A next.ended (next.clauses 𝓤 H A mem run) (κ, tt) (d, (2, (8, tt))) tt f)))) (id⊢ 𝓤 _) $ await ! tt $ pick ! (λ f.
-        split ! $ move ! (1 ∷ []) $ use1 W (raw (fact 𝓤 (f ≡ nextField (now (d .src)) (d .at) (only 2 8)))) (next-said 𝓤 H A W mem run κ q 2 8 d f) $ heard ! (f ≡ nextField (now (d .src)) (d .at) (only 2 8)) (λ ef. move ! (0 ∷ []) $ split ! $
+        split ! $ move ! (1 ∷ []) $ use1 W (raw (fact 𝓤 (f ≡ fieldAt (now (d .src)) (d .at) (orRemark (only 2 8))))) (next-said 𝓤 H A W mem run κ q 2 8 d f) $ heard ! (f ≡ fieldAt (now (d .src)) (d .at) (orRemark (only 2 8))) (λ ef. move ! (0 ∷ []) $ split ! $
         move ! (1 ∷ []) $ peeks ! S.the-row (Is S.the-row) (shows 𝓤 H A S.the-row) f (k ∷ []) (λ isf. land ! (from ! (stop !)) (init ! 16 refl (EL.lawful S.the-type S′.the-laws 𝓤 H A W tt .typed f _ isf .0)) $
         -- it is taken, the table lent again for a lifetime ν of the call
         assigns ! (addr ! (from ! (hop ! (look ! 22 refl) (stop !)))) (from ! (stop !)) (init ! 8 refl (tt, tt)) $ lft-new ! tt (λ ν. move ! (5 ∷ 6 ∷ []) $
@@ -271,8 +270,8 @@ module _ {M : Type 1} (𝓤 : URA M) (H : Heap 𝓤) (A : Atoms 𝓤) (W : Given
         z : State
         z = (d, u, t, vs, ud, is, src, at, g)
 
-        found-at : {f : Field} → f ≡ nextField (now (d .src)) (d .at) (only 2 8) → f ≡ nextField (now s) (t .place) (only 2 8)
-        found-at e = e ∙ (ap (λ (y : RefT (List ℕ)). nextField (now y) (d .at) (only 2 8)) src ∙ ap (λ (n : ℕ). nextField (now s) n (only 2 8)) at)
+        found-at : {f : Field} → f ≡ fieldAt (now (d .src)) (d .at) (orRemark (only 2 8)) → f ≡ fieldAt (now s) (t .place) (orRemark (only 2 8))
+        found-at e = e ∙ (ap (λ (y : RefT (List ℕ)). fieldAt (now y) (d .at) (orRemark (only 2 8))) src ∙ ap (λ (n : ℕ). fieldAt (now s) n (orRemark (only 2 8))) at)
 
     ends : (d : Reader) (u : Val) (t : StepsRead) (vs : List (List ℕ)) (ud : Is (B (κ, tt)) d (u ∷ [])) (is : Is SR t (R′.lowered t ∷ [])) (src : d .src ≡ s) (at : d .at ≡ t .place) (g : Stands (now s) start stages us vs t)
         → t .going ≡ false → Sq W (held d u t vs) (runs C Λ En mir-of.turn-1 (anyQ (Turned (d, u, t, vs, ud, is, src, at, g))))
@@ -316,7 +315,7 @@ module _ {M : Type 1} (𝓤 : URA M) (H : Heap 𝓤) (A : Atoms 𝓤) (W : Given
         first ! $ blocks ! $ loops ! 𝓣 Nearer Nearer-wf At turns (d, u, begun, us, ud, begun-is, ed .0 ∙ er .0, ed .1, stands-begin (now s) start stages us)))))))))
 
   walk : Is (ShrSlice (named 0) κ u8) s (v ∷ []) → (𝓣 : Tables 𝓤 H) → Triple 𝓤 (𝓣 .C #fields·reader·new) (New 𝓤 H A mem run) → Triple 𝓤 (𝓣 .C #fields·reader·next) (Next 𝓤 H A mem run)
-      → Triple 𝓤 (𝓣 .C #fields·reader·moved) (Moved 𝓤 H A mem run) → Triple 𝓤 (𝓣 .C #chart·reader·take-step) (Take 𝓤 H A mem run)
+      → Triple 𝓤 (𝓣 .C #fields·reader·moved) (Moved 𝓤 H A mem run) → Triple 𝓤 (𝓣 .C #chart·reader·take-steps) (Take 𝓤 H A mem run)
       → ent 𝓤 (onEntry 𝓤 H A reads.signature (κ, (κ′, tt)) (q, (q′, tt)) a vals) (WpFn 𝓤 H (𝓣 .C) (𝓣 .Λ) code.function (v ∷ vint w64 start ∷ vint w16 stages ∷ vptr b o ∷ []) Post)
   walk p 𝓣 known-new known-next known-moved known-take =
       qed W ((‵ (flft κ q) ⊛ ‵ (flft κ′ q′) ⊛ ‵ ftrue) ∷ ‵ (owns (ShrSlice (named 0) κ u8 ∷ usize ∷ u16 ∷ MutRef (named 1) κ′ TB ∷ []) a vals) ∷ []) ∵
@@ -329,7 +328,7 @@ module _ {M : Type 1} (𝓤 : URA M) (H : Heap 𝓤) (A : Atoms 𝓤) (W : Given
 
 module _ {M : Type 1} (𝓤 : URA M) (H : Heap 𝓤) (A : Atoms 𝓤) (W : Given 𝓤 H A) (mem : Memory → SProp 𝓤) (run : Routine → Fun 𝓤) where
   reads-walks : (𝓣 : Tables 𝓤 H) → Triple 𝓤 (𝓣 .C #fields·reader·new) (New 𝓤 H A mem run) → Triple 𝓤 (𝓣 .C #fields·reader·next) (Next 𝓤 H A mem run)
-      → Triple 𝓤 (𝓣 .C #fields·reader·moved) (Moved 𝓤 H A mem run) → Triple 𝓤 (𝓣 .C #chart·reader·take-step) (Take 𝓤 H A mem run)
+      → Triple 𝓤 (𝓣 .C #fields·reader·moved) (Moved 𝓤 H A mem run) → Triple 𝓤 (𝓣 .C #chart·reader·take-steps) (Take 𝓤 H A mem run)
       → Walks 𝓤 H A reads.ended stayed (WpFn 𝓤 H (𝓣 .C) (𝓣 .Λ) code.function) (reads.clauses 𝓤 H A mem run)
   reads-walks 𝓣 known-new known-next known-moved known-take = walked 𝓤 H A reads.ended stayed (reads.clauses 𝓤 H A mem run) (WpFn 𝓤 H (𝓣 .C) (𝓣 .Λ) code.function)
       (λ κs. (slice-vals, (uint-vals w64, (uint-vals w16, (ptr-vals, tt))))) (λ κs. (shr-slice-tells (named 0) (κs .0) u8, (uint-tells w64, (uint-tells w16, (mut-tells (named 1) (κs .1 .0) TB, tt)))))
@@ -338,7 +337,7 @@ module _ {M : Type 1} (𝓤 : URA M) (H : Heap 𝓤) (A : Atoms 𝓤) (W : Given
       (are .0) 𝓣 known-new known-next known-moved known-take))
 
 reads-meets : {M : Type 1} (𝓤 : URA M) (H : Heap 𝓤) (A : Atoms 𝓤) → Given 𝓤 H A → (mem : Memory → SProp 𝓤) (run : Routine → Fun 𝓤) (𝓣 : Tables 𝓤 H) → Triple 𝓤 (𝓣 .C #fields·reader·new) (New 𝓤 H A mem run)
-    → Triple 𝓤 (𝓣 .C #fields·reader·next) (Next 𝓤 H A mem run) → Triple 𝓤 (𝓣 .C #fields·reader·moved) (Moved 𝓤 H A mem run) → Triple 𝓤 (𝓣 .C #chart·reader·take-step) (Take 𝓤 H A mem run)
+    → Triple 𝓤 (𝓣 .C #fields·reader·next) (Next 𝓤 H A mem run) → Triple 𝓤 (𝓣 .C #fields·reader·moved) (Moved 𝓤 H A mem run) → Triple 𝓤 (𝓣 .C #chart·reader·take-steps) (Take 𝓤 H A mem run)
     → Meets 𝓤 H A reads.signature (WpFn 𝓤 H (𝓣 .C) (𝓣 .Λ) code.function) (reads.spec 𝓤 H A mem run)
 reads-meets 𝓤 H A W mem run 𝓣 known-new known-next known-moved known-take =
     walk-meets 𝓤 H A reads.ended stayed W
@@ -354,4 +353,4 @@ read-steps-spec 𝓤 H 𝓜 𝓖 𝓡 =
     (cited 𝓤 H (New 𝓤 H (𝓖 .A) (𝓜 .mem) (𝓡 .run)) 𝓜 𝓡 code.env #fields·reader·new new-def.routine code.calls-fields·reader·new (new-thm.met 𝓤 H 𝓜 𝓖 𝓡))
     (cited 𝓤 H (Next 𝓤 H (𝓖 .A) (𝓜 .mem) (𝓡 .run)) 𝓜 𝓡 code.env #fields·reader·next next-def.routine code.calls-fields·reader·next (next-thm.met 𝓤 H 𝓜 𝓖 𝓡))
     (cited 𝓤 H (Moved 𝓤 H (𝓖 .A) (𝓜 .mem) (𝓡 .run)) 𝓜 𝓡 code.env #fields·reader·moved moved-def.routine code.calls-fields·reader·moved (moved-thm.met 𝓤 H 𝓜 𝓖 𝓡))
-    (cited 𝓤 H (Take 𝓤 H (𝓖 .A) (𝓜 .mem) (𝓡 .run)) 𝓜 𝓡 code.env #chart·reader·take-step take-def.routine code.calls-chart·reader·take-step (take-thm.met 𝓤 H 𝓜 𝓖 𝓡)))
+    (cited 𝓤 H (Take 𝓤 H (𝓖 .A) (𝓜 .mem) (𝓡 .run)) 𝓜 𝓡 code.env #chart·reader·take-steps take-def.routine code.calls-chart·reader·take-steps (take-thm.met 𝓤 H 𝓜 𝓖 𝓡)))

@@ -29,6 +29,12 @@ enum-known-number c = search needs
 refused-requires-2 : tie.Need-refused-requires-2
 refused-requires-2 c κs = search needs
 
+enum-told-2 : tie.Need-enum-told-2
+enum-told-2 c = search needs
+
+refused-requires-3 : tie.Need-refused-requires-3
+refused-requires-3 c κs = search needs
+
 enum-known-start : tie.Need-enum-known-start
 enum-known-start c = search needs
 
@@ -68,6 +74,9 @@ returns-4 c = search whole-laws
 returns-5 : tie.Need-returns-5
 returns-5 c = search whole-laws
 
+returns-6 : tie.Need-returns-6
+returns-6 c = search whole-laws
+
 pub read-diagram-spec : {M : Type 1} → statement M
 read-diagram-spec =
     tie.close
@@ -80,6 +89,8 @@ read-diagram-spec =
     refused-requires
     enum-known-number
     refused-requires-2
+    enum-told-2
+    refused-requires-3
     enum-known-start
     sub-read-u16
     part-read-u16-start
@@ -92,4 +103,5 @@ read-diagram-spec =
     returns-2
     returns-3
     returns-4
-    returns-5)
+    returns-5
+    returns-6)

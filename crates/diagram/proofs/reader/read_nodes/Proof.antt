@@ -1,4 +1,4 @@
--- `diagram::read_nodes` meets its contract: a walk of its MIR, by hand, since a local holds the reader. The reader is made and moved to the first place. In each turn it is asked for the next field, `take_node` takes what it found,
+-- `diagram::read_nodes` meets its contract: a walk of its MIR, by hand, since a local holds the reader. The reader is made and moved to the first place. In each turn it is asked for the next field, `take_nodes` takes what it found,
 -- with both tables lent again for the call, and the reader is moved on. What a turn comes to is `Nodes.antt`'s `take-turn`; how the reader's functions are called, `Calls.antt` of `fields`.
 -- Assumes nothing.
 use mathlib.Core.Path.{_≡_, refl, _∙_, ap, subst}
@@ -46,8 +46,7 @@ use denote.Triple.Table.{entered, cited}
 use denote.Triple.Walked.{says, Stays, stay-none, stay-none-slice, stay-ref, walkOf, goes-none, goes-none-slice, goes-ref, Walks, ends-at, walked, walk-meets}
 use denote.Exit.{yes}
 use denote.Signature.{plain, namedLft}
-use Rattle.definitions.specs.Fields.{only}
-use Rattle.fields.specs.Remarks.{nextField}
+use Rattle.definitions.specs.Fields.{only, orRemark, fieldAt}
 use Rattle.definitions.specs.declared.Field.{Field}
 use Rattle.fields.specs.declared.reader.Reader.{Reader}
 use Rattle.diagram.specs.declared.reader.NodesRead.{NodesRead}
@@ -73,10 +72,10 @@ use Rattle.fields.proofs.reader.next as next
 use Rattle.fields.proofs.reader.next.Symbol as next-def
 use Rattle.fields.proofs.reader.next.Symbol.{name as #fields·reader·next}
 use Rattle.fields.proofs.reader.next.Met as next-thm
-use Rattle.diagram.proofs.reader.take_node as take
-use Rattle.diagram.proofs.reader.take_node.Symbol as take-def
-use Rattle.diagram.proofs.reader.take_node.Symbol.{name as #diagram·reader·take-node}
-use Rattle.diagram.proofs.reader.take_node.Met as take-thm
+use Rattle.diagram.proofs.reader.take_nodes as take
+use Rattle.diagram.proofs.reader.take_nodes.Symbol as take-def
+use Rattle.diagram.proofs.reader.take_nodes.Symbol.{name as #diagram·reader·take-nodes}
+use Rattle.diagram.proofs.reader.take_nodes.Met as take-thm
 use Rattle.diagram.proofs.reader.read_nodes.Key.{name as #diagram·reader·read-nodes}
 use Rattle.diagram.proofs.reader.read_nodes as reads
 use Rattle.diagram.proofs.reader.read_nodes.Statement as stated
@@ -162,7 +161,7 @@ module _ {M : Type 1} (𝓤 : URA M) (H : Heap 𝓤) (A : Atoms 𝓤) (W : Given
   abbrev Own₂ : Lft → GName → List ℕ → Fml
   Own₂ κ′ δ l = MutRef (named 2) κ′ TN .own (x₂ δ l) (vptr b₂ o₂ ∷ [])
 
-  -- the call of `take_node`: the field f, what is read so far, t, and the tables lent again for the lifetimes ν₁ and ν₂, under the names δ₁ and δ₂
+  -- the call of `take_nodes`: the field f, what is read so far, t, and the tables lent again for the lifetimes ν₁ and ν₂, under the names δ₁ and δ₂
   abbrev with-take : GName → GName → Field → NodesRead → List ℕ → List ℕ → RefT (List ℕ) × (Field × (NodesRead × (ℕ × (RefT (List ℕ) × (RefT (List ℕ) × Unit {0})))))
   with-take δ₁ δ₂ f t vs ws = (s, (f, (t, (steps, (x₁ δ₁ vs, (x₂ δ₂ ws, tt))))))
 
@@ -172,7 +171,7 @@ module _ {M : Type 1} (𝓤 : URA M) (H : Heap 𝓤) (A : Atoms 𝓤) (W : Given
   abbrev to-take : ℕ → ℕ → GName → GName → Field → Val → NodesRead → List ℕ → List ℕ → Take 𝓤 H A mem run .Ghost
   to-take ν₁ ν₂ δ₁ δ₂ f u t vs ws = (((κ, (ν₁ ∷ [], (ν₂ ∷ [], tt))), (q, (fullShare, (fullShare, tt))), tt, with-take δ₁ δ₂ f t vs ws, vals-take u t), tt)
 
-  asked-take : (ν₁ ν₂ : ℕ) (δ₁ δ₂ : GName) (f : Field) (u : Val) (t : NodesRead) (vs ws : List ℕ) → f ≡ nextField (now s) (t .place) (only 18 6)
+  asked-take : (ν₁ ν₂ : ℕ) (δ₁ δ₂ : GName) (f : Field) (u : Val) (t : NodesRead) (vs ws : List ℕ) → f ≡ fieldAt (now s) (t .place) (orRemark (only 18 6))
       → ent 𝓤 (onEntry 𝓤 H A take.signature (κ, (ν₁ ∷ [], (ν₂ ∷ [], tt))) (q, (fullShare, (fullShare, tt))) (with-take δ₁ δ₂ f t vs ws) (vals-take u t)) (Take 𝓤 H A mem run .pre (to-take ν₁ ν₂ δ₁ δ₂ f u t vs ws))
   asked-take ν₁ ν₂ δ₁ δ₂ f u t vs ws found =
       qed W ((‵ (flft κ q) ⊛ ‵ (flft (ν₁ ∷ []) fullShare) ⊛ ‵ (flft (ν₂ ∷ []) fullShare) ⊛ ‵ ftrue)
@@ -216,7 +215,7 @@ module _ {M : Type 1} (𝓤 : URA M) (H : Heap 𝓤) (A : Atoms 𝓤) (W : Given
   begun-is = LL.owes R.the-type R′.the-laws begun ((refl, lit< tt), ((refl, start-fits), ((refl, lit< tt), (refl, tt))))
 
   module _ (𝓣 : Tables 𝓤 H) (known-new : Triple 𝓤 (𝓣 .C #fields·reader·new) (New 𝓤 H A mem run)) (known-next : Triple 𝓤 (𝓣 .C #fields·reader·next) (Next 𝓤 H A mem run)) (known-moved : Triple 𝓤 (𝓣 .C #fields·reader·moved) (Moved 𝓤 H A mem run))
-      (known-take : Triple 𝓤 (𝓣 .C #diagram·reader·take-node) (Take 𝓤 H A mem run)) (l₀ l₁ l₂ l₃ l₄ l₅ l₆ l₇ l₈ l₉ l₁₀ l₁₁ l₁₂ l₁₃ l₁₄ : ℕ) where
+      (known-take : Triple 𝓤 (𝓣 .C #diagram·reader·take-nodes) (Take 𝓤 H A mem run)) (l₀ l₁ l₂ l₃ l₄ l₅ l₆ l₇ l₈ l₉ l₁₀ l₁₁ l₁₂ l₁₃ l₁₄ : ℕ) where
     abbrev C : Calls 𝓤 H
     C = 𝓣 .C
 
@@ -258,7 +257,7 @@ module _ {M : Type 1} (𝓤 : URA M) (H : Heap 𝓤) (A : Atoms 𝓤) (W : Given
         use2 W (raw (Next 𝓤 H A mem run .pre (to-next 𝓤 H A W mem run κ q 18 6 d u))) (goes-next 𝓤 H A W mem run κ q 18 6 (lit< tt) (lit< tt) d u) $
         calls-at ! fm (Next 𝓤 H A mem run) known-next (to-next 𝓤 H A W mem run κ q 18 6 d u) (and-then ! (load ! (from ! (stop !)) (look ! 13 refl)) (and-then ! (lit ! tt) (and-then ! (lit ! tt) (no-more !)))) (λ k.
         use1 W (later (some (λ (f : Field). ((‵ (flft κ q) ⊛ ‵ ftrue) ⊛ ‵ (S.the-row .own f (k ∷ []))) ⊛ raw (ensured 𝓤 H A next.ended (next.clauses 𝓤 H A mem run) (κ, tt) (d, (18, (6, tt))) tt f)))) (id⊢ 𝓤 _) $ await ! tt $ pick ! (λ f.
-        split ! $ move ! (1 ∷ []) $ use1 W (raw (fact 𝓤 (f ≡ nextField (now (d .src)) (d .at) (only 18 6)))) (next-said 𝓤 H A W mem run κ q 18 6 d f) $ heard ! (f ≡ nextField (now (d .src)) (d .at) (only 18 6)) (λ ef. move ! (0 ∷ []) $
+        split ! $ move ! (1 ∷ []) $ use1 W (raw (fact 𝓤 (f ≡ fieldAt (now (d .src)) (d .at) (orRemark (only 18 6))))) (next-said 𝓤 H A W mem run κ q 18 6 d f) $ heard ! (f ≡ fieldAt (now (d .src)) (d .at) (orRemark (only 18 6))) (λ ef. move ! (0 ∷ []) $
         split ! $ move ! (1 ∷ []) $ peeks ! S.the-row (Is S.the-row) (shows 𝓤 H A S.the-row) f (k ∷ []) (λ isf. land ! (from ! (stop !)) (init ! 20 refl (EL.lawful S.the-type S′.the-laws 𝓤 H A W tt .typed f _ isf .0)) $
         -- it is taken, the tables lent again for lifetimes ν₁ and ν₂ of the call
         assigns ! (addr ! (from ! (hop ! (look ! 28 refl) (stop !)))) (from ! (stop !)) (init ! 12 refl (tt, tt)) $ assigns ! (addr ! (from ! (hop ! (look ! 26 refl) (stop !)))) (from ! (stop !)) (init ! 10 refl (tt, tt)) $
@@ -300,8 +299,8 @@ module _ {M : Type 1} (𝓤 : URA M) (H : Heap 𝓤) (A : Atoms 𝓤) (W : Given
         z : State
         z = (d, u, t, vs, ws, ud, is, src, at, g)
 
-        found-at : {f : Field} → f ≡ nextField (now (d .src)) (d .at) (only 18 6) → f ≡ nextField (now s) (t .place) (only 18 6)
-        found-at e = e ∙ (ap (λ (y : RefT (List ℕ)). nextField (now y) (d .at) (only 18 6)) src ∙ ap (λ (n : ℕ). nextField (now s) n (only 18 6)) at)
+        found-at : {f : Field} → f ≡ fieldAt (now (d .src)) (d .at) (orRemark (only 18 6)) → f ≡ fieldAt (now s) (t .place) (orRemark (only 18 6))
+        found-at e = e ∙ (ap (λ (y : RefT (List ℕ)). fieldAt (now y) (d .at) (orRemark (only 18 6))) src ∙ ap (λ (n : ℕ). fieldAt (now s) n (orRemark (only 18 6))) at)
 
     ends : (d : Reader) (u : Val) (t : NodesRead) (vs ws : List ℕ) (ud : Is (B (κ, tt)) d (u ∷ [])) (is : Is SR t (R′.lowered t ∷ [])) (src : d .src ≡ s) (at : d .at ≡ t .place) (g : Stands (now s) start steps us₁ us₂ vs ws t)
         → t .going ≡ false → Sq W (held d u t vs ws) (runs C Λ En mir-of.turn-1 (anyQ (Turned (d, u, t, vs, ws, ud, is, src, at, g))))
@@ -347,7 +346,7 @@ module _ {M : Type 1} (𝓤 : URA M) (H : Heap 𝓤) (A : Atoms 𝓤) (W : Given
         first ! $ blocks ! $ loops ! 𝓣 Nearer Nearer-wf At turns (d, u, begun, us₁, us₂, ud, begun-is, ed .0 ∙ er .0, ed .1, stands-begin (now s) start steps us₁ us₂)))))))))
 
   walk : Is (ShrSlice (named 0) κ u8) s (v ∷ []) → (𝓣 : Tables 𝓤 H) → Triple 𝓤 (𝓣 .C #fields·reader·new) (New 𝓤 H A mem run) → Triple 𝓤 (𝓣 .C #fields·reader·next) (Next 𝓤 H A mem run)
-      → Triple 𝓤 (𝓣 .C #fields·reader·moved) (Moved 𝓤 H A mem run) → Triple 𝓤 (𝓣 .C #diagram·reader·take-node) (Take 𝓤 H A mem run)
+      → Triple 𝓤 (𝓣 .C #fields·reader·moved) (Moved 𝓤 H A mem run) → Triple 𝓤 (𝓣 .C #diagram·reader·take-nodes) (Take 𝓤 H A mem run)
       → ent 𝓤 (onEntry 𝓤 H A reads.signature (κ, (κ₁, (κ₂, tt))) (q, (q₁, (q₂, tt))) a vals) (WpFn 𝓤 H (𝓣 .C) (𝓣 .Λ) code.function (v ∷ vint w64 start ∷ vint w64 steps ∷ vptr b₁ o₁ ∷ vptr b₂ o₂ ∷ []) Post)
   walk p 𝓣 known-new known-next known-moved known-take =
       qed W ((‵ (flft κ q) ⊛ ‵ (flft κ₁ q₁) ⊛ ‵ (flft κ₂ q₂) ⊛ ‵ ftrue) ∷ ‵ (owns (ShrSlice (named 0) κ u8 ∷ usize ∷ usize ∷ MutRef (named 1) κ₁ TS ∷ MutRef (named 2) κ₂ TN ∷ []) a vals) ∷ []) ∵
@@ -361,7 +360,7 @@ module _ {M : Type 1} (𝓤 : URA M) (H : Heap 𝓤) (A : Atoms 𝓤) (W : Given
 
 module _ {M : Type 1} (𝓤 : URA M) (H : Heap 𝓤) (A : Atoms 𝓤) (W : Given 𝓤 H A) (mem : Memory → SProp 𝓤) (run : Routine → Fun 𝓤) where
   reads-walks : (𝓣 : Tables 𝓤 H) → Triple 𝓤 (𝓣 .C #fields·reader·new) (New 𝓤 H A mem run) → Triple 𝓤 (𝓣 .C #fields·reader·next) (Next 𝓤 H A mem run)
-      → Triple 𝓤 (𝓣 .C #fields·reader·moved) (Moved 𝓤 H A mem run) → Triple 𝓤 (𝓣 .C #diagram·reader·take-node) (Take 𝓤 H A mem run)
+      → Triple 𝓤 (𝓣 .C #fields·reader·moved) (Moved 𝓤 H A mem run) → Triple 𝓤 (𝓣 .C #diagram·reader·take-nodes) (Take 𝓤 H A mem run)
       → Walks 𝓤 H A reads.ended stayed (WpFn 𝓤 H (𝓣 .C) (𝓣 .Λ) code.function) (reads.clauses 𝓤 H A mem run)
   reads-walks 𝓣 known-new known-next known-moved known-take = walked 𝓤 H A reads.ended stayed (reads.clauses 𝓤 H A mem run) (WpFn 𝓤 H (𝓣 .C) (𝓣 .Λ) code.function)
       (λ κs. (slice-vals, (uint-vals w64, (uint-vals w64, (ptr-vals, (ptr-vals, tt))))))
@@ -372,7 +371,7 @@ module _ {M : Type 1} (𝓤 : URA M) (H : Heap 𝓤) (A : Atoms 𝓤) (W : Given
       (are .0) 𝓣 known-new known-next known-moved known-take))
 
 reads-meets : {M : Type 1} (𝓤 : URA M) (H : Heap 𝓤) (A : Atoms 𝓤) → Given 𝓤 H A → (mem : Memory → SProp 𝓤) (run : Routine → Fun 𝓤) (𝓣 : Tables 𝓤 H) → Triple 𝓤 (𝓣 .C #fields·reader·new) (New 𝓤 H A mem run)
-    → Triple 𝓤 (𝓣 .C #fields·reader·next) (Next 𝓤 H A mem run) → Triple 𝓤 (𝓣 .C #fields·reader·moved) (Moved 𝓤 H A mem run) → Triple 𝓤 (𝓣 .C #diagram·reader·take-node) (Take 𝓤 H A mem run)
+    → Triple 𝓤 (𝓣 .C #fields·reader·next) (Next 𝓤 H A mem run) → Triple 𝓤 (𝓣 .C #fields·reader·moved) (Moved 𝓤 H A mem run) → Triple 𝓤 (𝓣 .C #diagram·reader·take-nodes) (Take 𝓤 H A mem run)
     → Meets 𝓤 H A reads.signature (WpFn 𝓤 H (𝓣 .C) (𝓣 .Λ) code.function) (reads.spec 𝓤 H A mem run)
 reads-meets 𝓤 H A W mem run 𝓣 known-new known-next known-moved known-take =
     walk-meets 𝓤 H A reads.ended stayed W (
@@ -396,4 +395,4 @@ read-nodes-spec 𝓤 H 𝓜 𝓖 𝓡 =
     (cited 𝓤 H (New 𝓤 H (𝓖 .A) (𝓜 .mem) (𝓡 .run)) 𝓜 𝓡 code.env #fields·reader·new new-def.routine code.calls-fields·reader·new (new-thm.met 𝓤 H 𝓜 𝓖 𝓡))
     (cited 𝓤 H (Next 𝓤 H (𝓖 .A) (𝓜 .mem) (𝓡 .run)) 𝓜 𝓡 code.env #fields·reader·next next-def.routine code.calls-fields·reader·next (next-thm.met 𝓤 H 𝓜 𝓖 𝓡))
     (cited 𝓤 H (Moved 𝓤 H (𝓖 .A) (𝓜 .mem) (𝓡 .run)) 𝓜 𝓡 code.env #fields·reader·moved moved-def.routine code.calls-fields·reader·moved (moved-thm.met 𝓤 H 𝓜 𝓖 𝓡))
-    (cited 𝓤 H (Take 𝓤 H (𝓖 .A) (𝓜 .mem) (𝓡 .run)) 𝓜 𝓡 code.env #diagram·reader·take-node take-def.routine code.calls-diagram·reader·take-node (take-thm.met 𝓤 H 𝓜 𝓖 𝓡)))
+    (cited 𝓤 H (Take 𝓤 H (𝓖 .A) (𝓜 .mem) (𝓡 .run)) 𝓜 𝓡 code.env #diagram·reader·take-nodes take-def.routine code.calls-diagram·reader·take-nodes (take-thm.met 𝓤 H 𝓜 𝓖 𝓡)))

@@ -43,8 +43,7 @@ use denote.Triple.Table.{entered, cited}
 use denote.Triple.Walked.{says, Stays, stay-none, walkOf, goes-none, Walks, ends-at, walked, walk-meets}
 use denote.Exit.{yes}
 use denote.Triple.Clauses.{ensured, lasts}
-use Rattle.definitions.specs.Fields.{only}
-use Rattle.fields.specs.Remarks.{nextField}
+use Rattle.definitions.specs.Fields.{only, orRemark, fieldAt}
 use Rattle.fields.specs.declared.reader.Reader.{Reader}
 use Rattle.definitions.specs.declared.Field.{Field}
 use Rattle.fields.proofs.reader.Reader as T
@@ -81,7 +80,7 @@ module _ {M : Type 1} (𝓤 : URA M) (H : Heap 𝓤) (A : Atoms 𝓤) (W : Given
   v = sliceVal (d .src .ptr) (length (d .src .now))
 
   abbrev found : Field
-  found = nextField (now (d .src)) (d .at) (only tag len)
+  found = fieldAt (now (d .src)) (d .at) (orRemark (only tag len))
 
   -- the machine values of the arguments
   abbrev at : Vals next.signature (κ, tt)

@@ -1,0 +1,107 @@
+-- `chart::store_step` meets its contract.
+use Prim.Native.Nat.{_<_}
+use native.Mathlib.Omega.{arith}
+use borrow.Author.Needs.{needs}
+use Rattle.chart.proofs.Steps.{step-below, take-bad, take-step}
+use Rattle.chart.proofs.reader.store_step.Statement.{statement}
+use Rattle.chart.proofs.reader.store_step.Tie as tie
+
+-- the places on the way: the step has passed, its values are there, its stages are in one number
+abbrev passed : tie.After-step-of → tie.Else1
+passed c = search
+
+abbrev read : tie.After-ends-of → tie.After-step-of
+read c = search
+
+abbrev start-of : tie.Else1 → tie.Start
+start-of c = search
+
+-- a step that passed has room in the table
+room : (c : tie.Else1) → start-of c .args .read .steps < 1024
+room c = step-below _ _ _ _ _ (c .before .step-fault .ensures) (c .if1 .left)
+
+add-start : tie.Need-add-start
+add-start c = search needs
+
+add-end : tie.Need-add-end
+add-end c = search needs
+
+sub-body : tie.Need-sub-body
+sub-body c = search needs
+
+part-body-start : tie.Need-part-body-start
+part-body-start c = search needs
+
+part-body-end : tie.Need-part-body-end
+part-body-end c = search needs
+
+step-fault-requires : tie.Need-step-fault-requires
+step-fault-requires c κs = search needs
+
+stopped-requires : tie.Need-stopped-requires
+stopped-requires c κs = search needs
+
+returns : tie.Need-returns
+returns c =
+    let judged : tie.After-step-fault = search in
+    let start : tie.Start = search in
+    let stops : tie.Then1 = search in
+    let ends : tie.After-stopped = search in
+    take-bad _ _ _ _ (start .pre) _ (judged .step-fault .ensures) (stops .if1 .taken) _ (ends .stopped .ensures)
+
+step-of-requires : tie.Need-step-of-requires
+step-of-requires c κs = search needs
+
+ends-of-requires : tie.Need-ends-of-requires
+ends-of-requires c κs = search needs
+
+mul-steps : tie.Need-mul-steps
+mul-steps c = omega (arith, room (passed (read c)))
+
+index-1-steps : tie.Need-index-1-steps
+index-1-steps c = search needs
+
+index-2-steps : tie.Need-index-2-steps
+index-2-steps c = omega (arith, room (passed (read c)))
+
+mul-steps-2 : tie.Need-mul-steps-2
+mul-steps-2 c = omega (arith, room (passed (read c)))
+
+index-1-steps-2 : tie.Need-index-1-steps-2
+index-1-steps-2 c = search needs
+
+index-2-steps-2 : tie.Need-index-2-steps-2
+index-2-steps-2 c = omega (arith, room (passed (read c)))
+
+add-t14 : tie.Need-add-t14
+add-t14 c = omega (arith, room (passed (read c)))
+
+returns-2 : tie.Need-returns-2
+returns-2 c =
+    let q = read c in
+    let p = passed q in
+    let s = start-of p in
+    take-step _ _ _ _ (s .pre) _ (p .before .step-fault .ensures) (p .if1 .left) _ (q .step-of .ensures) _ (c .ends-of .ensures) (omega (arith, q .step-of .ok))
+
+pub store-step-spec : {M : Type 1} → statement M
+store-step-spec =
+    tie.close
+    (tie.spec
+    add-start
+    add-end
+    sub-body
+    part-body-start
+    part-body-end
+    step-fault-requires
+    stopped-requires
+    returns
+    step-of-requires
+    ends-of-requires
+    mul-steps
+    index-1-steps
+    index-2-steps
+    mul-steps-2
+    index-1-steps-2
+    index-2-steps-2
+    add-t14
+    returns-2)
