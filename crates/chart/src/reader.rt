@@ -48,7 +48,7 @@ fn stopped(steps: usize, number: u8, place: usize) -> StepsRead
 }
 
 // The step whose field stands whole at the read's place, into the table.
-fn store_step(file: &[u8], read: StepsRead, stages: u16, steps: &mut [[u32; 1024]; 2]) -> StepsRead
+fn put_step(file: &[u8], read: StepsRead, stages: u16, steps: &mut [[u32; 1024]; 2]) -> StepsRead
     requires { ⌜ HasField (now file) (read .place) 2 8 ⌝ }
     ensures { λ r. ⌜ Takes (now (file .entry)) stages read (now (steps .entry)) (now (steps .exit)) r ⌝ }
 {
@@ -76,14 +76,14 @@ fn store_step(file: &[u8], read: StepsRead, stages: u16, steps: &mut [[u32; 1024
 
 // The steps that stand one behind the other from the read's place on, into the table: a loop of its own, so that the
 // compiler keeps what it counts in registers.
-fn store_run(file: &[u8], first: StepsRead, stages: u16, steps: &mut [[u32; 1024]; 2]) -> StepsRead
+fn put_steps(file: &[u8], first: StepsRead, stages: u16, steps: &mut [[u32; 1024]; 2]) -> StepsRead
     requires { ⌜ HasField (now file) (first .place) 2 8 ⌝ }
     ensures { λ r. ⌜ Takes (now (file .entry)) stages first (now (steps .entry)) (now (steps .exit)) r ⌝ }
 {
     let mut read = first;
     let mut here = true;
     while here {
-        read = store_step(file, read, stages, steps);
+        read = put_step(file, read, stages, steps);
         here = goes_on(file, read.going, read.place, 2, 8);
     }
     read
@@ -110,7 +110,7 @@ fn take_steps(
             last: read.last,
             going: true,
         },
-        Field::Whole { .. } => store_run(file, read, stages, steps),
+        Field::Whole { .. } => put_steps(file, read, stages, steps),
     }
 }
 

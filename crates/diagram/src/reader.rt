@@ -75,7 +75,7 @@ fn put_node(
 
 // The nodes that stand one behind the other from the read's place on, into the tables: a loop of its own, so that the
 // compiler keeps what it counts in registers.
-fn put_run(
+fn put_nodes(
     file: &[u8],
     first: NodesRead,
     steps: usize,
@@ -119,7 +119,7 @@ fn take_nodes(
             nodes: read.nodes,
             going: true,
         },
-        Field::Whole { .. } => put_run(file, read, steps, step, inner),
+        Field::Whole { .. } => put_nodes(file, read, steps, step, inner),
     }
 }
 

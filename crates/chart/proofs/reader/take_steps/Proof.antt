@@ -23,8 +23,8 @@ enum-known-found-2 c = search needs
 enum-told-2 : tie.Need-enum-told-2
 enum-told-2 c = search needs
 
-store-run-requires : tie.Need-store-run-requires
-store-run-requires c κs = search whole-has
+put-steps-requires : tie.Need-put-steps-requires
+put-steps-requires c κs = search whole-has
 
 returns : tie.Need-returns
 returns c = search take-laws
@@ -48,7 +48,7 @@ take-steps-spec =
     stopped-requires-2
     enum-known-found-2
     enum-told-2
-    store-run-requires
+    put-steps-requires
     returns
     returns-2
     returns-3

@@ -23,8 +23,8 @@ enum-known-found-2 c = search needs
 enum-told-2 : tie.Need-enum-told-2
 enum-told-2 c = search needs
 
-put-run-requires : tie.Need-put-run-requires
-put-run-requires c κs = search whole-has
+put-nodes-requires : tie.Need-put-nodes-requires
+put-nodes-requires c κs = search whole-has
 
 returns : tie.Need-returns
 returns c = search take-laws
@@ -48,7 +48,7 @@ take-nodes-spec =
     stopped-requires-2
     enum-known-found-2
     enum-told-2
-    put-run-requires
+    put-nodes-requires
     returns
     returns-2
     returns-3

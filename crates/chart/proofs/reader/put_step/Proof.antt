@@ -1,10 +1,10 @@
--- `chart::store_step` meets its contract.
+-- `chart::put_step` meets its contract.
 use Prim.Native.Nat.{_<_}
 use native.Mathlib.Omega.{arith}
 use borrow.Author.Needs.{needs}
 use Rattle.chart.proofs.Steps.{step-below, take-bad, take-step}
-use Rattle.chart.proofs.reader.store_step.Statement.{statement}
-use Rattle.chart.proofs.reader.store_step.Tie as tie
+use Rattle.chart.proofs.reader.put_step.Statement.{statement}
+use Rattle.chart.proofs.reader.put_step.Tie as tie
 
 -- the places on the way: the step has passed, its values are there, its stages are in one number
 abbrev passed : tie.After-step-of → tie.Else1
@@ -83,8 +83,8 @@ returns-2 c =
     let s = start-of p in
     take-step _ _ _ _ (s .pre) _ (p .before .step-fault .ensures) (p .if1 .left) _ (q .step-of .ensures) _ (c .ends-of .ensures) (omega (arith, q .step-of .ok))
 
-pub store-step-spec : {M : Type 1} → statement M
-store-step-spec =
+pub put-step-spec : {M : Type 1} → statement M
+put-step-spec =
     tie.close
     (tie.spec
     add-start

@@ -1,12 +1,12 @@
--- `chart::store_run` meets its contract.
+-- `chart::put_steps` meets its contract.
 use Prim.Native.Nat.{_-_}
 use lib.ListN.{length}
 use borrow.Author.Needs.{needs}
 use Rattle.fields.specs.Scans.{leftOf}
 use Rattle.chart.specs.Turns.{Run}
 use Rattle.chart.proofs.Steps.{run-start, run-next, run-less, run-done}
-use Rattle.chart.proofs.reader.store_run.Statement.{statement}
-use Rattle.chart.proofs.reader.store_run.Tie as tie
+use Rattle.chart.proofs.reader.put_steps.Statement.{statement}
+use Rattle.chart.proofs.reader.put_steps.Tie as tie
 
 abbrev Inv-loop : tie.InvT-loop
 Inv-loop file stages steps₀ read₀ here₀ steps read here = Run file stages read₀ steps₀ steps read here
@@ -17,8 +17,8 @@ abbrev μ-loop : tie.MeasureT-loop
 loop-holds : tie.Need-loop-holds Inv-loop μ-loop
 loop-holds c = let start : tie.Start Inv-loop μ-loop = search in run-start _ _ _ _ (start .pre)
 
-store-step-requires : tie.Need-store-step-requires Inv-loop μ-loop
-store-step-requires c κs =
+put-step-requires : tie.Need-put-step-requires Inv-loop μ-loop
+put-step-requires c κs =
     let turn : tie.In-loop Inv-loop μ-loop = search in
     let head : tie.At-loop Inv-loop μ-loop = search in
     head .loop .inv .has (turn .loop-test .taken)
@@ -29,18 +29,18 @@ goes-on-requires c κs = search needs
 loop-less : tie.Need-loop-less Inv-loop μ-loop
 loop-less c =
     let judged : tie.After-goes-on Inv-loop μ-loop = search in
-    let stored : tie.After-store-step Inv-loop μ-loop = search in
+    let stored : tie.After-put-step Inv-loop μ-loop = search in
     let turn : tie.In-loop Inv-loop μ-loop = search in
     let head : tie.At-loop Inv-loop μ-loop = search in
-    run-less _ _ _ _ _ _ _ _ _ (head .loop .inv) (turn .loop-test .taken) (stored .store-step .ensures) _ (judged .goes-on .ensures)
+    run-less _ _ _ _ _ _ _ _ _ (head .loop .inv) (turn .loop-test .taken) (stored .put-step .ensures) _ (judged .goes-on .ensures)
 
 loop-again : tie.Need-loop-again Inv-loop μ-loop
 loop-again c =
     let judged : tie.After-goes-on Inv-loop μ-loop = search in
-    let stored : tie.After-store-step Inv-loop μ-loop = search in
+    let stored : tie.After-put-step Inv-loop μ-loop = search in
     let turn : tie.In-loop Inv-loop μ-loop = search in
     let head : tie.At-loop Inv-loop μ-loop = search in
-    run-next _ _ _ _ _ _ _ _ _ (head .loop .inv) (turn .loop-test .taken) (stored .store-step .ensures) _ (judged .goes-on .ensures)
+    run-next _ _ _ _ _ _ _ _ _ (head .loop .inv) (turn .loop-test .taken) (stored .put-step .ensures) _ (judged .goes-on .ensures)
 
 returns : tie.Need-returns Inv-loop μ-loop
 returns c =
@@ -48,14 +48,14 @@ returns c =
     let head : tie.At-loop Inv-loop μ-loop = search in
     run-done _ _ _ _ _ _ _ (head .loop .inv) (left .loop-test .left)
 
-pub store-run-spec : {M : Type 1} → statement M
-store-run-spec =
+pub put-steps-spec : {M : Type 1} → statement M
+put-steps-spec =
     tie.close
     (tie.spec
     Inv-loop
     μ-loop
     loop-holds
-    store-step-requires
+    put-step-requires
     goes-on-requires
     loop-less
     loop-again

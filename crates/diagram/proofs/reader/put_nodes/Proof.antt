@@ -1,12 +1,12 @@
--- `diagram::put_run` meets its contract.
+-- `diagram::put_nodes` meets its contract.
 use Prim.Native.Nat.{_-_}
 use lib.ListN.{length}
 use borrow.Author.Needs.{needs}
 use Rattle.fields.specs.Scans.{leftOf}
 use Rattle.diagram.specs.Turns.{Run}
 use Rattle.diagram.proofs.Nodes.{run-start, run-next, run-less, run-done}
-use Rattle.diagram.proofs.reader.put_run.Statement.{statement}
-use Rattle.diagram.proofs.reader.put_run.Tie as tie
+use Rattle.diagram.proofs.reader.put_nodes.Statement.{statement}
+use Rattle.diagram.proofs.reader.put_nodes.Tie as tie
 
 abbrev Inv-loop : tie.InvT-loop
 Inv-loop file steps step₀ inner₀ read₀ here₀ step inner read here = Run file steps read₀ step₀ inner₀ step inner read here
@@ -48,8 +48,8 @@ returns c =
     let head : tie.At-loop Inv-loop μ-loop = search in
     run-done _ _ _ _ _ _ _ _ _ (head .loop .inv) (left .loop-test .left)
 
-pub put-run-spec : {M : Type 1} → statement M
-put-run-spec =
+pub put-nodes-spec : {M : Type 1} → statement M
+put-nodes-spec =
     tie.close
     (tie.spec
     Inv-loop
