@@ -100,13 +100,14 @@ fn take_steps(
     requires { ⌜ found ≡ fieldAt (now file) (read .place) (orRemark (only 2 8)) ⌝ }
     ensures { λ r. ⌜ Takes (now (file .entry)) stages read (now (steps .entry)) (now (steps .exit)) r ⌝ }
 {
+    let count = read.steps;
     match found {
-        Field::Absent => stopped(read.steps, 0, 0),
-        Field::Faulty { number, place } => stopped(read.steps, number, place),
+        Field::Absent => stopped(count, 0, 0),
+        Field::Faulty { number, place } => stopped(count, number, place),
         Field::Passed { end } => StepsRead {
             number: 0,
             place: end,
-            steps: read.steps,
+            steps: count,
             last: read.last,
             going: true,
         },

@@ -110,13 +110,14 @@ fn take_nodes(
         Takes (now (file .entry)) steps read (now (step .entry)) (now (inner .entry)) (now (step .exit)) (now (inner .exit)) r
         ⌝ }
 {
+    let count = read.nodes;
     match found {
-        Field::Absent => stopped(read.nodes, 0, 0),
-        Field::Faulty { number, place } => stopped(read.nodes, number, place),
+        Field::Absent => stopped(count, 0, 0),
+        Field::Faulty { number, place } => stopped(count, number, place),
         Field::Passed { end } => NodesRead {
             number: 0,
             place: end,
-            nodes: read.nodes,
+            nodes: count,
             going: true,
         },
         Field::Whole { .. } => put_nodes(file, read, steps, step, inner),
