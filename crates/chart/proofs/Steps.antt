@@ -1,14 +1,12 @@
 -- The walk over the steps: one law for each way out of a turn, and what the turns come to.
 -- Assumes nothing.
-use Prim.Native.Nat.{ℕ, _+_, _-_, _*_, _<_}
+use Prim.Native.Nat.{ℕ, _+_, _-_, _<_}
 use mathlib.Core.Path.{_≡_, refl, sym, _∙_, ap, subst}
 use mathlib.Core.Bool.{Bool, true, false}
 use mathlib.Core.List.{List, [], _∷_, _++_}
 use lib.ListN.{length, length-append}
 use lib.Seq.{getD-append-seam}
 use native.Mathlib.Omega.{arith}
-use mir.Val.{Fits}
-use mir.Syntax.{w64}
 use Rattle.definitions.specs.Fields.{part, only, orRemark, fieldAt, stopped}
 use Rattle.definitions.specs.Charts.{ChartStep, noStep, stepFault, stepOf, lastFrom, stepFaultAfter, stepGrammar, scanSteps}
 use Rattle.definitions.specs.declared.Field.{Field}
@@ -27,15 +25,8 @@ use Rattle.chart.specs.Turns.{SoFar, Stands, Takes, Run}
 use Rattle.chart.specs.declared.reader.StepsRead.{StepsRead}
 
 -- a step that passes has room in the tables
-module _ (v stages last count : ℕ) (b : List ℕ) (judged : v ≡ stepFault stages last count b) (passes : v ≡ 0) where
-  pub step-below : count < 1024
-  step-below = step-fits stages last count b (sym passes ∙ judged) .below
-
-  pub step-place : Fits w64 (count * 4)
-  step-place = record { fits = omega (arith, step-below) }
-
-  pub step-more : Fits w64 (count + 1)
-  step-more = record { fits = omega (arith, step-below) }
+pub step-below : (v stages last count : ℕ) (b : List ℕ) → v ≡ stepFault stages last count b → v ≡ 0 → count < 1024
+step-below v stages last count b judged passes = step-fits stages last count b (sym passes ∙ judged) .below
 
 -- the last of some steps, with one more
 last-grown : (before : List ChartStep) (x : ChartStep) → lastFrom (before ++ x ∷ []) ≡ x .from
@@ -190,5 +181,3 @@ pub take-nearer : (s : List ℕ) (stages : ℕ) (packed packed′ : List (List �
 take-nearer s stages packed packed′ t r going e = rw going (left-less (r .going) (length s - r .place) (length s - t .place) (e .nearer))
 
 pub ruleset take-laws = (take-done, take-faulty, take-passed)
-
-pub ruleset step-laws = (step-below, step-place, step-more, take-bad, take-step)

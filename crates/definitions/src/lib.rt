@@ -52,7 +52,7 @@ pub struct Answer {
     pub number: u32,
     // The file at fault: 1 the chart, 2 the diagram, 0 neither.
     pub file: u32,
-    // The byte position of the faulty field's tag.
+    // The byte position of the faulty field's tag; of a file that is too long, that of its first byte too many.
     pub place: usize,
     // What the plan costs, in nanoseconds.
     pub cost: u32,

@@ -7,8 +7,6 @@ use mathlib.Core.List.{List, [], _∷_, _++_, map, append-nil, append-assoc, map
 use lib.ListN.{length, getD, take, set, length-append, length-set, List·getD-map}
 use lib.Seq.{getD-append-add, getD-take, length-take-le, take-suc-set}
 use native.Mathlib.Omega.{arith}
-use mir.Val.{Fits}
-use mir.Syntax.{w64}
 use Rattle.definitions.specs.Fields.{two, part, only, orRemark, fieldAt, stopped}
 use Rattle.definitions.specs.Diagrams.{InnerNode, noNode, nodeFault, innerNodeOf, nodeFaultAfter, nodeGrammar, scanNodes}
 use Rattle.definitions.specs.declared.Field.{Field}
@@ -67,12 +65,6 @@ nodes-start s first steps step words = record {
 module _ (v steps count : ℕ) (stepAt : ℕ → ℕ) (b : List ℕ) (judged : v ≡ nodeFault steps stepAt count b) (passes : v ≡ 0) where
   node-room : NodeFits steps stepAt count b
   node-room = node-fits steps stepAt count b (sym passes ∙ judged)
-
-  pub node-more : Fits w64 (count + 1)
-  node-more = omega (arith, node-room .few)
-
-  pub node-own : Fits w64 (count + 2)
-  node-own = omega (arith, node-room .few)
 
   pub node-below : count + 2 < 512
   node-below = omega (arith, node-room .few)
@@ -227,5 +219,3 @@ pub take-nearer : (s : List ℕ) (steps : ℕ) (step words step′ words′ : Li
 take-nearer s steps step words step′ words′ t r going e = rw going (left-less (r .going) (length s - r .place) (length s - t .place) (e .nearer))
 
 pub ruleset take-laws = (take-done, take-faulty, take-passed)
-
-pub ruleset node-laws = (node-own, node-below, node-more)

@@ -254,13 +254,10 @@ pub ruleset tell-laws = (tells-small, tells-late)
 
 pub ruleset goes-laws = (goes-on, goes-not)
 
--- of a whole field whose length is known: its body's ends are in order and inside the file, it is as long as that, and the rest of the file after it is shorter
+-- of a whole field whose length is known: its body's ends are in order, and it is as long as that
 module _ (s : List ℕ) (at : ℕ) (kind : ℕ → Kind) (p a e len : ℕ) (w : Within s at kind p a e) (long : two s (at + 1) ≡ len) where
   pub whole-order : a ≤ e
   whole-order = omega (arith, w .ends)
 
   pub whole-length : length (part s a e) ≡ len
   whole-length = simp (length-take, length-drop) (omega (arith, w .ends, w .inside))
-
-  pub whole-less : length s - e < length s - at
-  whole-less = omega (arith, w .starts, w .ends, w .inside)

@@ -9,11 +9,11 @@ use lib.ListN.{length, getD}
 use native.Mathlib.Omega.{arith}
 use borrow.Author.Tests.{leb-true, leb-false, le-leb, lt-leb, lt-ltb}
 use Rattle.definitions.specs.Basics.{pick}
-use Rattle.definitions.specs.Fields.{two, part, Kind, passedOver, isForeign, isPassedOver, lengthFits, isRemark, only, orRemark, fieldAt}
+use Rattle.definitions.specs.Fields.{two, Kind, passedOver, isForeign, isPassedOver, lengthFits, isRemark, only, orRemark, fieldAt}
 use Rattle.definitions.specs.declared.Field.{Field}
 use Rattle.definitions.specs.declared.Field.the-variants.{Faulty, Passed, Whole}
 use Rattle.theory.specs.Basics.{true-not-false}
-use Rattle.fields.specs.Positions.{field-short, field-passed, Within, within, only-known, only-length, HasField, only-has, whole-order, whole-length, whole-less}
+use Rattle.fields.specs.Positions.{field-short, field-passed, Within, within, only-known, only-length, HasField, only-has}
 
 -- a remark's header stands at a place
 unfoldable pub remarkAt : List ℕ → ℕ → Bool
@@ -119,7 +119,6 @@ module _ (s : List ℕ) (at tag len : ℕ) where
         long = long;
       }
 
-  -- what stands after it is shorter; its body
-  module _ (w : HasField s at tag len) where
-    pub has-less : length s - (at + 3 + len) < length s - at
-    has-less = omega (arith, w .ends)
+  -- the rest of the file after it is shorter
+  pub has-less : HasField s at tag len → length s - (at + 3 + len) < length s - at
+  has-less w = omega (arith, w .ends)
