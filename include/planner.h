@@ -45,7 +45,7 @@ enum {
     PLANNER_LONG = 9     /* the file has more than PLANNER_LONGEST_FILE bytes */
 };
 
-/* Marks of a file. Where no field is at fault, file and place are 0. Marks from 3 on are coming with the numbers. */
+/* Marks of a file. Where no file is at fault, file and place are 0. Marks from 3 on are coming with the numbers. */
 enum {
     PLANNER_FILE_NONE = 0,
     PLANNER_FILE_CHART = 1,

@@ -14,9 +14,9 @@ pub const UNREACHED: u32 = u32::MAX;
 pub struct Answer {
     /// 0 accepted, any other number refused.
     pub number: usize,
-    /// The mark of the file at fault: 1 the chart, 2 the diagram; 0 where no field is.
+    /// The mark of the file at fault: 1 the chart, 2 the diagram; 0 where neither is.
     pub file: usize,
-    /// The byte position of the faulty field.
+    /// The byte position of the faulty field, or of the first byte too many (9).
     pub place: usize,
     /// The plan's cost in ns.
     pub cost: usize,

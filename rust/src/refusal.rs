@@ -24,8 +24,9 @@ impl File {
     }
 }
 
-/// The cause of a refusal, with the place of the faulty field: the byte position of its tag. Later
-/// versions of the library add causes, with numbers from 10 on.
+/// The cause of a refusal. Where a file is at fault, with the place: the byte position of the faulty
+/// field's tag, or of the first byte too many. Later versions of the library add causes, with numbers
+/// from 10 on.
 #[derive(Clone, Copy, Debug, PartialEq, Eq, Hash)]
 #[non_exhaustive]
 pub enum Refusal {
@@ -94,8 +95,7 @@ impl Refusal {
         }
     }
 
-    /// The faulty field's file and place; none where no field of either file is at fault, as under 7
-    /// and 8.
+    /// The file at fault and the place; none where neither file is at fault, as under 7 and 8.
     pub fn field_place(&self) -> Option<(File, usize)> {
         match *self {
             Refusal::Cut { file, place }
