@@ -12,7 +12,7 @@ use Rattle.definitions.specs.Charts.{ChartStep, noStep, stepFault, stepOf, last
 use Rattle.definitions.specs.declared.Field.{Field}
 use Rattle.definitions.specs.declared.Field.the-variants.{Absent, Faulty, Passed, Whole}
 use Rattle.theory.specs.Basics.{true-not-false}
-use Rattle.fields.specs.Positions.{passed-within, HasField, GoesOn}
+use Rattle.fields.specs.Positions.{passed-within, HasField, GoesOn, goes-has}
 use Rattle.fields.specs.Remarks.{has-whole, has-less}
 use Rattle.fields.specs.Scans.{leftOf, left-less, reading-start, reading-done, reading-faulty, reading-passed, reading-bad, reading-step}
 use Rattle.chart_fields.specs.Bodies.{stepBody}
@@ -148,20 +148,23 @@ module _ (s : List ℕ) (stages : ℕ) (t : StepsRead) (packed₁ : List (List �
 
   module _ (packed packed′ : List (List ℕ)) (z r : StepsRead) (h : Bool) (run : Run s stages t packed₁ packed z h) (here : h ≡ true) (takes : Takes s stages z packed packed′ r)
       (n : Bool) (goes : GoesOn n (r .going) s (r .place) 2 8) where
+    was : n ≡ true → (r .going ≡ true) × HasField s (r .place) 2 8
+    was e = goes-has n (r .going) s (r .place) 2 8 goes e
+
     turned : (first : ℕ) (packed₀ : List (List ℕ)) → SoFar s first stages packed₀ packed₁ (t .place) (t .last) (t .steps) → Stands s first stages packed₀ packed′ r
     turned first packed₀ sofar = takes .stands first packed₀ (run .sofar here first packed₀ sofar)
 
     pub run-next : Run s stages t packed₁ packed′ r n
     run-next = record {
-      sofar = λ e first packed₀ sofar. turned first packed₀ sofar .goes (goes .has e .0);
+      sofar = λ e first packed₀ sofar. turned first packed₀ sofar .goes (was e .0);
       stands = λ e. turned;
-      has = λ e. goes .has e .1;
-      nearer = λ e. omega (arith, run .nearer here, takes .nearer (goes .has e .0));
+      has = λ e. was e .1;
+      nearer = λ e. omega (arith, run .nearer here, takes .nearer (was e .0));
       less = λ e g. omega (arith, run .nearer here, takes .nearer g);
     }
 
     pub run-less : leftOf n (length s - r .place) < leftOf h (length s - z .place)
-    run-less = rw here (left-less n (length s - r .place) (length s - z .place) (λ e. takes .nearer (goes .has e .0)))
+    run-less = rw here (left-less n (length s - r .place) (length s - z .place) (λ e. takes .nearer (was e .0)))
 
   pub run-done : (packed : List (List ℕ)) (r : StepsRead) (h : Bool) → Run s stages t packed₁ packed r h → h ≡ false → Takes s stages t packed₁ packed r
   run-done packed r h run e = record { nearer = run .less e; stands = run .stands e }

@@ -29,7 +29,7 @@ pub record Stands (s : List ℕ) (first stages : ℕ) (packed₀ packed : List (
   pub goes : r .going ≡ true → SoFar s first stages packed₀ packed (r .place) (r .last) (r .steps)
   pub over : r .going ≡ false → Over s first stages packed₀ packed r
 
--- one turn, from t to r
+-- from t to r, by one field or by a run of them
 pub record Takes (s : List ℕ) (stages : ℕ) (t : StepsRead) (packed packed′ : List (List ℕ)) (r : StepsRead) : Type 0 where
   pub nearer : r .going ≡ true → length s - r .place < length s - t .place
   pub stands : (first : ℕ) (packed₀ : List (List ℕ)) → SoFar s first stages packed₀ packed (t .place) (t .last) (t .steps) → Stands s first stages packed₀ packed′ r

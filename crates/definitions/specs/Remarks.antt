@@ -65,6 +65,10 @@ remarks =
     -- before the head
     ∷ (chartRefusal (128 ∷ 0 ∷ 0 ∷ headBytes 5 0 4), 2 ∷ 0 ∷ [])
     ∷ (rulesRefusal (128 ∷ 0 ∷ 0 ∷ rootBytes 1) 6, 2 ∷ 0 ∷ [])
+    -- there with a cut body, and with a cut header
+    ∷ (chartRefusal (128 ∷ 2 ∷ 0 ∷ 7 ∷ []), 2 ∷ 0 ∷ [])
+    ∷ (rulesRefusal (128 ∷ 2 ∷ 0 ∷ 7 ∷ []) 6, 2 ∷ 0 ∷ [])
+    ∷ (chartRefusal (128 ∷ 0 ∷ []), 1 ∷ 0 ∷ [])
     -- a fault behind a remark, at its own place: a step, a node, a second head
     ∷ (after (field 128 (7 ∷ 7 ∷ []) ++ stepBytes (st 1 1 7)), 5 ∷ 14 ∷ [])
     ∷ (afterRoot (field 128 [] ++ nodeBytes (nd 0 2 1)), 6 ∷ 8 ∷ [])
@@ -122,11 +126,11 @@ module _ (s : List ℕ) (long : longest < length s) where
 
   long-chart-read : readChart s ≡ chartRefused 9 longest
   unfolding readChart onField
-  long-chart-read = rw (long-first (only 1 6))
+  long-chart-read = rw (long-first _)
 
   long-rules-read : (steps : ℕ) → readDiagram s steps ≡ diagramRefused 9 longest
   unfolding readDiagram onField
-  long-rules-read steps = rw (long-first (only 17 2))
+  long-rules-read steps = rw (long-first _)
 
   -- the chart's length is judged before its fields, and before the diagram
   pub long-chart : (rules : List ℕ) → readFiles s rules ≡ refused 9 1 longest

@@ -34,11 +34,11 @@ pub enum Field {
         number: u8,
         place: usize,
     },
-    // A field that is passed over is whole: where it ends and the next field is due.
+    // A whole field that is passed over: where it ends and the next field is due.
     Passed {
         end: usize,
     },
-    // A field that holds something is whole: the place of its tag, where its body starts, and where it ends and the next field is due.
+    // Any other whole field: the place of its tag, where its body starts, and where it ends and the next field is due.
     Whole {
         place: usize,
         start: usize,

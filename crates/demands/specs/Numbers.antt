@@ -11,6 +11,7 @@ use Rattle.definitions.specs.Basics.{pick}
 use Rattle.definitions.specs.Fields.{two, part, Kind, only, orRemark, fieldAt, firstField, onField, Grammar, Scan, stopped, scan}
 use Rattle.definitions.specs.Charts.{ChartRead, headFault, stepFault, lastFrom, chartRefused, withSteps, stepGrammar, scanSteps, readChart}
 use Rattle.definitions.specs.Diagrams.{InnerNode, noNode, nodeFault, DiagramRead, diagramRefused, withNodes, nodeGrammar, scanNodes, readDiagram}
+use Rattle.definitions.specs.Answers.{Load, ready, refused, readFiles}
 use Rattle.definitions.specs.declared.Field.{Field}
 use Rattle.definitions.specs.declared.Field.the-variants.{Absent, Faulty, Passed, Whole}
 use Rattle.theory.specs.Choices.{both}
@@ -127,3 +128,12 @@ rules-own s steps = go (firstField s (only 17 2)) (first-own s (only 17 2))
     go (Whole place a e) f =
         rooted (two (part s a e) 0) (scanNodes s steps e)
         (scan-own s (nodeGrammar steps) (λ before tag b. node-own steps (λ r. getD before (r - 2) noNode .step) (length before) b) (length s) e [])
+
+-- so neither are both
+abbrev pub OwnLoad : Load → Type 0
+OwnLoad (ready c d) = Unit {0}
+OwnLoad (refused number file place) = Own number
+
+pub files-own : (chart rules : List ℕ) → OwnLoad (readFiles chart rules)
+unfolding readFiles
+files-own chart rules = both OwnLoad _ (chart-own chart) (both OwnLoad _ (rules-own rules (length (readChart chart .chart .steps))) tt)

@@ -12,7 +12,7 @@ use Rattle.definitions.specs.Diagrams.{InnerNode, noNode, nodeFault, innerNodeO
 use Rattle.definitions.specs.declared.Field.{Field}
 use Rattle.definitions.specs.declared.Field.the-variants.{Absent, Faulty, Passed, Whole}
 use Rattle.theory.specs.Basics.{true-not-false, rest-kept}
-use Rattle.fields.specs.Positions.{passed-within, HasField, GoesOn}
+use Rattle.fields.specs.Positions.{passed-within, HasField, GoesOn, goes-has}
 use Rattle.fields.specs.Remarks.{has-whole, has-less}
 use Rattle.fields.specs.Scans.{leftOf, left-less, reading-start, reading-done, reading-faulty, reading-passed, reading-bad, reading-step}
 use Rattle.diagram_fields.specs.Words.{wordOf}
@@ -187,20 +187,23 @@ module _ (s : List ℕ) (steps : ℕ) (t : NodesRead) (step₁ words₁ : List �
 
   module _ (step words step′ words′ : List ℕ) (z r : NodesRead) (h : Bool) (run : Run s steps t step₁ words₁ step words z h) (here : h ≡ true)
       (takes : Takes s steps z step words step′ words′ r) (n : Bool) (goes : GoesOn n (r .going) s (r .place) 18 6) where
+    was : n ≡ true → (r .going ≡ true) × HasField s (r .place) 18 6
+    was e = goes-has n (r .going) s (r .place) 18 6 goes e
+
     turned : (first : ℕ) (step₀ words₀ : List ℕ) → SoFar s first steps step₀ words₀ step₁ words₁ (t .place) (t .nodes) → Stands s first steps step₀ words₀ step′ words′ r
     turned first step₀ words₀ sofar = takes .stands first step₀ words₀ (run .sofar here first step₀ words₀ sofar)
 
     pub run-next : Run s steps t step₁ words₁ step′ words′ r n
     run-next = record {
-      sofar = λ e first step₀ words₀ sofar. turned first step₀ words₀ sofar .goes (goes .has e .0);
+      sofar = λ e first step₀ words₀ sofar. turned first step₀ words₀ sofar .goes (was e .0);
       stands = λ e. turned;
-      has = λ e. goes .has e .1;
-      nearer = λ e. omega (arith, run .nearer here, takes .nearer (goes .has e .0));
+      has = λ e. was e .1;
+      nearer = λ e. omega (arith, run .nearer here, takes .nearer (was e .0));
       less = λ e g. omega (arith, run .nearer here, takes .nearer g);
     }
 
     pub run-less : leftOf n (length s - r .place) < leftOf h (length s - z .place)
-    run-less = rw here (left-less n (length s - r .place) (length s - z .place) (λ e. takes .nearer (goes .has e .0)))
+    run-less = rw here (left-less n (length s - r .place) (length s - z .place) (λ e. takes .nearer (was e .0)))
 
   pub run-done : (step words : List ℕ) (r : NodesRead) (h : Bool) → Run s steps t step₁ words₁ step words r h → h ≡ false → Takes s steps t step₁ words₁ step words r
   run-done step words r h run e = record { nearer = run .less e; stands = run .stands e }

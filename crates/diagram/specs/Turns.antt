@@ -36,7 +36,7 @@ pub record SoFar (s : List ℕ) (first steps : ℕ) (step₀ words₀ step words
   pub few : count ≤ 510
   pub halfway : Room step₀ → Halfway s first steps step₀ words₀ step words at count
 
--- the walk is over: the answer, and what the tables hold
+-- the walk is over: the answer, and what the tables hold. (The table of steps is said for the contract's sake: nobody reads it then)
 pub record Over (s : List ℕ) (first steps : ℕ) (step₀ words₀ step words : List ℕ) (r : NodesRead) : Type 0 where
   pub few : r .nodes ≤ 510
   pub answer : Room step₀ → r ≡ nodesAnswer (scanNodes s steps first)
@@ -48,7 +48,7 @@ pub record Stands (s : List ℕ) (first steps : ℕ) (step₀ words₀ step word
   pub goes : r .going ≡ true → SoFar s first steps step₀ words₀ step words (r .place) (r .nodes)
   pub over : r .going ≡ false → Over s first steps step₀ words₀ step words r
 
--- one turn, from t to r
+-- from t to r, by one field or by a run of them
 pub record Takes (s : List ℕ) (steps : ℕ) (t : NodesRead) (step words step′ words′ : List ℕ) (r : NodesRead) : Type 0 where
   pub nearer : r .going ≡ true → length s - r .place < length s - t .place
   pub stands : (first : ℕ) (step₀ words₀ : List ℕ) → SoFar s first steps step₀ words₀ step words (t .place) (t .nodes)

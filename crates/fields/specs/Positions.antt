@@ -74,9 +74,8 @@ numbered s at kind =
     (both Numbered (ltb (length s - at - 3) (two s (at + 1))) (omega arith)
     (both Numbered (isPassedOver (kind (getD s at 0))) tt tt)))))
 
--- a field stands at its place, its body inside the file, right after its header, with a length that its kind may have
+-- a body stands inside the file, right after its header, with a length that its kind may have
 pub record Within (s : List ℕ) (at : ℕ) (kind : ℕ → Kind) (p a e : ℕ) : Type 0 where
-  pub stands : p ≡ at
   pub starts : a ≡ at + 3
   pub ends : e ≡ a + two s (at + 1)
   pub inside : e ≤ length s
@@ -106,7 +105,6 @@ within s at kind place a e p =
     let ea : a ≡ at + 3 = cc (p6 .1) in
     let ee : e ≡ at + 3 + len = cc (p6 .1) in
     record {
-      stands = cc (p6 .1);
       starts = ea;
       ends = omega arith;
       inside = omega (arith, leb-false (length s) at (p1 .0), ltb-false (length s - at) 3 (p2 .0), ltb-false (length s - at - 3) len (p5 .0));
@@ -188,16 +186,20 @@ pub record Tells (r : Bool) (s : List ℕ) (at tag len : ℕ) : Type 0 where
 
 -- r says whether a walk goes on, and with such a field
 pub record GoesOn (r going : Bool) (s : List ℕ) (at tag len : ℕ) : Type 0 where
-  pub has : r ≡ true → (going ≡ true) × HasField s at tag len
-  pub lacks : r ≡ false → going ≡ true → HasField s at tag len → ⊥
+  pub goes : going ≡ true → Tells r s at tag len
+  pub stops : going ≡ false → r ≡ false
+
+pub goes-has : (r going : Bool) (s : List ℕ) (at tag len : ℕ) → GoesOn r going s at tag len → r ≡ true → (going ≡ true) × HasField s at tag len
+goes-has r true s at tag len g e = (refl, g .goes refl .has e)
+goes-has r false s at tag len g e = absurd (true-not-false (sym e ∙ g .stops refl))
 
 -- with the tests of the code as premises
 module _ (s : List ℕ) (at tag len : ℕ) where
   pub goes-on : (going : Bool) → going ≡ true → (r : Bool) → Tells r s at tag len → GoesOn r going s at tag len
-  goes-on going g r t = record { has = λ e. (g, t .has e); lacks = λ e h. t .lacks e }
+  goes-on going g r t = record { goes = λ e. t; stops = λ e. absurd (true-not-false (sym g ∙ e)) }
 
   pub goes-not : (going : Bool) → going ≡ false → GoesOn false going s at tag len
-  goes-not going g = record { has = λ e. absurd (true-not-false (sym e)); lacks = λ e h w. true-not-false (sym h ∙ g) }
+  goes-not going g = record { goes = λ e. absurd (true-not-false (sym e ∙ g)); stops = λ e. refl }
 
   tells-short : (at + (3 + len) ≤ length s → ⊥) → Tells false s at tag len
   tells-short h = record { has = λ e. absurd (true-not-false (sym e)); lacks = λ e w. h (w .ends) }

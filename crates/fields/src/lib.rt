@@ -1,4 +1,4 @@
-// Tagged fields: the first field of a file, and a reader that walks over the others.
+// Tagged fields: the first field of a file, and a reader of the others, remarks and what the file holds.
 mod look;
 pub mod reader;
 

@@ -125,7 +125,7 @@ fn is_remark(s: &[u8], at: usize) -> bool
     REMARK <= s[at]
 }
 
-// The remark whose header stands at a place: it is passed over, or its body is cut (1). The other tags do not matter.
+// The remark whose header stands at a place: it is passed over, or its body is cut (1), whatever the other tags mean there.
 fn remark_at(s: &[u8], at: usize) -> Field
     requires { ⌜ remarkAt (now s) at ≡ true ⌝ }
     ensures { λ r. ⌜ ((kind : ℕ → Kind) → r ≡ fieldAt (now (s .entry)) at (orRemark kind)) ⌝ }
