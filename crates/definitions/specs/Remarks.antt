@@ -19,7 +19,7 @@ use Rattle.definitions.specs.Marked.{st, nd, chart, rules}
 use Rattle.definitions.specs.Examples.{alike, rooted, chartRefusal, rulesRefusal, loadRefusal, whole-chart}
 use Rattle.definitions.specs.declared.Field.the-variants.{Faulty}
 
--- a remark before each field after the head, and one at the end, by the tag of the first
+-- remarks of the first tag before each field after the head, and one of the last tag at the end
 abbrev noted : List (List ℕ) → List ℕ
 noted fields = each (λ f. field 128 [] ++ f) fields ++ field 255 (2 ∷ 8 ∷ 0 ∷ [])
 
@@ -120,7 +120,7 @@ unfolding fullFiles pick only orRemark fieldAt firstField onField scan headFault
 full-files-hold = refl
 
 module _ (s : List ℕ) (long : longest < length s) where
-  long-first : (kind : ℕ → Kind) → firstField s kind ≡ Faulty 9 longest
+  pub long-first : (kind : ℕ → Kind) → firstField s kind ≡ Faulty 9 longest
   unfolding firstField pick
   long-first kind = rw (lt-leb (length s) longest long)
 
