@@ -30,7 +30,7 @@ extern "C" {
 /* Numbers of an answer: accepted, or the cause of the refusal. The chart is looked at before the diagram, each for its
  * length and then from its front; then the space; then whether there is a plan.
  *
- * Numbers from 10 on are coming: every number but PLANNER_ACCEPTED is a refusal, and a switch over them needs a default
+ * Numbers from 12 on are coming: every number but PLANNER_ACCEPTED is a refusal, and a switch over them needs a default
  * branch. */
 enum {
     PLANNER_ACCEPTED = 0,
@@ -38,11 +38,13 @@ enum {
     PLANNER_TAG = 2,     /* empty file, a tag that is not of this file, the head not first or there again */
     PLANNER_LENGTH = 3,  /* the field's length is not that of its tag */
     PLANNER_HEAD = 4,    /* the chart's head breaks a limit */
-    PLANNER_STEP = 5,    /* a step breaks a limit; there is a 1,025th step */
+    PLANNER_STEP = 5,    /* there is a 1,025th step; a step leaves a stage below that of the step before */
     PLANNER_NODE = 6,    /* an inner node breaks a limit; there is a 511th; the root is no node */
     PLANNER_SPACE = 7,   /* a work slice or the plan slice is too short */
     PLANNER_NO_PLAN = 8, /* no legal plan exists */
-    PLANNER_LONG = 9     /* the file has more than PLANNER_LONGEST_FILE bytes */
+    PLANNER_LONG = 9,    /* the file has more than PLANNER_LONGEST_FILE bytes */
+    PLANNER_STAGES = 10, /* a step does not lead to a higher stage of the chart */
+    PLANNER_COST = 11    /* a step's cost is beyond 1,000,000 */
 };
 
 /* Marks of a file. Where no file is at fault, file and place are 0. Marks from 3 on are coming with the numbers. */
@@ -71,8 +73,8 @@ enum {
  */
 typedef struct planner_answer {
     size_t number; /* PLANNER_ACCEPTED or the cause, as the call returns it */
-    size_t file;   /* 1 to 6 and 9: the file at fault */
-    size_t place;  /* 1 to 6: the byte position of the faulty field's tag; 9: PLANNER_LONGEST_FILE */
+    size_t file;   /* the file at fault, 0 where none is */
+    size_t place;  /* in it, the byte position of the faulty field's tag; under 9 PLANNER_LONGEST_FILE */
     size_t cost;   /* the plan's cost in ns */
     size_t length; /* the plan's steps */
     size_t count;  /* sweep: reached pairs; guided search: settled pairs; also under 8 */
@@ -80,7 +82,7 @@ typedef struct planner_answer {
 
 /* The entries that the slices of any search need for two files. */
 typedef struct planner_space {
-    size_t number; /* PLANNER_ACCEPTED, 1 to 6 or 9 */
+    size_t number; /* PLANNER_ACCEPTED or the refusal of a file: never 7 or 8 */
     size_t file;   /* as in an answer */
     size_t place;
     size_t work;   /* entries of each work slice: stage count x N; 0 where a file is refused */

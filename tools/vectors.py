@@ -75,8 +75,14 @@ def read_chart(content):
                 raise Refused(4, 1, 0)
             continue
         source, target, cost = two(body, 0), two(body, 2), int.from_bytes(body[4:8], "little")
-        if len(steps) == 1024 or not source < target < stages or cost > 1000000 or steps and source < steps[-1][0]:
+        if len(steps) == 1024:
             raise Refused(5, 1, place)
+        if not source < target < stages:
+            raise Refused(10, 1, place)
+        if steps and source < steps[-1][0]:
+            raise Refused(5, 1, place)
+        if cost > 1000000:
+            raise Refused(11, 1, place)
         steps.append((source, target, cost))
     return Chart(stages, start, end, tuple(steps))
 

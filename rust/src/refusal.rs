@@ -26,7 +26,7 @@ impl File {
 
 /// The cause of a refusal. Where a file is at fault, with the place: the byte position of the faulty
 /// field's tag, or of the first byte too many. Later versions of the library add causes, with numbers
-/// from 10 on.
+/// from 12 on.
 #[derive(Clone, Copy, Debug, PartialEq, Eq, Hash)]
 #[non_exhaustive]
 pub enum Refusal {
@@ -38,7 +38,7 @@ pub enum Refusal {
     Length { file: File, place: usize },
     /// 4: the chart's head breaks a limit.
     Head { file: File, place: usize },
-    /// 5: a step breaks a limit, or there is a 1,025th step.
+    /// 5: there is a 1,025th step, or a step leaves a stage below that of the step before.
     Step { file: File, place: usize },
     /// 6: an inner node breaks a limit, there is a 511th, or the root is no node.
     Node { file: File, place: usize },
@@ -49,6 +49,10 @@ pub enum Refusal {
     NoPlan { count: usize },
     /// 9: the file has more than [`LONGEST_FILE`](crate::LONGEST_FILE) bytes; that is the place.
     Long { file: File, place: usize },
+    /// 10: a step doesn't lead to a higher stage of the chart.
+    Stages { file: File, place: usize },
+    /// 11: a step's cost is beyond 1,000,000.
+    Cost { file: File, place: usize },
     /// A number that this crate has no name for, or one of a file with a mark that it has no name
     /// for: the linked library is newer. The three entries are the answer's own.
     Other { number: usize, file: usize, place: usize },
@@ -69,6 +73,8 @@ impl Refusal {
             (7, _) => Refusal::Space,
             (8, _) => Refusal::NoPlan { count },
             (9, Some(file)) => Refusal::Long { file, place },
+            (10, Some(file)) => Refusal::Stages { file, place },
+            (11, Some(file)) => Refusal::Cost { file, place },
             _ => Refusal::Other { number, file: mark, place },
         })
     }
@@ -79,7 +85,7 @@ impl Refusal {
         Refusal::of(&Answer { number, file, place, ..Answer::default() })
     }
 
-    /// The refusal's number: 1 to 9, or that of [`Refusal::Other`].
+    /// The refusal's number: 1 to 11, or that of [`Refusal::Other`].
     pub fn number(&self) -> usize {
         match *self {
             Refusal::Cut { .. } => 1,
@@ -91,6 +97,8 @@ impl Refusal {
             Refusal::Space => 7,
             Refusal::NoPlan { .. } => 8,
             Refusal::Long { .. } => 9,
+            Refusal::Stages { .. } => 10,
+            Refusal::Cost { .. } => 11,
             Refusal::Other { number, .. } => number,
         }
     }
@@ -104,7 +112,9 @@ impl Refusal {
             | Refusal::Head { file, place }
             | Refusal::Step { file, place }
             | Refusal::Node { file, place }
-            | Refusal::Long { file, place } => Some((file, place)),
+            | Refusal::Long { file, place }
+            | Refusal::Stages { file, place }
+            | Refusal::Cost { file, place } => Some((file, place)),
             Refusal::Other { file, place, .. } => File::of(file).map(|file| (file, place)),
             Refusal::Space | Refusal::NoPlan { .. } => None,
         }

@@ -45,29 +45,33 @@ fn the_plan_of_the_example() {
 fn every_refusal() {
     let (chart, rules) = example();
     let bad_head = chart_file([0, 0, 0], &[]);
-    let bad_step = chart_file([5, 0, 4], &[(0, 1, 1_000_001)]);
+    let falling = chart_file([5, 0, 4], &[(1, 2, 7), (0, 1, 7)]);
+    let no_stage = chart_file([5, 0, 4], &[(0, 5, 7)]);
+    let dear = chart_file([5, 0, 4], &[(0, 1, 1_000_001)]);
     let bad_node = rules_file(2, &[[6, 0, 1]]);
     type Case<'a> = (&'a [u8], &'a [u8], Refusal, &'a [u8]);
     let no = rules_file(0, &[]);
     let long = noted(&rules, LONGEST_FILE + 1);
-    let cases: [Case; 9] = [
+    let cases: [Case; 11] = [
         (&chart[..19], &rules, Refusal::Cut { file: File::Chart, place: 9 }, &chart[9..19]),
         (&[], &rules, Refusal::Tag { file: File::Chart, place: 0 }, &[]),
         (&chart, &rules[5..], Refusal::Tag { file: File::Rules, place: 0 }, &rules[5..14]),
         (&chart, &[0x11, 3, 0], Refusal::Length { file: File::Rules, place: 0 }, &[0x11, 3, 0]),
         (&bad_head, &rules, Refusal::Head { file: File::Chart, place: 0 }, &bad_head),
-        (&bad_step, &rules, Refusal::Step { file: File::Chart, place: 9 }, &bad_step[9..]),
+        (&falling, &rules, Refusal::Step { file: File::Chart, place: 20 }, &falling[20..]),
         (&chart, &bad_node, Refusal::Node { file: File::Rules, place: 5 }, &bad_node[5..]),
         (&chart, &no, Refusal::NoPlan { count: 0 }, &[]),
         (&chart, &long, Refusal::Long { file: File::Rules, place: LONGEST_FILE }, &[b'.']),
+        (&no_stage, &rules, Refusal::Stages { file: File::Chart, place: 9 }, &no_stage[9..]),
+        (&dear, &rules, Refusal::Cost { file: File::Chart, place: 9 }, &dear[9..]),
     ];
     for (chart, rules, refusal, field) in cases {
         assert_eq!(plan(chart, rules), Err(refusal));
         assert_eq!(refusal.field(chart, rules), field);
     }
     let numbers = cases.map(|case| case.2.number());
-    assert_eq!(numbers, [1, 2, 2, 3, 4, 5, 6, 8, 9]);
-    assert_eq!(cases[5].2.to_string(), "refused 5 file 1 place 9");
+    assert_eq!(numbers, [1, 2, 2, 3, 4, 5, 6, 8, 9, 10, 11]);
+    assert_eq!(cases[5].2.to_string(), "refused 5 file 1 place 20");
     assert_eq!(cases[7].2.to_string(), "refused 8 file 0 place 0");
     assert_eq!(cases[8].2.to_string(), "refused 9 file 2 place 32768");
 }
@@ -111,6 +115,8 @@ fn names(refusal: Refusal) -> (&'static str, &'static str) {
         Refusal::Space => "space",
         Refusal::NoPlan { .. } => "no plan",
         Refusal::Long { .. } => "long",
+        Refusal::Stages { .. } => "stages",
+        Refusal::Cost { .. } => "cost",
         Refusal::Other { .. } => "other",
         _ => "newer",
     };

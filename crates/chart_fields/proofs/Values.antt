@@ -38,11 +38,11 @@ module _ (stages last count : ℕ) (b : List ℕ) where
   step-full p = simp tests
 
   module _ (f t : ℕ) (ef : f ≡ two b 0) (et : t ≡ two b 2) where
-    pub step-back : count < 1024 → t ≤ f → 5 ≡ stepFault stages last count b
+    pub step-back : count < 1024 → t ≤ f → 10 ≡ stepFault stages last count b
     unfolding stepFault pick
     step-back p q = simp (← ef, ← et, tests)
 
-    pub step-out : count < 1024 → f < t → stages ≤ t → 5 ≡ stepFault stages last count b
+    pub step-out : count < 1024 → f < t → stages ≤ t → 10 ≡ stepFault stages last count b
     unfolding stepFault pick
     step-out p q r = simp (← ef, ← et, tests)
 
@@ -51,7 +51,7 @@ module _ (stages last count : ℕ) (b : List ℕ) where
     step-order p q r u = simp (← ef, ← et, tests)
 
     module _ (c : ℕ) (ec : c ≡ four b 4) where
-      pub step-dear : count < 1024 → f < t → t < stages → last ≤ f → 1000000 < c → 5 ≡ stepFault stages last count b
+      pub step-dear : count < 1024 → f < t → t < stages → last ≤ f → 1000000 < c → 11 ≡ stepFault stages last count b
       unfolding stepFault pick
       step-dear p q r u v = simp (← ef, ← et, ← ec, tests)
 

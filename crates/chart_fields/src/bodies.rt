@@ -53,22 +53,22 @@ pub fn step_fault(b: &[u8], stages: u16, last: u16, count: usize) -> u8
     ensures { λ r. ⌜ r ≡ stepFault stages last count (now (b .entry)) ⌝ }
 {
     if 1024 <= count {
-        return 5;
+        return 5; // the 1,025th
     }
     let from = read_u16(b, 0);
     let to = read_u16(b, 2);
+    let cost = read_u32(b, 4);
     if to <= from {
-        return 5;
+        return 10; // not to a higher stage
     }
     if stages <= to {
-        return 5;
+        return 10; // to no stage of the chart
     }
     if from < last {
-        return 5;
+        return 5; // out of order
     }
-    let cost = read_u32(b, 4);
     if 1000000 < cost {
-        return 5;
+        return 11; // too dear
     }
     0
 }

@@ -37,14 +37,14 @@ abbrev pub headOf : List ℕ → List ChartStep → Chart
 headOf b steps = record { stages = two b 0; start = two b 2; end = two b 4; steps = steps }
 
 -- what is wrong with a step's body after `count` steps, the last of which leaves the stage `last`; 0: nothing.
--- At most 1,024 steps; from < to; to < stage count; from at least that of the step before; cost at most 1,000,000
+-- At most 1,024 steps, else 5; from < to and to < stage count, else 10; from at least that of the step before, else 5; cost at most 1,000,000, else 11
 unfoldable pub stepFault : ℕ → ℕ → ℕ → List ℕ → ℕ
 stepFault stages last count b =
     pick (leb 1024 count) 5
-    (pick (leb (two b 2) (two b 0)) 5
-    (pick (leb stages (two b 2)) 5
+    (pick (leb (two b 2) (two b 0)) 10
+    (pick (leb stages (two b 2)) 10
     (pick (ltb (two b 0) last) 5
-    (pick (not (leb (four b 4) 1000000)) 5 0))))
+    (pick (not (leb (four b 4) 1000000)) 11 0))))
 
 -- a step's body: from, to, cost
 abbrev pub stepOf : List ℕ → ChartStep

@@ -1,15 +1,17 @@
--- Corners of the definitions: an estimate that is none on one side, the last step and the last node that pass, a diagram head's fault, a refusal's file and place.
+-- Corners of the definitions: an estimate that is none on one side, the last step and the last node that pass, two faults in one step, a diagram head's fault, a refusal's file and place.
 -- Assumes nothing.
 use Prim.Native.Nat.{ℕ}
 use mathlib.Core.Path.{_≡_, refl}
-use mathlib.Core.List.{List, [], _∷_, _++_}
+use mathlib.Core.Bool.{false}
+use mathlib.Core.List.{List, [], _∷_, _++_, map}
 use mathlib.Core.Option.{Option, none, some}
+use lib.Dec.{eqb}
 use lib.ListN.{take}
 use Rattle.definitions.specs.Basics.{pick, smaller, larger, sumOf}
 use Rattle.definitions.specs.Fields.{only, orRemark, fieldAt, firstField, onField, scan}
-use Rattle.definitions.specs.Charts.{headFault, stepFault, readChart}
+use Rattle.definitions.specs.Charts.{ChartStep, headFault, stepFault, readChart}
 use Rattle.definitions.specs.Diagrams.{nodeFault, readDiagram}
-use Rattle.definitions.specs.Bytes.{chartBytes, diagramBytes}
+use Rattle.definitions.specs.Bytes.{field, bodyOfStep, bodyOfNode, headBytes, stepBytes, chartBytes, diagramBytes}
 use Rattle.definitions.specs.Answers.{readFiles, load}
 use Rattle.definitions.specs.Marked.{st, nd, chart, rules}
 use Rattle.definitions.specs.Examples.{rooted, steps, chartRefusal, rulesRefusal, loadRefusal}
@@ -24,16 +26,91 @@ pub options-hold : options ≡ some 5 ∷ some 5 ∷ some 5 ∷ none ∷ none �
 unfolding options smaller larger sumOf
 options-hold = refl
 
--- a step after 1,023 and after 1,024 steps, and a node after 509 and after 510 nodes
+-- a node after 509 and after 510 nodes
 pub counts : List ℕ
 counts =
-    let step : List ℕ = 0 ∷ 0 ∷ 1 ∷ 0 ∷ 7 ∷ 0 ∷ 0 ∷ 0 ∷ [] in
-    let node : List ℕ = 0 ∷ 0 ∷ 0 ∷ 0 ∷ 1 ∷ 0 ∷ [] in
-    stepFault 2 0 1023 step ∷ stepFault 2 0 1024 step ∷ nodeFault 1 (λ r. 0) 509 node ∷ nodeFault 1 (λ r. 0) 510 node ∷ []
+    let node = bodyOfNode (nd 0 0 1) in
+    nodeFault 1 (λ r. 0) 509 node ∷ nodeFault 1 (λ r. 0) 510 node ∷ []
 
-pub counts-hold : counts ≡ 0 ∷ 5 ∷ 0 ∷ 6 ∷ []
-unfolding counts pick stepFault nodeFault
+pub counts-hold : counts ≡ 0 ∷ 6 ∷ []
+unfolding counts pick nodeFault
 counts-hold = refl
+
+-- what a step is refused for in a chart of five stages, after `count` steps of which the last leaves stage 2
+abbrev judged : ℕ → ChartStep → ℕ
+judged count x = stepFault 5 2 count (bodyOfStep x)
+
+pub stepFaults : List (ℕ × ℕ)
+stepFaults =
+    -- none, at each limit
+    (judged 1023 (st 2 4 1000000), 0)
+    -- one: the 1,025th; its own stages; the stage count; the step before it; its cost
+    ∷ (judged 1024 (st 2 4 1000000), 5)
+    ∷ (judged 1 (st 3 3 7), 10)
+    ∷ (judged 1 (st 3 2 7), 10)
+    ∷ (judged 1 (st 2 5 7), 10)
+    ∷ (judged 1 (st 1 2 7), 5)
+    ∷ (judged 1 (st 2 3 1000001), 11)
+    ∷ (judged 1 (st 2 3 16777216), 11)
+    ∷ (judged 1 (st 2 3 4294967295), 11)
+    -- two: the 1,025th with each other
+    ∷ (judged 1024 (st 3 3 7), 5)
+    ∷ (judged 1024 (st 2 5 7), 5)
+    ∷ (judged 1024 (st 1 2 7), 5)
+    ∷ (judged 1024 (st 2 3 1000001), 5)
+    -- its own stages with the stage count, the step before it, its cost
+    ∷ (judged 1 (st 6 5 7), 10)
+    ∷ (judged 1 (st 1 1 7), 10)
+    ∷ (judged 1 (st 3 3 1000001), 10)
+    -- the stage count with the step before it, its cost
+    ∷ (judged 1 (st 1 5 7), 10)
+    ∷ (judged 1 (st 2 5 1000001), 10)
+    -- the step before it with its cost
+    ∷ (judged 1 (st 1 2 1000001), 5)
+    -- three and four
+    ∷ (judged 1 (st 1 1 1000001), 10)
+    ∷ (judged 1 (st 1 5 4294967295), 10)
+    ∷ (judged 1024 (st 1 1 1000001), 5)
+    ∷ []
+
+pub step-faults-hold : map (λ x. x .0) stepFaults ≡ map (λ x. x .1) stepFaults
+unfolding stepFaults pick stepFault
+step-faults-hold = refl
+
+-- mistakes: its stages after the step before it, 10 and 11 exchanged, the cost before its stages and before the step before it, 5 for a cost and for its stages,
+-- the 1,025th after its stages and after its cost
+pub stepMistakes : List (ℕ × ℕ)
+stepMistakes =
+    (judged 1 (st 1 1 7), 5)
+    ∷ (judged 1 (st 1 5 7), 5)
+    ∷ (judged 1 (st 3 3 7), 11)
+    ∷ (judged 1 (st 2 3 1000001), 10)
+    ∷ (judged 1 (st 3 3 1000001), 11)
+    ∷ (judged 1 (st 2 5 1000001), 11)
+    ∷ (judged 1 (st 1 2 1000001), 11)
+    ∷ (judged 1 (st 2 3 1000001), 5)
+    ∷ (judged 1 (st 2 5 7), 5)
+    ∷ (judged 1024 (st 3 3 7), 10)
+    ∷ (judged 1024 (st 2 3 1000001), 11)
+    ∷ []
+
+pub step-mistakes-refuted : map (λ x. eqb (x .0) (x .1)) stepMistakes ≡ map (λ x. false) stepMistakes
+unfolding stepMistakes pick stepFault
+step-mistakes-refuted = refl
+
+-- such a step in its file: of length 9 it is 3, cut it is 1, whole it is told at its own place
+pub badSteps : List (List ℕ)
+badSteps =
+    let first = stepBytes (st 2 3 7) in
+    let bad = bodyOfStep (st 1 1 1000001) in
+    chartRefusal (headBytes 5 0 4 ++ first ++ field 2 (bad ++ 0 ∷ []))
+    ∷ chartRefusal (headBytes 5 0 4 ++ first ++ take 10 (field 2 bad))
+    ∷ chartRefusal (headBytes 5 0 4 ++ first ++ field 2 bad)
+    ∷ []
+
+pub bad-steps-hold : badSteps ≡ (3 ∷ 20 ∷ []) ∷ (1 ∷ 20 ∷ []) ∷ (10 ∷ 20 ∷ []) ∷ []
+unfolding badSteps pick only orRemark fieldAt firstField onField scan headFault stepFault readChart
+bad-steps-hold = refl
 
 -- a diagram's head that is cut, of another tag, of another length, with a cut body; a node in its place; a second head
 pub heads : List (List ℕ)

@@ -70,7 +70,7 @@ remarks =
     ∷ (rulesRefusal (128 ∷ 2 ∷ 0 ∷ 7 ∷ []) 6, 2 ∷ 0 ∷ [])
     ∷ (chartRefusal (128 ∷ 0 ∷ []), 1 ∷ 0 ∷ [])
     -- a fault behind a remark, at its own place: a step, a node, a second head
-    ∷ (after (field 128 (7 ∷ 7 ∷ []) ++ stepBytes (st 1 1 7)), 5 ∷ 14 ∷ [])
+    ∷ (after (field 128 (7 ∷ 7 ∷ []) ++ stepBytes (st 1 1 7)), 10 ∷ 14 ∷ [])
     ∷ (afterRoot (field 128 [] ++ nodeBytes (nd 0 2 1)), 6 ∷ 8 ∷ [])
     ∷ (after (field 128 [] ++ headBytes 5 0 4), 2 ∷ 12 ∷ [])
     -- a step that leaves a stage below that of the step before it, with a remark between
@@ -108,14 +108,11 @@ tag-kept kind tag h = rw (lt-leb 128 tag h)
 
 -- ---- too long: more than 32,768 bytes, whatever they are
 
--- the longest remark that fits behind each head: 32,756 and 32,760 bytes
+-- the longest remark that fits behind a chart's head, 32,756 bytes, and one that is a byte too long behind a diagram's, 32,761 bytes
 pub fullFiles : List (List ℕ)
-fullFiles =
-    after (128 ∷ 244 ∷ 127 ∷ replicate 32756 0) ∷ after (128 ∷ 244 ∷ 127 ∷ replicate 32755 0) ∷ after (128 ∷ 244 ∷ 127 ∷ replicate 32757 0)
-    ∷ afterRoot (128 ∷ 248 ∷ 127 ∷ replicate 32760 0) ∷ afterRoot (128 ∷ 248 ∷ 127 ∷ replicate 32759 0) ∷ afterRoot (128 ∷ 248 ∷ 127 ∷ replicate 32761 0)
-    ∷ []
+fullFiles = after (128 ∷ 244 ∷ 127 ∷ replicate 32756 0) ∷ afterRoot (128 ∷ 249 ∷ 127 ∷ replicate 32761 0) ∷ []
 
-pub full-files-hold : fullFiles ≡ (0 ∷ 0 ∷ []) ∷ (1 ∷ 9 ∷ []) ∷ (9 ∷ 32768 ∷ []) ∷ (0 ∷ 0 ∷ []) ∷ (1 ∷ 5 ∷ []) ∷ (9 ∷ 32768 ∷ []) ∷ []
+pub full-files-hold : fullFiles ≡ (0 ∷ 0 ∷ []) ∷ (9 ∷ 32768 ∷ []) ∷ []
 unfolding fullFiles pick only orRemark fieldAt firstField onField scan headFault readChart readDiagram
 full-files-hold = refl
 

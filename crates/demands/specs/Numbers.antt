@@ -1,10 +1,10 @@
 -- No file is refused with 7 or 8: these numbers are for what comes after the files.
 -- Assumes nothing.
-use Prim.Native.Nat.{ℕ, zero, suc, _+_, _-_, _≤_}
-use mathlib.Core.Bool.{not}
-use mathlib.Core.Path.{_≡_}
+use Prim.Native.Nat.{ℕ, zero, suc, _+_, _-_}
+use mathlib.Core.Bool.{false, not}
+use mathlib.Core.Path.{_≡_, refl}
 use mathlib.Core.List.{List, [], _∷_, _++_}
-use native.Mathlib.Omega.{arith}
+use borrow.Author.Tests.{eqb-false}
 use lib.Dec.{leb, eqb}
 use lib.ListN.{length, getD}
 use Rattle.definitions.specs.Basics.{pick}
@@ -20,8 +20,9 @@ use Rattle.theory.specs.Choices.{both}
 abbrev Own : ℕ → Type 0
 Own n = (n ≡ 7 → ⊥) × (n ≡ 8 → ⊥)
 
-small : (n : ℕ) → n ≤ 6 → Own n
-small n h = (λ e. omega arith, λ e. omega arith)
+-- a number, by computing
+own : (n : ℕ) → eqb n 7 ≡ false → eqb n 8 ≡ false → Own n
+own n p q = (eqb-false n 7 p, eqb-false n 8 q)
 
 abbrev OwnField : Field → Type 0
 OwnField Absent = Unit {0}
@@ -33,46 +34,46 @@ field-own : (s : List ℕ) (at : ℕ) (kind : ℕ → Kind) → OwnField (fieldA
 unfolding fieldAt
 field-own s at kind =
     both OwnField _ tt
-    (both OwnField _ (small 1 (omega arith))
-    (both OwnField _ (small 2 (omega arith))
-    (both OwnField _ (small 3 (omega arith))
-    (both OwnField _ (small 1 (omega arith))
+    (both OwnField _ (own 1 refl refl)
+    (both OwnField _ (own 2 refl refl)
+    (both OwnField _ (own 3 refl refl)
+    (both OwnField _ (own 1 refl refl)
     (both OwnField _ tt tt)))))
 
 first-own : (s : List ℕ) (kind : ℕ → Kind) → OwnField (firstField s kind)
 unfolding firstField
-first-own s kind = both OwnField _ (λ e. omega arith, λ e. omega arith) (field-own s 0 kind)
+first-own s kind = both OwnField _ (own 9 refl refl) (field-own s 0 kind)
 
 head-own : (b : List ℕ) → Own (headFault b)
 unfolding headFault
 head-own b =
-    both Own _ (small 4 (omega arith))
-    (both Own _ (small 4 (omega arith))
-    (both Own _ (small 4 (omega arith))
-    (both Own _ (small 4 (omega arith)) (small 0 (omega arith)))))
+    both Own _ (own 4 refl refl)
+    (both Own _ (own 4 refl refl)
+    (both Own _ (own 4 refl refl)
+    (both Own _ (own 4 refl refl) (own 0 refl refl))))
 
 step-own : (stages last count : ℕ) (b : List ℕ) → Own (stepFault stages last count b)
 unfolding stepFault
 step-own stages last count b =
-    both Own _ (small 5 (omega arith))
-    (both Own _ (small 5 (omega arith))
-    (both Own _ (small 5 (omega arith))
-    (both Own _ (small 5 (omega arith))
-    (both Own _ (small 5 (omega arith)) (small 0 (omega arith))))))
+    both Own _ (own 5 refl refl)
+    (both Own _ (own 10 refl refl)
+    (both Own _ (own 10 refl refl)
+    (both Own _ (own 5 refl refl)
+    (both Own _ (own 11 refl refl) (own 0 refl refl)))))
 
 node-own : (steps : ℕ) (stepAt : ℕ → ℕ) (count : ℕ) (b : List ℕ) → Own (nodeFault steps stepAt count b)
 unfolding nodeFault
 node-own steps stepAt count b =
-    both Own _ (small 6 (omega arith))
-    (both Own _ (small 6 (omega arith))
-    (both Own _ (small 6 (omega arith))
-    (both Own _ (small 6 (omega arith)) (small 0 (omega arith)))))
+    both Own _ (own 6 refl refl)
+    (both Own _ (own 6 refl refl)
+    (both Own _ (own 6 refl refl)
+    (both Own _ (own 6 refl refl) (own 0 refl refl))))
 
 -- a walk from field to field, by the number of each body
-module _ {A : Type 0} (s : List ℕ) (g : Grammar A) (own : (before : List A) (tag : ℕ) (b : List ℕ) → Own (g .fault before tag b)) where
+module _ {A : Type 0} (s : List ℕ) (g : Grammar A) (fault-own : (before : List A) (tag : ℕ) (b : List ℕ) → Own (g .fault before tag b)) where
   scan-own : (turns at : ℕ) (before : List A) → Own (scan s g turns at before .number)
   unfolding scan onField
-  scan-own zero at before = small 0 (omega arith)
+  scan-own zero at before = own 0 refl refl
   scan-own (suc n) at before = go (fieldAt s at (orRemark (g .kind before))) (field-own s at (orRemark (g .kind before))) (scan-own n)
     where
       OwnScan : Scan A → Type 0
@@ -86,13 +87,13 @@ module _ {A : Type 0} (s : List ℕ) (g : Grammar A) (own : (before : List A) (t
           pick (eqb (g .fault before tag body) 0) (scan s g n e (before ++ g .holds before tag body ∷ [])) (stopped before (g .fault before tag body) place)
 
       go : (r : Field) → OwnField r → ((at : ℕ) (before : List A) → Own (scan s g n at before .number)) → Own (onField r (stopped before 0 0) (stopped before) (λ end. scan s g n end before) found .number)
-      go Absent f k = small 0 (omega arith)
+      go Absent f k = own 0 refl refl
       go (Passed e) f k = k e before
       go (Faulty number place) f k = f
       go (Whole place a e) f k =
           let tag = getD s place 0 in
           let body = part s a e in
-          both OwnScan (eqb (g .fault before tag body) 0) (k e (before ++ g .holds before tag body ∷ [])) (own before tag body)
+          both OwnScan (eqb (g .fault before tag body) 0) (k e (before ++ g .holds before tag body ∷ [])) (fault-own before tag body)
 
 pub chart-own : (s : List ℕ) → Own (readChart s .number)
 unfolding readChart onField
@@ -104,8 +105,8 @@ chart-own s = go (firstField s (only 1 6)) (first-own s (only 1 6))
         pick (eqb (headFault b) 0) (withSteps b (scanSteps s (two b 0) e)) (chartRefused (headFault b) place)
 
     go : (r : Field) → OwnField r → Own (onField r (chartRefused 2 0) chartRefused (λ end. chartRefused 2 0) found .number)
-    go Absent f = small 2 (omega arith)
-    go (Passed e) f = small 2 (omega arith)
+    go Absent f = own 2 refl refl
+    go (Passed e) f = own 2 refl refl
     go (Faulty number place) f = f
     go (Whole place a e) f =
         let b = part s a e in
@@ -119,11 +120,11 @@ rules-own s steps = go (firstField s (only 17 2)) (first-own s (only 17 2))
     rooted : (root : ℕ) (x : Scan InnerNode) → Own (x .number) → Own (withNodes root x .number)
     rooted root x f =
         both (λ (y : DiagramRead). Own (y .number)) (not (eqb (x .number) 0)) f
-        (both (λ (y : DiagramRead). Own (y .number)) (leb (length (x .passed) + 2) root) (small 6 (omega arith)) (small 0 (omega arith)))
+        (both (λ (y : DiagramRead). Own (y .number)) (leb (length (x .passed) + 2) root) (own 6 refl refl) (own 0 refl refl))
 
     go : (r : Field) → OwnField r → Own (onField r (diagramRefused 2 0) diagramRefused (λ end. diagramRefused 2 0) (λ place start end. withNodes (two (part s start end) 0) (scanNodes s steps end)) .number)
-    go Absent f = small 2 (omega arith)
-    go (Passed e) f = small 2 (omega arith)
+    go Absent f = own 2 refl refl
+    go (Passed e) f = own 2 refl refl
     go (Faulty number place) f = f
     go (Whole place a e) f =
         rooted (two (part s a e) 0) (scanNodes s steps e)

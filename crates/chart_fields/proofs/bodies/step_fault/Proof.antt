@@ -13,6 +13,9 @@ read-u16-requires c κs = search needs
 read-u16-requires-2 : tie.Need-read-u16-requires-2
 read-u16-requires-2 c κs = search needs
 
+read-u32-requires : tie.Need-read-u32-requires
+read-u32-requires c κs = search needs
+
 returns-2 : tie.Need-returns-2
 returns-2 c = search step-laws
 
@@ -21,9 +24,6 @@ returns-3 c = search step-laws
 
 returns-4 : tie.Need-returns-4
 returns-4 c = search step-laws
-
-read-u32-requires : tie.Need-read-u32-requires
-read-u32-requires c κs = search needs
 
 returns-5 : tie.Need-returns-5
 returns-5 c = search step-laws
@@ -38,9 +38,9 @@ step-fault-spec =
     returns
     read-u16-requires
     read-u16-requires-2
+    read-u32-requires
     returns-2
     returns-3
     returns-4
-    read-u32-requires
     returns-5
     returns-6)
