@@ -131,8 +131,9 @@ fn names(refusal: Refusal) -> (&'static str, &'static str) {
 
 #[test]
 fn each_number_has_its_own_refusal() {
-    let expected = ["cut", "tag", "length", "head", "step", "node"];
-    for (number, name) in (1..).zip(expected).chain([(9, "long")]) {
+    let (first, later) =
+        (["cut", "tag", "length", "head", "step", "node"], ["long", "stages", "cost"]);
+    for (number, name) in (1..).zip(first).chain((9..).zip(later)) {
         for (file, file_name) in [(1, "chart"), (2, "rules")] {
             let refusal = refusal_of(number, file, 14).expect("a refusal");
             assert_eq!(refusal.number(), number);
@@ -145,13 +146,15 @@ fn each_number_has_its_own_refusal() {
     assert_eq!(refusal_of(8, 0, 0), Some(Refusal::NoPlan { count: 5 }));
     assert_eq!(refusal_of(7, 0, 0).map(names), Some(("space", "neither")));
     assert_eq!(refusal_of(8, 0, 0).map(names), Some(("no plan", "neither")));
-    assert_eq!(refusal_of(9, 0, 0).map(names), Some(("other", "neither")));
+    for number in 9..=11 {
+        assert_eq!(refusal_of(number, 0, 0).map(names), Some(("other", "neither")));
+    }
 }
 
 #[test]
 fn a_number_without_a_name_is_kept() {
     let (chart, rules) = example();
-    for number in [10, 11, 255, usize::MAX] {
+    for number in [12, 13, 255, usize::MAX] {
         let refusal = refusal_of(number, 2, 14).expect("a refusal");
         assert_eq!(refusal, Refusal::Other { number, file: 2, place: 14 });
         assert_eq!(refusal.number(), number);
