@@ -13,7 +13,7 @@ use crate::generate::load::load;
 use crate::generate::long::{self, near_longest};
 use crate::generate::mutate::mutated;
 use crate::generate::remarks::{self, with_remarks};
-use crate::generate::Random;
+use crate::generate::{steps, Random};
 
 /// Two files, and the seed from which the lent slices and their content are drawn.
 #[derive(Clone, Debug)]
@@ -43,6 +43,7 @@ impl Cases {
         let mut random = Random::of(seed, u64::MAX);
         let mut files = at_limits();
         files.extend(remarks::at_limits());
+        files.extend(steps::systematic());
         files.extend(long::systematic(&example_problem()));
         let small = [(); 3].map(|()| small_problem(&mut random));
         for problem in [example_problem()].iter().chain(&small) {
@@ -134,6 +135,7 @@ fn plain_files(random: &mut Random) -> (&'static str, Files) {
         300..=329 => ("noise", (noise(random, 40), noise(random, 30))),
         330..=399 => ("many ways", many_ways(random)),
         400..=449 => ("parallel", sized(random, 3, 30, 30)),
+        450..=499 => ("bad steps", bad_steps(random)),
         _ => ("small", sized(random, 8, 14, 12)),
     }
 }
@@ -192,6 +194,17 @@ fn many_ways(random: &mut Random) -> Files {
     }
     let diagram = random_diagram(random, &chart, 40);
     (write_chart(&chart), write_diagram(&diagram))
+}
+
+/// A chart with a step whose values are at fault.
+fn bad_steps(random: &mut Random) -> Files {
+    let (stages, steps) = random.pick(&[(6, 6), (12, 20), (12, 20), (40, 120)]);
+    let (stages, steps) = (random.between(2, stages), random.between(1, steps));
+    let chart = Shape { stages, steps, ..Shape::random(random, stages, steps) }.chart(random);
+    let rules = write_diagram(&random_diagram(random, &chart, 12));
+    let mut bytes = write_chart(&chart);
+    steps::spoil(random, &mut bytes, 15);
+    (bytes, rules)
 }
 
 fn damaged_files(random: &mut Random) -> Files {

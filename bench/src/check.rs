@@ -12,7 +12,7 @@ use crate::reference::{self, Expected, Facts, Judged};
 
 pub type Checked = Result<(), String>;
 
-const LEFT: &str = "3.3: after refusals 1 to 7 and 9 every slice stays";
+const LEFT: &str = "3.3: after refusals 1 to 7 and 9 to 11 every slice stays";
 const PLAN_LEFT: &str = "3.3: after refusal 8 the plan slice stays";
 const STAY: &str = "7.1, 8.1: what lies behind the used part of a slice stays";
 const PLAN_HELD: &str = "7.1: the plan slice begins with the steps of a legal plan, the rest stays";
@@ -172,11 +172,13 @@ fn number_rule(number: u32) -> &'static str {
         2 => "3.1, 2: an empty file, a foreign tag, no head in front, or a second head",
         3 => "3.1, 3: the length does not fit the tag",
         4 => "3.1, 4: the chart's head breaks a limit",
-        5 => "3.1, 5: a step breaks a limit",
+        5 => "3.1, 5: the 1,025th step, or one whose from is below that of the step before",
         6 => "3.1, 6: an inner node or the root breaks a limit",
         7 => "3.1, 7: a lent slice is too short",
         8 => "3.1, 8: no plan is legal",
-        _ => "3.1, 9: the file is longer than 32,768 bytes",
+        9 => "3.1, 9: the file is longer than 32,768 bytes",
+        10 => "3.1, 10: a step's from is not below its to, or its to not below the stage count",
+        _ => "3.1, 11: a step's cost is above 1,000,000",
     }
 }
 

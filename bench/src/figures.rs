@@ -6,6 +6,7 @@ use crate::files::{
 };
 use crate::generate::remarks::count_before;
 use crate::reference::{Facts, Judged};
+use crate::steps::{StepAtFault, DEAR, ENDS, FALLS, SURPLUS};
 
 /// What a chart and a diagram have, and how far the searches go on them; 0 or false where it makes no
 /// sense.
@@ -50,6 +51,8 @@ pub struct Figures {
     pub remarks: usize,
     /// The field at fault stands behind a remark of its file.
     pub fault_behind_remark: bool,
+    /// The field at fault, where it is a step.
+    pub step: Option<StepAtFault>,
 }
 
 impl Figures {
@@ -80,8 +83,20 @@ impl Figures {
             bytes: (if in_chart { 0 } else { case.chart.len() }, 0),
             remarks: remarks_passed(case, &Err(*fault)),
             fault_behind_remark: behind,
+            step: StepAtFault::of(&case.chart, fault),
             ..Figures::default()
         }
+    }
+
+    /// Whether a step is refused for its values, and they have just these faults.
+    fn step_has(&self, faults: u8) -> bool {
+        self.step.is_some_and(|step| step.for_values() && step.faults.set() == faults)
+    }
+
+    /// Whether a step at fault in its values is refused with a number, and is such a one.
+    fn step_is(&self, number: u32, such: impl Fn(&StepAtFault) -> bool) -> bool {
+        let at_fault = |step: &StepAtFault| step.number == number && step.faults.set() != 0;
+        self.step.is_some_and(|step| at_fault(&step) && such(&step))
     }
 
     /// Of sound files alone.
@@ -201,7 +216,7 @@ impl Corner {
 }
 
 /// Most of the largest ones are what the limits allow.
-pub const CORNERS: [Corner; 29] = [
+pub const CORNERS: [Corner; 54] = [
     Corner::largest("plan cost", 255_000_000, |f| f.plan_cost),
     Corner::largest("plan length", 255, |f| f.plan_length),
     Corner::largest("sum of a reached pair", 765_000_000, |f| f.sum),
@@ -237,4 +252,45 @@ pub const CORNERS: [Corner; 29] = [
     Corner::count("sound files above 32,000 bytes", 200, |f| {
         (f.sound && f.bytes.0.max(f.bytes.1) > 32_000).into()
     }),
+    Corner::count("the 1,025th step alone", 50, |f| f.step_has(SURPLUS).into()),
+    Corner::count("the 1,025th with 10", 50, |f| f.step_has(SURPLUS | ENDS).into()),
+    Corner::count("the 1,025th with a falling from", 50, |f| f.step_has(SURPLUS | FALLS).into()),
+    Corner::count("the 1,025th with 11", 50, |f| f.step_has(SURPLUS | DEAR).into()),
+    Corner::count("the 1,025th with 10 and a falling from", 50, |f| {
+        f.step_has(SURPLUS | ENDS | FALLS).into()
+    }),
+    Corner::count("the 1,025th with 10 and 11", 50, |f| f.step_has(SURPLUS | ENDS | DEAR).into()),
+    Corner::count("the 1,025th with a falling from and 11", 50, |f| {
+        f.step_has(SURPLUS | FALLS | DEAR).into()
+    }),
+    Corner::count("the 1,025th with all faults", 50, |f| {
+        f.step_has(SURPLUS | ENDS | FALLS | DEAR).into()
+    }),
+    Corner::count("steps with 10 alone", 1_000, |f| f.step_has(ENDS).into()),
+    Corner::count("steps with a falling from alone", 500, |f| f.step_has(FALLS).into()),
+    Corner::count("steps with 11 alone", 1_000, |f| f.step_has(DEAR).into()),
+    Corner::count("steps with 10 and a falling from", 250, |f| f.step_has(ENDS | FALLS).into()),
+    Corner::count("steps with 10 and 11", 500, |f| f.step_has(ENDS | DEAR).into()),
+    Corner::count("steps with a falling from and 11", 250, |f| f.step_has(FALLS | DEAR).into()),
+    Corner::count("steps with all three", 250, |f| f.step_has(ENDS | FALLS | DEAR).into()),
+    Corner::count("11 for 1,000,001", 100, |f| f.step_is(11, |s| s.step.cost == 1_000_001).into()),
+    Corner::count("11 for 16,777,216", 100, |f| f.step_is(11, |s| s.step.cost == 1 << 24).into()),
+    Corner::count("11 for 2,147,483,648", 100, |f| {
+        f.step_is(11, |s| s.step.cost == 1 << 31).into()
+    }),
+    Corner::count("11 for 4,294,967,295", 100, |f| {
+        f.step_is(11, |s| s.step.cost == u32::MAX).into()
+    }),
+    Corner::count("10, to equal to from", 500, |f| {
+        f.step_is(10, |s| s.step.to == s.step.from).into()
+    }),
+    Corner::count("10, to below from", 500, |f| f.step_is(10, |s| s.step.to < s.step.from).into()),
+    Corner::count("10, to at the stage count", 500, |f| {
+        f.step_is(10, |s| s.step.to == s.stages && !s.faults.crossed).into()
+    }),
+    Corner::count("10, to 65,535", 100, |f| {
+        f.step_is(10, |s| s.step.to == u16::MAX && !s.faults.crossed).into()
+    }),
+    Corner::count("a wrong length and bad values", 100, |f| f.step_is(3, |_| true).into()),
+    Corner::count("a cut body and bad values", 100, |f| f.step_is(1, |_| true).into()),
 ];

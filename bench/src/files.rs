@@ -129,10 +129,9 @@ pub fn read_chart(bytes: &[u8]) -> Result<Chart, Refusal> {
         return Err(Refusal::at(4, CHART_FILE, 0));
     }
     while let Some((place, body)) = reader.next(STEP)? {
-        let step =
-            Step { from: two_bytes(body, 0), to: two_bytes(body, 2), cost: four_bytes(body, 4) };
-        if !step_within_limits(&chart, step) {
-            return Err(Refusal::at(5, CHART_FILE, place));
+        let step = step_of(body);
+        if let Some(number) = step_fault(&chart, step) {
+            return Err(Refusal::at(number, CHART_FILE, place));
         }
         chart.steps.push(step);
     }
@@ -238,12 +237,18 @@ fn head_within_limits(chart: &Chart) -> bool {
         && chart.end < chart.stages
 }
 
-fn step_within_limits(chart: &Chart, step: Step) -> bool {
-    chart.steps.len() < MAX_STEPS
-        && step.from < step.to
-        && step.to < chart.stages
-        && step.cost <= MAX_COST
-        && chart.steps.last().is_none_or(|before| before.from <= step.from)
+/// The first fault in the values of a step behind those of the chart, in the order of the tests.
+fn step_fault(chart: &Chart, step: Step) -> Option<u32> {
+    if chart.steps.len() >= MAX_STEPS {
+        return Some(5);
+    }
+    if step.from >= step.to || step.to >= chart.stages {
+        return Some(10);
+    }
+    if chart.steps.last().is_some_and(|before| step.from < before.from) {
+        return Some(5);
+    }
+    (step.cost > MAX_COST).then_some(11)
 }
 
 fn node_within_limits(diagram: &Diagram, node: Node, steps: usize) -> bool {
@@ -264,6 +269,11 @@ pub fn two_bytes(bytes: &[u8], at: usize) -> u16 {
 
 fn four_bytes(bytes: &[u8], at: usize) -> u32 {
     u32::from_le_bytes([bytes[at], bytes[at + 1], bytes[at + 2], bytes[at + 3]])
+}
+
+/// The values in a step's body.
+pub fn step_of(body: &[u8]) -> Step {
+    Step { from: two_bytes(body, 0), to: two_bytes(body, 2), cost: four_bytes(body, 4) }
 }
 
 /// One field: tag, length, body.

@@ -10,5 +10,6 @@ pub mod mutate;
 pub mod random;
 pub mod remarks;
 pub mod rules;
+pub mod steps;
 
 pub use random::Random;

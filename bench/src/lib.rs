@@ -5,6 +5,7 @@ pub mod files;
 pub mod guard;
 pub mod lent;
 pub mod planner;
+pub mod steps;
 
 pub mod check;
 pub mod reference;

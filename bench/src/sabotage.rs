@@ -1,11 +1,13 @@
 //! Planners that are spoiled in one corner: the differential test must find each of them.
 
 mod readings;
+mod steps;
 
 use std::borrow::Cow;
 
-use crate::files::LONGEST_FILE;
+use crate::files::{read_chart, LONGEST_FILE};
 use crate::planner::{self, Answer, GuidedSlices, Planner, Space, SweepSlices};
+use crate::steps::{StepAtFault, StepFaults};
 
 /// One way to spoil a planner.
 pub struct Sabotage {
@@ -30,7 +32,12 @@ enum Spoil {
     Rules(fn(&mut Vec<u8>)),
     /// What every call reads as the chart and the diagram.
     Files(fn(&mut Vec<u8>, &mut Vec<u8>)),
+    /// How the values of a step at fault are judged: the tests in their order, with their numbers.
+    Step(&'static [(Test, u32)]),
 }
+
+/// Whether a step's values have some fault.
+type Test = fn(&StepFaults) -> bool;
 
 /// A planner that is sound but for one sabotage.
 pub struct Spoiled {
@@ -58,9 +65,9 @@ pub fn all() -> impl Iterator<Item = &'static Sabotage> {
     CORNERS.iter().chain(readings())
 }
 
-/// The wrong readings of remarks and of files that are too long.
+/// The wrong readings of remarks, of files that are too long and of a step's values.
 pub fn readings() -> impl Iterator<Item = &'static Sabotage> {
-    readings::READINGS.iter()
+    readings::READINGS.iter().chain(&steps::STEPS)
 }
 
 static CORNERS: [Sabotage; 24] = [
@@ -195,7 +202,17 @@ impl Spoiled {
         (chart, rules)
     }
 
-    fn spoil_sweep(&self, mut answer: Answer, lent: &mut SweepSlices) -> Answer {
+    /// The number where a step is refused for its values; else the one that is there.
+    fn number(&self, chart: &[u8], number: u32) -> u32 {
+        let Spoil::Step(tests) = self.sabotage.spoil else { return number };
+        let fault = read_chart(chart).err();
+        let step = fault.and_then(|fault| StepAtFault::of(chart, &fault));
+        let Some(step) = step.filter(StepAtFault::for_values) else { return number };
+        tests.iter().find(|(test, _)| test(&step.faults)).map_or(number, |(_, number)| *number)
+    }
+
+    fn spoil_sweep(&self, chart: &[u8], mut answer: Answer, lent: &mut SweepSlices) -> Answer {
+        answer.number = self.number(chart, answer.number);
         match self.sabotage.spoil {
             Spoil::Answer(spoil) => spoil(&mut answer),
             Spoil::Sweep(spoil) => spoil(&mut answer, lent),
@@ -204,7 +221,8 @@ impl Spoiled {
         answer
     }
 
-    fn spoil_guided(&self, mut answer: Answer, lent: &mut GuidedSlices) -> Answer {
+    fn spoil_guided(&self, chart: &[u8], mut answer: Answer, lent: &mut GuidedSlices) -> Answer {
+        answer.number = self.number(chart, answer.number);
         match self.sabotage.spoil {
             Spoil::Answer(spoil) => spoil(&mut answer),
             Spoil::Guided(spoil) => spoil(&mut answer, lent),
@@ -223,14 +241,14 @@ impl Planner for Spoiled {
         self.touch(chart, rules);
         let (chart, rules) = self.read(chart, rules);
         let answer = self.planner.sweep(&chart, &rules, lent);
-        self.spoil_sweep(answer, lent)
+        self.spoil_sweep(&chart, answer, lent)
     }
 
     fn guided(&self, chart: &[u8], rules: &[u8], lent: &mut GuidedSlices) -> Answer {
         self.touch(chart, rules);
         let (chart, rules) = self.read(chart, rules);
         let answer = self.planner.guided(&chart, &rules, lent);
-        self.spoil_guided(answer, lent)
+        self.spoil_guided(&chart, answer, lent)
     }
 
     fn both(
@@ -242,12 +260,14 @@ impl Planner for Spoiled {
     ) -> Option<(Answer, Answer)> {
         let (chart, rules) = self.read(chart, rules);
         let (swept, found) = self.planner.both(&chart, &rules, sweep, guided)?;
-        Some((self.spoil_sweep(swept, sweep), self.spoil_guided(found, guided)))
+        let swept = self.spoil_sweep(&chart, swept, sweep);
+        Some((swept, self.spoil_guided(&chart, found, guided)))
     }
 
     fn space_needed(&self, chart: &[u8], rules: &[u8]) -> Option<Space> {
         let (chart, rules) = self.read(chart, rules);
         let mut space = self.planner.space_needed(&chart, &rules)?;
+        space.number = self.number(&chart, space.number);
         if let Spoil::Space(spoil) = self.sabotage.spoil {
             spoil(&mut space);
         }

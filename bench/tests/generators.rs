@@ -1,6 +1,6 @@
 //! The generators: what should be valid is, and the broken files have every number.
 
-use std::collections::BTreeSet;
+use std::collections::{BTreeMap, BTreeSet};
 
 use planner_bench::cases::{example_problem, Cases};
 use planner_bench::files::{
@@ -14,10 +14,11 @@ use planner_bench::generate::long::near_longest;
 use planner_bench::generate::remarks::{count_before, with_remarks};
 use planner_bench::generate::rules::{diagram_of, AtMost, ExactlyOne, Modulo, Needs, Rule};
 use planner_bench::generate::Random;
-use planner_bench::generate::{long, remarks};
+use planner_bench::generate::{long, remarks, steps};
 use planner_bench::loads::{self, growth, standard};
 use planner_bench::reference::refused_field;
 use planner_bench::reference::rules::verdict;
+use planner_bench::steps::StepAtFault;
 
 #[test]
 fn written_files_are_read_back() {
@@ -89,15 +90,49 @@ fn broken_files_have_every_number_in_every_file() {
     files.extend(remarks::systematic(&example_problem()));
     files.extend(remarks::at_limits());
     files.extend(long::systematic(&example_problem()));
+    files.extend(steps::systematic());
     let found: BTreeSet<(u32, u32)> = files
         .iter()
         .filter_map(|(chart, rules)| read_both(chart, rules).err())
         .map(|fault| (fault.file, fault.number))
         .collect();
-    let of_chart = [(1, 1), (1, 2), (1, 3), (1, 4), (1, 5), (1, 9)];
-    let of_rules = [(2, 1), (2, 2), (2, 3), (2, 6), (2, 9)];
+    let of_chart = [1, 2, 3, 4, 5, 9, 10, 11].map(|number| (1, number));
+    let of_rules = [1, 2, 3, 6, 9].map(|number| (2, number));
     assert_eq!(found, of_chart.into_iter().chain(of_rules).collect());
     assert!(files.iter().any(|(chart, rules)| read_both(chart, rules).is_ok()));
+}
+
+/// How often a step is refused for its values, by the set of their faults; and how often with such
+/// faults for its length and for its cut body.
+fn faults_of_steps(charts: impl Iterator<Item = Vec<u8>>) -> (BTreeMap<u8, usize>, [usize; 2]) {
+    let (mut sets, mut of_field) = (BTreeMap::new(), [0, 0]);
+    for chart in charts {
+        let fault = read_chart(&chart).err();
+        let Some(step) = fault.and_then(|fault| StepAtFault::of(&chart, &fault)) else { continue };
+        match (step.number, step.faults.set()) {
+            (1 | 3, 0) => {}
+            (3, _) => of_field[0] += 1,
+            (1, _) => of_field[1] += 1,
+            (_, set) => *sets.entry(set).or_default() += 1,
+        }
+    }
+    (sets, of_field)
+}
+
+#[test]
+fn steps_have_every_set_of_faults() {
+    let mut random = Random::new(16);
+    let spoiled = (0..4_000).map(|_| {
+        let mut chart = write_chart(&random_chart(&mut random, 12, 20));
+        steps::spoil(&mut random, &mut chart, 30);
+        chart
+    });
+    let systematic = steps::systematic().into_iter().map(|(chart, _)| chart);
+    for (sets, of_field) in [faults_of_steps(spoiled), faults_of_steps(systematic)] {
+        // Four faults: 15 sets of them.
+        assert_eq!(sets.keys().copied().collect::<Vec<u8>>(), (1..16).collect::<Vec<u8>>());
+        assert!(sets.values().chain(&of_field).all(|count| *count >= 10), "{sets:?} {of_field:?}");
+    }
 }
 
 #[test]

@@ -131,16 +131,16 @@ fn a_chart_head_beyond_a_limit_is_4() {
 }
 
 #[test]
-fn a_step_beyond_a_limit_is_5() {
-    chart_refuses(&edited(&CHART, 14, &[0]), 5, 9);
-    chart_refuses(&edited(&CHART, 12, &[1]), 5, 9);
-    chart_refuses(&edited(&CHART, 25, &[3]), 5, 20);
+fn a_step_beyond_a_limit_is_10_5_or_11() {
+    chart_refuses(&edited(&CHART, 14, &[0]), 10, 9);
+    chart_refuses(&edited(&CHART, 12, &[1]), 10, 9);
+    chart_refuses(&edited(&CHART, 25, &[3]), 10, 20);
     accepts(&edited(&CHART, 23, &[0]), &RULES);
     let falling = [&CHART[..9], &CHART[20..], &CHART[9..20]].concat();
     chart_refuses(&falling, 5, 20);
     accepts(&edited(&CHART, 16, &1_000_000_u32.to_le_bytes()), &RULES);
     for cost in [1_000_001_u32, 16_777_216, u32::MAX, 1 << 31] {
-        chart_refuses(&edited(&CHART, 16, &cost.to_le_bytes()), 5, 9);
+        chart_refuses(&edited(&CHART, 16, &cost.to_le_bytes()), 11, 9);
     }
 }
 
@@ -204,14 +204,15 @@ fn the_root_is_judged_after_all_nodes() {
 #[test]
 fn the_chart_comes_before_the_diagram() {
     refuses(&CHART[..30], &[], (1, 1, 20));
-    refuses(&edited(&CHART, 25, &[3]), &RULES[..4], (5, 1, 20));
+    refuses(&edited(&CHART, 25, &[3]), &RULES[..4], (10, 1, 20));
+    refuses(&edited(&CHART, 30, &[1]), &RULES[..4], (11, 1, 20));
 }
 
 #[test]
 fn the_first_faulty_field_counts() {
     let mut two = edited(&CHART, 14, &[0]);
     two[20] = 0x7f;
-    chart_refuses(&two, 5, 9);
+    chart_refuses(&two, 10, 9);
     two[0] = 0;
     chart_refuses(&two, 2, 0);
 }
@@ -372,7 +373,8 @@ fn a_cut_remark_is_1_at_its_own_place() {
 fn faults_behind_remarks_are_told_at_their_places() {
     let remark = [0x85, 2, 0, 0x02, 8];
     let behind = |end: &[u8]| [&CHART[..20], &remark, end].concat();
-    chart_refuses(&behind(&[0x02, 8, 0, 1, 0, 1, 0, 7, 0, 0, 0]), 5, 25);
+    chart_refuses(&behind(&[0x02, 8, 0, 1, 0, 1, 0, 7, 0, 0, 0]), 10, 25);
+    chart_refuses(&behind(&[0x02, 8, 0, 1, 0, 2, 0, 7, 0, 0, 1]), 11, 25);
     chart_refuses(&behind(&[0x02, 7, 0]), 3, 25);
     chart_refuses(&behind(&CHART[20..30]), 1, 25);
     chart_refuses(&behind(&[0x7f, 0, 0]), 2, 25);
@@ -439,7 +441,8 @@ fn the_diagrams_9_comes_after_the_chart() {
     refuses(&edited(&CHART, 9, &[0x7f]), &long, (2, 1, 9));
     refuses(&edited(&CHART, 1, &[7]), &long, (3, 1, 0));
     refuses(&edited(&CHART, 3, &[0]), &long, (4, 1, 0));
-    refuses(&edited(&CHART, 25, &[3]), &long, (5, 1, 20));
+    refuses(&edited(&CHART, 25, &[3]), &long, (10, 1, 20));
+    refuses(&edited(&CHART, 30, &[1]), &long, (11, 1, 20));
     refuses(&CHART, &long, (9, 2, 32_768));
 }
 

@@ -1,8 +1,9 @@
 //! Sound files spoiled at any place: bits and bytes, cuts, lengths, tags, numbers near limits, and
-//! whole fields doubled, exchanged, moved, left out or taken from another file, and remarks.
+//! whole fields doubled, exchanged, moved, left out or taken from another file, remarks, and steps
+//! with faults in their values.
 
 use super::broken::TAGS;
-use super::{remarks, Random};
+use super::{remarks, steps, Random};
 use crate::files::{two_bytes, HEADER};
 
 /// Numbers that limits speak of, and their neighbours.
@@ -28,13 +29,14 @@ fn mutate(random: &mut Random, bytes: &mut Vec<u8>, other: &[u8]) {
         bytes.extend(&other[..random.between(0, other.len())]);
         return;
     }
-    match random.below(14) {
+    match random.below(15) {
         0 | 1 => flip(random, bytes),
         2 => cut(random, bytes),
         3..=5 => change_number(random, bytes),
         6 => change_header(random, bytes),
         7 => lengthen(random, bytes),
         8 | 9 => remarks::mutate(random, bytes),
+        10 if steps::spoil(random, bytes, 3) => {}
         _ => move_fields(random, bytes, other),
     }
 }

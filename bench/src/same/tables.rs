@@ -112,9 +112,17 @@ impl Tables {
         let [f0, f1, t0, t1, c0, c1, c2, c3] = *body(field, 0x02)?;
         let (from, to) = (u16::from_le_bytes([f0, f1]), u16::from_le_bytes([t0, t1]));
         let cost = u32::from_le_bytes([c0, c1, c2, c3]);
-        let falls = from < least;
-        if at >= STEPS || from >= to || usize::from(to) >= self.stages || cost > MAX_COST || falls {
+        if at >= STEPS {
             return Err(5);
+        }
+        if from >= to || usize::from(to) >= self.stages {
+            return Err(10);
+        }
+        if from < least {
+            return Err(5);
+        }
+        if cost > MAX_COST {
+            return Err(11);
         }
         self.ends[at] = u32::from(to) << STAGE_BITS | u32::from(from);
         self.cost[at] = cost;

@@ -1,0 +1,174 @@
+//! Steps whose values are at fault: each fault, all of them together in every way, with a fault of the
+//! field itself, and with other fields at fault behind them.
+
+use super::broken::{Fields, Files};
+use super::mutate::fields;
+use super::Random;
+use crate::files::{
+    claiming, step_field, step_of, two_bytes, write_chart, write_diagram, Chart, Diagram, Step,
+    HEADER, LONGEST_FILE, MAX_COST, MAX_STEPS, STEP,
+};
+
+/// Costs beyond the limit; most would pass if some of their bytes or a sign were left out.
+const DEAR: [u32; 6] = [MAX_COST + 1, 1 << 20, 1 << 24, (1 << 31) - 1, 1 << 31, u32::MAX];
+const WRONG_LENGTHS: [u16; 6] = [0, 7, 9, 10, 256 + 8, u16::MAX];
+/// Bytes of a step field.
+pub const WHOLE: usize = HEADER + STEP.length;
+
+/// The stage count of the systematic charts, and the step of which they have so many.
+const STAGES: u16 = 5;
+const BEFORE: Step = Step { from: 2, to: 3, cost: 5 };
+
+/// Charts with a last step of any values, the 1,024th and the 1,025th too; and such steps with faults
+/// of their field, of what follows and of the diagram.
+pub fn systematic() -> Vec<Files> {
+    let froms = [0, 1, 2, 3, 4, 5, 256, 258, 65_535];
+    let tos = [0, 1, 2, 3, 4, 5, 6, 259, 65_535];
+    let costs = [5, MAX_COST, DEAR[0], DEAR[1], DEAR[2], DEAR[4], DEAR[5]];
+    let all = each_step(&froms, &tos, &costs);
+    let pairs = each_step(&[1, 2, 3], &[0, 1, 2, 3, 5, 65_535], &[5, MAX_COST, DEAR[0], u32::MAX]);
+    let few = each_step(&[1, 2], &[1, 3, 5], &[5, DEAR[0]]);
+    let mut charts = Vec::new();
+    for count in [0, 1] {
+        charts.extend(behind(count, &all, |step| vec![step]));
+    }
+    for count in [MAX_STEPS - 1, MAX_STEPS] {
+        charts.extend(behind(count, &pairs, |step| vec![step]));
+    }
+    for (count, steps) in [(1, &pairs), (MAX_STEPS, &few)] {
+        charts.extend(behind(count, steps, spoiled_fields));
+        charts.extend(behind(count, steps, followed));
+    }
+    let yes = with_root(1);
+    let mut files: Vec<Files> = charts.into_iter().map(|chart| (chart, yes.clone())).collect();
+    for rules in [with_root(9), Vec::new(), vec![0x12; LONGEST_FILE + 1]] {
+        let charts = behind(1, &few, |step| vec![step]);
+        files.extend(charts.into_iter().map(|chart| (chart, rules.clone())));
+    }
+    files
+}
+
+fn each_step(froms: &[u16], tos: &[u16], costs: &[u32]) -> Vec<Step> {
+    let ends = froms.iter().flat_map(|from| tos.iter().map(move |to| (*from, *to)));
+    ends.flat_map(|(from, to)| costs.iter().map(move |cost| Step { from, to, cost: *cost }))
+        .collect()
+}
+
+/// Charts that have so many steps and then the bytes made of one step more.
+fn behind(count: usize, steps: &[Step], made: impl Fn(Vec<u8>) -> Fields) -> Vec<Vec<u8>> {
+    let front = Chart { stages: STAGES, start: 0, end: STAGES - 1, steps: vec![BEFORE; count] };
+    let front = write_chart(&front);
+    let ends = steps.iter().flat_map(|step| made(step_field(*step)));
+    ends.map(|end| [&front[..], &end].concat()).collect()
+}
+
+/// A step's field with a wrong tag, a wrong length or a cut.
+fn spoiled_fields(step: Vec<u8>) -> Fields {
+    let tags = [0x01, 0x03, 0x12, 0x7f].map(|tag| [&[tag], &step[1..]].concat());
+    let lengths =
+        WRONG_LENGTHS.map(|length| [&step[..1], &length.to_le_bytes(), &step[HEADER..]].concat());
+    let cuts = (1..WHOLE).map(|end| step[..end].to_vec());
+    tags.into_iter().chain(lengths).chain(cuts).collect()
+}
+
+/// A step with one more field behind it, sound or at fault.
+fn followed(step: Vec<u8>) -> Fields {
+    let bad = |from: u16, to: u16, cost: u32| step_field(Step { from, to, cost });
+    let fields = [
+        step_field(BEFORE),
+        bad(4, 4, 5),
+        bad(3, STAGES, 5),
+        bad(0, 1, 5),
+        bad(3, 4, MAX_COST + 1),
+        vec![0x7f, 0, 0],
+        vec![STEP.tag, 7, 0],
+        step_field(BEFORE)[..WHOLE - 1].to_vec(),
+    ];
+    fields.map(|field| [&step[..], &field].concat()).into()
+}
+
+/// A diagram without nodes.
+fn with_root(root: u16) -> Vec<u8> {
+    write_diagram(&Diagram { root, nodes: Vec::new() })
+}
+
+/// Spoils the values of one step of a chart file, in so many of a hundred cases of the 1,025th, and
+/// its field too now and then; says whether there is a step.
+pub fn spoil(random: &mut Random, chart: &mut Vec<u8>, surplus: usize) -> bool {
+    let mut places = step_places(chart);
+    let Some(last) = places.last().copied() else { return false };
+    let is_surplus = random.percent(surplus);
+    if is_surplus {
+        let wanted = random.pick(&[1_024, 1_025, 1_025, 1_025, 1_026]);
+        let more = chart[last..last + WHOLE].repeat(wanted - places.len().min(wanted));
+        chart.splice(last..last, more);
+        places = step_places(chart);
+    }
+    let at = if is_surplus { places.len() - 1 } else { random.below(places.len()) };
+    if !is_surplus || random.percent(85) {
+        spoil_values(random, chart, &places, at);
+    }
+    if random.percent(12) {
+        spoil_field(random, chart, places[at]);
+    }
+    true
+}
+
+/// Where the whole step fields stand behind the head.
+pub fn step_places(chart: &[u8]) -> Vec<usize> {
+    let header = claiming(STEP.tag, STEP.length, &[]);
+    let is_step =
+        |(from, to): &(usize, usize)| to - from == WHOLE && chart[*from..].starts_with(&header);
+    fields(chart).into_iter().skip(1).filter(is_step).map(|(from, _)| from).collect()
+}
+
+/// Gives a step that was sound one to three faults.
+fn spoil_values(random: &mut Random, chart: &mut [u8], places: &[usize], at: usize) {
+    let stages = two_bytes(chart, HEADER);
+    let before = match at {
+        0 => 0,
+        _ => two_bytes(chart, places[at - 1] + HEADER),
+    };
+    let body = places[at] + HEADER..places[at] + WHOLE;
+    let mut step = step_of(&chart[body.clone()]);
+    // No from falls below 0.
+    let [falls, has_bad_ends, is_dear] = match before {
+        0 => random.pick(&[[false, true, false], [false, false, true], [false, true, true]]),
+        _ => {
+            let which = random.between(1, 7);
+            [1, 2, 4].map(|fault| which & fault != 0)
+        }
+    };
+    if falls {
+        step.from = random.below(before.into()) as u16;
+    }
+    if has_bad_ends {
+        step.to = bad_to(random, step, stages);
+    }
+    if is_dear {
+        step.cost = random.pick(&DEAR);
+    }
+    chart[body].copy_from_slice(&step_field(step)[HEADER..]);
+}
+
+/// A stage that isn't above the step's from, or is none of the chart.
+fn bad_to(random: &mut Random, step: Step, stages: u16) -> u16 {
+    match random.below(8) {
+        0 | 1 => step.from,
+        2 => step.from.saturating_sub(1),
+        3 => random.between(0, step.from.into()) as u16,
+        4 | 5 => stages,
+        6 => step.to.wrapping_add(256),
+        _ => random.pick(&[stages.wrapping_add(1), 0x7fff, u16::MAX, u16::MAX]),
+    }
+}
+
+/// A wrong length, or a cut.
+fn spoil_field(random: &mut Random, chart: &mut Vec<u8>, place: usize) {
+    if random.percent(50) {
+        chart.truncate(place + random.between(1, WHOLE - 1));
+        return;
+    }
+    let length = random.pick(&WRONG_LENGTHS);
+    chart[place + 1..place + HEADER].copy_from_slice(&length.to_le_bytes());
+}
