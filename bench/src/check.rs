@@ -12,7 +12,7 @@ use crate::reference::{self, Expected, Facts, Judged};
 
 pub type Checked = Result<(), String>;
 
-const LEFT: &str = "3.3: after refusals 1 to 7 and 9 to 11 every slice stays";
+const LEFT: &str = "3.3: after every refusal but 8 every slice stays";
 const PLAN_LEFT: &str = "3.3: after refusal 8 the plan slice stays";
 const STAY: &str = "7.1, 8.1: what lies behind the used part of a slice stays";
 const PLAN_HELD: &str = "7.1: the plan slice begins with the steps of a legal plan, the rest stays";

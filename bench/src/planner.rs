@@ -20,7 +20,7 @@ impl Answer {
         Answer { cost, length: length as u32, count: count as u32, ..Answer::default() }
     }
 
-    /// 1 to 7 and 9 to 11: a fault of a file or of a slice.
+    /// Every number but 8: a fault of a file or of a slice.
     pub fn refused(number: u32, file: u32, place: usize) -> Answer {
         Answer { number, file, place, ..Answer::default() }
     }
