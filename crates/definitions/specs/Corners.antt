@@ -27,14 +27,14 @@ unfolding options smaller larger sumOf
 options-hold = refl
 
 -- a node after 509 and after 510 nodes
-pub counts : List ℕ
-counts =
+pub nodeCounts : List ℕ
+nodeCounts =
     let node = bodyOfNode (nd 0 0 1) in
     nodeFault 1 (λ r. 0) 509 node ∷ nodeFault 1 (λ r. 0) 510 node ∷ []
 
-pub counts-hold : counts ≡ 0 ∷ 6 ∷ []
-unfolding counts pick nodeFault
-counts-hold = refl
+pub node-counts-hold : nodeCounts ≡ 0 ∷ 6 ∷ []
+unfolding nodeCounts pick nodeFault
+node-counts-hold = refl
 
 -- what a step is refused for in a chart of five stages, after `count` steps of which the last leaves stage 2
 abbrev judged : ℕ → ChartStep → ℕ
@@ -44,16 +44,22 @@ pub stepFaults : List (ℕ × ℕ)
 stepFaults =
     -- none, at each limit
     (judged 1023 (st 2 4 1000000), 0)
+    ∷ (judged 0 (st 2 3 0), 0)
     -- one: the 1,025th; its own stages; the stage count; the step before it; its cost
     ∷ (judged 1024 (st 2 4 1000000), 5)
+    ∷ (judged 1025 (st 2 3 7), 5)
     ∷ (judged 1 (st 3 3 7), 10)
-    ∷ (judged 1 (st 3 2 7), 10)
+    ∷ (judged 1 (st 4 1 7), 10)
+    ∷ (judged 1 (st 257 4 7), 10)
     ∷ (judged 1 (st 2 5 7), 10)
+    ∷ (judged 1 (st 2 259 7), 10)
+    ∷ (stepFault 4 2 1 (bodyOfStep (st 2 4 7)), 10)
     ∷ (judged 1 (st 1 2 7), 5)
+    ∷ (judged 1 (st 0 2 7), 5)
     ∷ (judged 1 (st 2 3 1000001), 11)
     ∷ (judged 1 (st 2 3 16777216), 11)
     ∷ (judged 1 (st 2 3 4294967295), 11)
-    -- two: the 1,025th with each other
+    -- two: the 1,025th with each other fault
     ∷ (judged 1024 (st 3 3 7), 5)
     ∷ (judged 1024 (st 2 5 7), 5)
     ∷ (judged 1024 (st 1 2 7), 5)

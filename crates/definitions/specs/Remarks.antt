@@ -108,11 +108,11 @@ tag-kept kind tag h = rw (lt-leb 128 tag h)
 
 -- ---- too long: more than 32,768 bytes, whatever they are
 
--- the longest remark that fits behind a chart's head, 32,756 bytes, and one that is a byte too long behind a diagram's, 32,761 bytes
+-- behind a chart's head the longest remark that fits, 32,756 bytes, and the same without its last byte; behind a diagram's head one of 32,761 bytes, one too many
 pub fullFiles : List (List ℕ)
-fullFiles = after (128 ∷ 244 ∷ 127 ∷ replicate 32756 0) ∷ afterRoot (128 ∷ 249 ∷ 127 ∷ replicate 32761 0) ∷ []
+fullFiles = after (128 ∷ 244 ∷ 127 ∷ replicate 32756 0) ∷ after (128 ∷ 244 ∷ 127 ∷ replicate 32755 0) ∷ afterRoot (128 ∷ 249 ∷ 127 ∷ replicate 32761 0) ∷ []
 
-pub full-files-hold : fullFiles ≡ (0 ∷ 0 ∷ []) ∷ (9 ∷ 32768 ∷ []) ∷ []
+pub full-files-hold : fullFiles ≡ (0 ∷ 0 ∷ []) ∷ (1 ∷ 9 ∷ []) ∷ (9 ∷ 32768 ∷ []) ∷ []
 unfolding fullFiles pick only orRemark fieldAt firstField onField scan headFault readChart readDiagram
 full-files-hold = refl
 

@@ -2,7 +2,7 @@
 -- Assumes nothing.
 use Prim.Native.Nat.{ℕ, zero, suc, _+_, _-_}
 use mathlib.Core.Bool.{false, not}
-use mathlib.Core.Path.{_≡_, refl}
+use mathlib.Core.Path.{_≡_, refl, subst}
 use mathlib.Core.List.{List, [], _∷_, _++_}
 use borrow.Author.Tests.{eqb-false}
 use lib.Dec.{leb, eqb}
@@ -131,10 +131,13 @@ rules-own s steps = go (firstField s (only 17 2)) (first-own s (only 17 2))
         (scan-own s (nodeGrammar steps) (λ before tag b. node-own steps (λ r. getD before (r - 2) noNode .step) (length before) b) (length s) e [])
 
 -- so neither are both
-abbrev pub OwnLoad : Load → Type 0
+abbrev OwnLoad : Load → Type 0
 OwnLoad (ready c d) = Unit {0}
 OwnLoad (refused number file place) = Own number
 
-pub files-own : (chart rules : List ℕ) → OwnLoad (readFiles chart rules)
+load-own : (chart rules : List ℕ) → OwnLoad (readFiles chart rules)
 unfolding readFiles
-files-own chart rules = both OwnLoad _ (chart-own chart) (both OwnLoad _ (rules-own rules (length (readChart chart .chart .steps))) tt)
+load-own chart rules = both OwnLoad _ (chart-own chart) (both OwnLoad _ (rules-own rules (length (readChart chart .chart .steps))) tt)
+
+pub files-own : (chart rules : List ℕ) (number file place : ℕ) → readFiles chart rules ≡ refused number file place → (number ≡ 7 → ⊥) × (number ≡ 8 → ⊥)
+files-own chart rules number file place e = subst OwnLoad e (load-own chart rules)
