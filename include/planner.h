@@ -30,7 +30,7 @@ extern "C" {
 /* Numbers of an answer: accepted, or the cause of the refusal. The chart is looked at before the diagram, each for its
  * length and then from its front; then the space; then whether there is a plan.
  *
- * Numbers from 12 on are coming: every number but PLANNER_ACCEPTED is a refusal, and a switch over them needs a default
+ * More numbers are coming: every number but PLANNER_ACCEPTED is a refusal, and a switch over them needs a default
  * branch. */
 enum {
     PLANNER_ACCEPTED = 0,

@@ -7,8 +7,8 @@ use crate::raw;
 /// The cost slice's entry at a pair that isn't reached.
 pub const UNREACHED: u32 = u32::MAX;
 
-/// An answer. Its number is 0, or that of a refusal: 1 to 11 today, later versions of the library add
-/// numbers from 12 on. [`Refusal::of`](crate::Refusal::of) names it.
+/// An answer. Its number is 0, or that of a refusal; later versions of the library add numbers.
+/// [`Refusal::of`](crate::Refusal::of) names it.
 #[repr(C)]
 #[derive(Clone, Copy, Debug, Default, PartialEq, Eq)]
 pub struct Answer {

@@ -25,8 +25,7 @@ impl File {
 }
 
 /// The cause of a refusal. Where a file is at fault, with the place: the byte position of the faulty
-/// field's tag, or of the first byte too many. Later versions of the library add causes, with numbers
-/// from 12 on.
+/// field's tag, or of the first byte too many. Later versions of the library add causes.
 #[derive(Clone, Copy, Debug, PartialEq, Eq, Hash)]
 #[non_exhaustive]
 pub enum Refusal {
@@ -85,7 +84,7 @@ impl Refusal {
         Refusal::of(&Answer { number, file, place, ..Answer::default() })
     }
 
-    /// The refusal's number: 1 to 11, or that of [`Refusal::Other`].
+    /// The refusal's number, as it stands in the answer.
     pub fn number(&self) -> usize {
         match *self {
             Refusal::Cut { .. } => 1,
