@@ -1,13 +1,12 @@
 -- The walk over the steps of a chart file, turn by turn.
 -- Assumes nothing.
-use Prim.Native.Nat.{ℕ, _-_, _≤_, _<_}
+use Prim.Native.Nat.{ℕ}
 use mathlib.Core.Path.{_≡_}
-use mathlib.Core.Bool.{Bool, true, false}
 use mathlib.Core.List.{List}
 use lib.ListN.{length}
 use Rattle.definitions.specs.Charts.{ChartStep, lastFrom, stepGrammar, scanSteps}
-use Rattle.fields.specs.Positions.{HasField}
 use Rattle.fields.specs.Scans.{Reading}
+use Rattle.fields.specs.Turns.{Stands, Turn}
 use Rattle.chart.specs.Tables.{Room, Filled, stepsAnswer}
 use Rattle.chart.specs.declared.reader.StepsRead.{StepsRead}
 
@@ -24,22 +23,13 @@ pub record Over (s : List ℕ) (first stages : ℕ) (packed₀ packed : List (Li
   pub answer : r ≡ stepsAnswer (scanSteps s stages first)
   pub filled : Room packed₀ → Filled (scanSteps s stages first .passed) packed₀ packed
 
--- where the walk stands: it goes on, or it is over
-pub record Stands (s : List ℕ) (first stages : ℕ) (packed₀ packed : List (List ℕ)) (r : StepsRead) : Type 0 where
-  pub goes : r .going ≡ true → SoFar s first stages packed₀ packed (r .place) (r .last) (r .steps)
-  pub over : r .going ≡ false → Over s first stages packed₀ packed r
+-- by its origin, the first place and the table then: what is read so far at r, and where the walk stands
+abbrev pub SoFarAt : List ℕ → ℕ → List (List ℕ) → StepsRead → ℕ × List (List ℕ) → Type 0
+SoFarAt s stages packed r o = SoFar s (o .0) stages (o .1) packed (r .place) (r .last) (r .steps)
+
+abbrev pub StandsAt : List ℕ → ℕ → List (List ℕ) → StepsRead → ℕ × List (List ℕ) → Type 0
+StandsAt s stages packed r o = Stands (r .going) (SoFarAt s stages packed r o) (Over s (o .0) stages (o .1) packed r)
 
 -- from t to r, by one field or by a run of them
-pub record Takes (s : List ℕ) (stages : ℕ) (t : StepsRead) (packed packed′ : List (List ℕ)) (r : StepsRead) : Type 0 where
-  pub nearer : r .going ≡ true → length s - r .place < length s - t .place
-  pub stands : (first : ℕ) (packed₀ : List (List ℕ)) → SoFar s first stages packed₀ packed (t .place) (t .last) (t .steps) → Stands s first stages packed₀ packed′ r
-
--- a run of turns from t, which has come to r; here says whether a step stands there, and so whether the run goes on
-pub record Run (s : List ℕ) (stages : ℕ) (t : StepsRead) (packed₁ packed : List (List ℕ)) (r : StepsRead) (here : Bool) : Type 0 where
-  pub sofar : here ≡ true → (first : ℕ) (packed₀ : List (List ℕ)) → SoFar s first stages packed₀ packed₁ (t .place) (t .last) (t .steps)
-      → SoFar s first stages packed₀ packed (r .place) (r .last) (r .steps)
-  pub stands : here ≡ false → (first : ℕ) (packed₀ : List (List ℕ)) → SoFar s first stages packed₀ packed₁ (t .place) (t .last) (t .steps)
-      → Stands s first stages packed₀ packed r
-  pub has : here ≡ true → HasField s (r .place) 2 8
-  pub nearer : here ≡ true → length s - r .place ≤ length s - t .place
-  pub less : here ≡ false → r .going ≡ true → length s - r .place < length s - t .place
+abbrev pub Takes : List ℕ → ℕ → StepsRead → List (List ℕ) → List (List ℕ) → StepsRead → Type 0
+Takes s stages t packed packed′ r = Turn s (t .place) (r .place) (r .going) (SoFarAt s stages packed t) (StandsAt s stages packed′ r)

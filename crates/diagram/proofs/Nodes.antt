@@ -1,8 +1,8 @@
--- The walk over the nodes: one law for each way out of a turn, and what the turns come to.
+-- The walk over the nodes: how it begins, and one law for each way out of a turn.
 -- Assumes nothing.
 use Prim.Native.Nat.{ℕ, suc, _+_, _-_, _≤_, _<_}
 use mathlib.Core.Path.{_≡_, refl, sym, _∙_, ap}
-use mathlib.Core.Bool.{Bool, true, false}
+use mathlib.Core.Bool.{true, false}
 use mathlib.Core.List.{List, [], _∷_, _++_, map, append-nil, append-assoc, map-append}
 use lib.ListN.{length, getD, take, set, length-append, length-set, List·getD-map}
 use lib.Seq.{getD-append-add, getD-take, length-take-le, take-suc-set}
@@ -11,13 +11,14 @@ use Rattle.definitions.specs.Fields.{two, part, only, orRemark, fieldAt, stoppe
 use Rattle.definitions.specs.Diagrams.{InnerNode, noNode, nodeFault, innerNodeOf, nodeFaultAfter, nodeGrammar, scanNodes}
 use Rattle.definitions.specs.declared.Field.{Field}
 use Rattle.definitions.specs.declared.Field.the-variants.{Absent, Faulty, Passed, Whole}
-use Rattle.theory.specs.Basics.{true-not-false, rest-kept}
-use Rattle.fields.specs.Positions.{passed-within, HasField, GoesOn, goes-has}
+use Rattle.theory.specs.Basics.{rest-kept}
+use Rattle.fields.specs.Positions.{passed-within, HasField}
 use Rattle.fields.specs.Remarks.{has-whole, has-less}
-use Rattle.fields.specs.Scans.{leftOf, left-less, reading-start, reading-done, reading-faulty, reading-passed, reading-bad, reading-step}
+use Rattle.fields.specs.Scans.{reading-start, reading-done, reading-faulty, reading-passed, reading-bad, reading-step}
+use Rattle.fields.specs.Turns.{turn-on, turn-over}
 use Rattle.diagram_fields.specs.Words.{wordOf}
 use Rattle.diagram.specs.Files.{Room}
-use Rattle.diagram.specs.Turns.{Stored, stepIn, Halfway, SoFar, Stands, Takes, Run}
+use Rattle.diagram.specs.Turns.{Stored, stepIn, Halfway, SoFar, Takes}
 use Rattle.diagram.specs.declared.reader.NodesRead.{NodesRead}
 use Rattle.diagram.specs.Limits.{NodeFits, node-fits, nodeFault-same}
 
@@ -49,7 +50,7 @@ step-known before count step₀ step counted room known k i l =
     ∙ ap (λ (n : ℕ). getD (take 2 step₀ ++ map stepIn before) n 0) q ∙ getD-append-add (take 2 step₀) (map stepIn before) (k - 2) 0
     ∙ List·getD-map stepIn before (k - 2) noNode
 
-nodes-start : (s : List ℕ) (first steps : ℕ) (step words : List ℕ) → SoFar s first steps step words step words first 0
+pub nodes-start : (s : List ℕ) (first steps : ℕ) (step words : List ℕ) → SoFar s first steps step words step words first 0
 nodes-start s first steps step words = record {
   few = omega arith;
   halfway = λ room. record {
@@ -82,18 +83,12 @@ module _ (s : List ℕ) (steps : ℕ) (t : NodesRead) (step words : List ℕ) wh
       → ((first : ℕ) (step₀ words₀ : List ℕ) (h : Halfway s first steps step₀ words₀ step words (t .place) (t .nodes)) → Room step₀
       → scanNodes s steps first ≡ stopped (h .before) number place)
       → Takes s steps t step words step words x
-  stops number place x e is = rw e (record {
-    nearer = λ g. absurd (true-not-false (sym g));
-    stands = λ first step₀ words₀ sofar. record {
-      goes = λ g. absurd (true-not-false (sym g));
-      over = λ g. record {
-        few = sofar .few;
-        answer = λ r. let h = sofar .halfway r in rw (is first step₀ words₀ h r, h .counted);
-        known = λ r. let h = sofar .halfway r in rw (is first step₀ words₀ h r) (h .known);
-        stored = λ r room. let h = sofar .halfway r in rw (is first step₀ words₀ h r) (h .stored room);
-      };
-    };
-  })
+  stops number place x e is = rw e (turn-over s (t .place) place (λ o sofar. record {
+    few = sofar .few;
+    answer = λ r. let h = sofar .halfway r in rw (is (o .0) (o .1) (o .2) h r, h .counted);
+    known = λ r. let h = sofar .halfway r in rw (is (o .0) (o .1) (o .2) h r) (h .known);
+    stored = λ r room. let h = sofar .halfway r in rw (is (o .0) (o .1) (o .2) h r) (h .stored room);
+  }))
 
   module _ (f : Field) (given : f ≡ fieldAt s (t .place) (orRemark (only 18 6))) where
     pub take-done : f ≡ Absent → (x : NodesRead) → x ≡ record { number = 0; place = 0; nodes = t .nodes; going = false } → Takes s steps t step words step words x
@@ -104,24 +99,20 @@ module _ (s : List ℕ) (steps : ℕ) (t : NodesRead) (step words : List ℕ) wh
         stops k p x e (λ first step₀ words₀ h r. reading-faulty s (nodeGrammar steps) first (t .place) (h .before) (h .reading) f given k p found)
 
     pub take-passed : (e : ℕ) → f ≡ Passed e → Takes s steps t step words step words (record { number = 0; place = e; nodes = t .nodes; going = true })
-    take-passed e found = record {
-      nearer = λ g. let w = passed-within s (t .place) (orRemark (only 18 6)) e (sym found ∙ given) in omega (arith, w .later, w .inside);
-      stands = λ first step₀ words₀ sofar. record {
-        goes = λ g. record {
+    take-passed e found =
+        let w = passed-within s (t .place) (orRemark (only 18 6)) e (sym found ∙ given) in
+        turn-on s (t .place) e (omega (arith, w .later, w .inside)) (λ o sofar. record {
           few = sofar .few;
           halfway = λ r.
               let h = sofar .halfway r in
               record {
                 before = h .before;
-                reading = reading-passed s (nodeGrammar steps) first (t .place) (h .before) (h .reading) f given e found;
+                reading = reading-passed s (nodeGrammar steps) (o .0) (t .place) (h .before) (h .reading) f given e found;
                 counted = h .counted;
                 known = h .known;
                 stored = h .stored;
               };
-        };
-        over = λ g. absurd (true-not-false g);
-      };
-    }
+        })
 
   -- a node stands there
   module _ (has : HasField s (t .place) 18 6) (v : ℕ) (judged : v ≡ nodeFault steps (λ k. getD step k 0) (t .nodes) (part s (t .place + 3) (t .place + 3 + 6))) where
@@ -152,73 +143,19 @@ module _ (s : List ℕ) (steps : ℕ) (t : NodesRead) (step words : List ℕ) wh
 
       pub take-node : (step′ words′ : List ℕ) → step′ ≡ set step (t .nodes + 2) (x .step) → words′ ≡ set words (t .nodes + 2) (wordOf x)
           → Takes s steps t step words step′ words′ (record { number = 0; place = t .place + 3 + 6; nodes = t .nodes + 1; going = true })
-      take-node step′ words′ es ew = rw (es, ew) (record {
-        nearer = λ g. has-less s (t .place) 18 6 has;
-        stands = λ first step₀ words₀ sofar. record {
-          goes = λ g. record {
-            few = omega (arith, fits .few);
-            halfway = λ r.
-                let h = sofar .halfway r in
-                record {
-                  before = h .before ++ x ∷ [];
-                  reading =
-                      reading-step s (nodeGrammar steps) first (t .place) (h .before) (h .reading) _ whole (t .place) (t .place + 3) (t .place + 3 + 6) refl v
-                      (same-fault first step₀ words₀ h r) passes;
-                  counted = omega (arith, length-append (h .before) (x ∷ []), h .counted);
-                  known = stored-grown stepIn (h .before) x (t .nodes) step₀ step (h .counted) (fits .few) (h .known);
-                  stored = λ room. stored-grown wordOf (h .before) x (t .nodes) words₀ words (h .counted) (fits .few) (h .stored room);
-                };
-          };
-          over = λ g. absurd (true-not-false g);
-        };
-      })
-
--- ---- a run of nodes
-
-module _ (s : List ℕ) (steps : ℕ) (t : NodesRead) (step₁ words₁ : List ℕ) where
-  pub run-start : HasField s (t .place) 18 6 → Run s steps t step₁ words₁ step₁ words₁ t true
-  run-start h = record {
-    sofar = λ e first step₀ words₀ sofar. sofar;
-    stands = λ e. absurd (true-not-false e);
-    has = λ e. h;
-    nearer = λ e. omega arith;
-    less = λ e. absurd (true-not-false e);
-  }
-
-  module _ (step words step′ words′ : List ℕ) (z r : NodesRead) (h : Bool) (run : Run s steps t step₁ words₁ step words z h) (here : h ≡ true)
-      (takes : Takes s steps z step words step′ words′ r) (n : Bool) (goes : GoesOn n (r .going) s (r .place) 18 6) where
-    was : n ≡ true → (r .going ≡ true) × HasField s (r .place) 18 6
-    was e = goes-has n (r .going) s (r .place) 18 6 goes e
-
-    turned : (first : ℕ) (step₀ words₀ : List ℕ) → SoFar s first steps step₀ words₀ step₁ words₁ (t .place) (t .nodes) → Stands s first steps step₀ words₀ step′ words′ r
-    turned first step₀ words₀ sofar = takes .stands first step₀ words₀ (run .sofar here first step₀ words₀ sofar)
-
-    pub run-next : Run s steps t step₁ words₁ step′ words′ r n
-    run-next = record {
-      sofar = λ e first step₀ words₀ sofar. turned first step₀ words₀ sofar .goes (was e .0);
-      stands = λ e. turned;
-      has = λ e. was e .1;
-      nearer = λ e. omega (arith, run .nearer here, takes .nearer (was e .0));
-      less = λ e g. omega (arith, run .nearer here, takes .nearer g);
-    }
-
-    pub run-less : leftOf n (length s - r .place) < leftOf h (length s - z .place)
-    run-less = rw here (left-less n (length s - r .place) (length s - z .place) (λ e. takes .nearer (was e .0)))
-
-  pub run-done : (step words : List ℕ) (r : NodesRead) (h : Bool) → Run s steps t step₁ words₁ step words r h → h ≡ false → Takes s steps t step₁ words₁ step words r
-  run-done step words r h run e = record { nearer = run .less e; stands = run .stands e }
-
--- ---- the whole walk
-
-pub stands-begin : (s : List ℕ) (first steps : ℕ) (step words : List ℕ) → Stands s first steps step words step words (record { number = 0; place = first; nodes = 0; going = true })
-stands-begin s first steps step words = record { goes = λ g. nodes-start s first steps step words; over = λ g. absurd (true-not-false g) }
-
-pub take-turn : (s : List ℕ) (first steps : ℕ) (step₀ words₀ step words step′ words′ : List ℕ) (t r : NodesRead) → Stands s first steps step₀ words₀ step words t → t .going ≡ true
-    → Takes s steps t step words step′ words′ r → Stands s first steps step₀ words₀ step′ words′ r
-take-turn s first steps step₀ words₀ step words step′ words′ t r g going e = e .stands first step₀ words₀ (g .goes going)
-
-pub take-nearer : (s : List ℕ) (steps : ℕ) (step words step′ words′ : List ℕ) (t r : NodesRead) → t .going ≡ true → Takes s steps t step words step′ words′ r
-    → leftOf (r .going) (length s - r .place) < leftOf (t .going) (length s - t .place)
-take-nearer s steps step words step′ words′ t r going e = rw going (left-less (r .going) (length s - r .place) (length s - t .place) (e .nearer))
+      take-node step′ words′ es ew = rw (es, ew) (turn-on s (t .place) (t .place + 3 + 6) (has-less s (t .place) 18 6 has) (λ o sofar. record {
+        few = omega (arith, fits .few);
+        halfway = λ r.
+            let h = sofar .halfway r in
+            record {
+              before = h .before ++ x ∷ [];
+              reading =
+                  reading-step s (nodeGrammar steps) (o .0) (t .place) (h .before) (h .reading) _ whole (t .place) (t .place + 3) (t .place + 3 + 6) refl v
+                  (same-fault (o .0) (o .1) (o .2) h r) passes;
+              counted = omega (arith, length-append (h .before) (x ∷ []), h .counted);
+              known = stored-grown stepIn (h .before) x (t .nodes) (o .1) step (h .counted) (fits .few) (h .known);
+              stored = λ room. stored-grown wordOf (h .before) x (t .nodes) (o .2) words (h .counted) (fits .few) (h .stored room);
+            };
+      }))
 
 pub ruleset take-laws = (take-done, take-faulty, take-passed)

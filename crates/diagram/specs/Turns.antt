@@ -1,13 +1,12 @@
 -- The walk over the nodes of a diagram file, turn by turn.
 -- Assumes nothing.
-use Prim.Native.Nat.{ℕ, _+_, _-_, _≤_, _<_}
+use Prim.Native.Nat.{ℕ, _+_, _≤_}
 use mathlib.Core.Path.{_≡_}
-use mathlib.Core.Bool.{Bool, true, false}
 use mathlib.Core.List.{List, _++_, map}
 use lib.ListN.{length, take, drop}
 use Rattle.definitions.specs.Diagrams.{InnerNode, nodeGrammar, scanNodes}
-use Rattle.fields.specs.Positions.{HasField}
 use Rattle.fields.specs.Scans.{Reading}
+use Rattle.fields.specs.Turns.{Stands, Turn}
 use Rattle.diagram_fields.specs.Words.{wordOf}
 use Rattle.diagram.specs.Files.{Room, nodesAnswer}
 use Rattle.diagram.specs.declared.reader.NodesRead.{NodesRead}
@@ -43,23 +42,13 @@ pub record Over (s : List ℕ) (first steps : ℕ) (step₀ words₀ step words 
   pub known : Room step₀ → Stored stepIn (scanNodes s steps first .passed) step₀ step
   pub stored : Room step₀ → Room words₀ → Stored wordOf (scanNodes s steps first .passed) words₀ words
 
--- where the walk stands: it goes on, or it is over
-pub record Stands (s : List ℕ) (first steps : ℕ) (step₀ words₀ step words : List ℕ) (r : NodesRead) : Type 0 where
-  pub goes : r .going ≡ true → SoFar s first steps step₀ words₀ step words (r .place) (r .nodes)
-  pub over : r .going ≡ false → Over s first steps step₀ words₀ step words r
+-- by its origin, the first place and both tables then: what is read so far at r, and where the walk stands
+abbrev pub SoFarAt : List ℕ → ℕ → List ℕ → List ℕ → NodesRead → ℕ × List ℕ × List ℕ → Type 0
+SoFarAt s steps step words r o = SoFar s (o .0) steps (o .1) (o .2) step words (r .place) (r .nodes)
+
+abbrev pub StandsAt : List ℕ → ℕ → List ℕ → List ℕ → NodesRead → ℕ × List ℕ × List ℕ → Type 0
+StandsAt s steps step words r o = Stands (r .going) (SoFarAt s steps step words r o) (Over s (o .0) steps (o .1) (o .2) step words r)
 
 -- from t to r, by one field or by a run of them
-pub record Takes (s : List ℕ) (steps : ℕ) (t : NodesRead) (step words step′ words′ : List ℕ) (r : NodesRead) : Type 0 where
-  pub nearer : r .going ≡ true → length s - r .place < length s - t .place
-  pub stands : (first : ℕ) (step₀ words₀ : List ℕ) → SoFar s first steps step₀ words₀ step words (t .place) (t .nodes)
-      → Stands s first steps step₀ words₀ step′ words′ r
-
--- a run of turns from t, which has come to r; here says whether a node stands there, and so whether the run goes on
-pub record Run (s : List ℕ) (steps : ℕ) (t : NodesRead) (step₁ words₁ step words : List ℕ) (r : NodesRead) (here : Bool) : Type 0 where
-  pub sofar : here ≡ true → (first : ℕ) (step₀ words₀ : List ℕ) → SoFar s first steps step₀ words₀ step₁ words₁ (t .place) (t .nodes)
-      → SoFar s first steps step₀ words₀ step words (r .place) (r .nodes)
-  pub stands : here ≡ false → (first : ℕ) (step₀ words₀ : List ℕ) → SoFar s first steps step₀ words₀ step₁ words₁ (t .place) (t .nodes)
-      → Stands s first steps step₀ words₀ step words r
-  pub has : here ≡ true → HasField s (r .place) 18 6
-  pub nearer : here ≡ true → length s - r .place ≤ length s - t .place
-  pub less : here ≡ false → r .going ≡ true → length s - r .place < length s - t .place
+abbrev pub Takes : List ℕ → ℕ → NodesRead → List ℕ → List ℕ → List ℕ → List ℕ → NodesRead → Type 0
+Takes s steps t step words step′ words′ r = Turn s (t .place) (r .place) (r .going) (SoFarAt s steps step words t) (StandsAt s steps step′ words′ r)

@@ -2,3 +2,4 @@ pub mod Positions
 pub mod First
 pub mod Remarks
 pub mod Scans
+pub mod Turns

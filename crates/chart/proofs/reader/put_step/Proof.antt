@@ -47,7 +47,7 @@ returns c =
     let start : tie.Start = search in
     let stops : tie.Then1 = search in
     let ends : tie.After-stopped = search in
-    take-bad _ _ _ _ (start .pre) _ (judged .step-fault .ensures) (stops .if1 .taken) _ (ends .stopped .ensures)
+    take-bad _ _ (start .args .read) (start .args .steps .now) (start .pre) _ (judged .step-fault .ensures) (stops .if1 .taken) _ (ends .stopped .ensures)
 
 step-of-requires : tie.Need-step-of-requires
 step-of-requires c κs = search needs
@@ -81,7 +81,7 @@ returns-2 c =
     let q = read c in
     let p = passed q in
     let s = start-of p in
-    take-step _ _ _ _ (s .pre) _ (p .before .step-fault .ensures) (p .if1 .left) _ (q .step-of .ensures) _ (c .ends-of .ensures) (omega (arith, q .step-of .ok))
+    take-step _ _ (s .args .read) (s .args .steps .now) (s .pre) _ (p .before .step-fault .ensures) (p .if1 .left) _ (q .step-of .ensures) _ (c .ends-of .ensures) (omega (arith, q .step-of .ok))
 
 pub put-step-spec : {M : Type 1} → statement M
 put-step-spec =

@@ -3,19 +3,20 @@ use Prim.Native.Nat.{_-_}
 use lib.ListN.{length}
 use borrow.Author.Needs.{needs}
 use Rattle.fields.specs.Scans.{leftOf}
-use Rattle.chart.specs.Turns.{Run}
-use Rattle.chart.proofs.Steps.{run-start, run-next, run-less, run-done}
+use Rattle.fields.specs.Turns.{Run, run-start, run-next, run-less, run-done}
+use Rattle.chart.specs.Turns.{SoFarAt, StandsAt}
 use Rattle.chart.proofs.reader.put_steps.Statement.{statement}
 use Rattle.chart.proofs.reader.put_steps.Tie as tie
 
 abbrev Inv-loop : tie.InvT-loop
-Inv-loop file stages steps₀ read₀ here₀ steps read here = Run file stages read₀ steps₀ steps read here
+Inv-loop file stages steps₀ read₀ here₀ steps read here =
+    Run file 2 8 (read₀ .place) (read .place) (read .going) here (SoFarAt file stages steps₀ read₀) (SoFarAt file stages steps read) (StandsAt file stages steps read)
 
 abbrev μ-loop : tie.MeasureT-loop
 μ-loop file stages steps₀ read₀ here₀ steps read here = leftOf here (length file - read .place)
 
 loop-holds : tie.Need-loop-holds Inv-loop μ-loop
-loop-holds c = let start : tie.Start Inv-loop μ-loop = search in run-start _ _ _ _ (start .pre)
+loop-holds c = let start : tie.Start Inv-loop μ-loop = search in run-start (start .pre)
 
 put-step-requires : tie.Need-put-step-requires Inv-loop μ-loop
 put-step-requires c κs =
@@ -32,7 +33,7 @@ loop-less c =
     let stored : tie.After-put-step Inv-loop μ-loop = search in
     let turn : tie.In-loop Inv-loop μ-loop = search in
     let head : tie.At-loop Inv-loop μ-loop = search in
-    run-less _ _ _ _ _ _ _ _ _ (head .loop .inv) (turn .loop-test .taken) (stored .put-step .ensures) _ (judged .goes-on .ensures)
+    run-less (head .loop .inv) (turn .loop-test .taken) (stored .put-step .ensures) (judged .goes-on .ensures)
 
 loop-again : tie.Need-loop-again Inv-loop μ-loop
 loop-again c =
@@ -40,13 +41,13 @@ loop-again c =
     let stored : tie.After-put-step Inv-loop μ-loop = search in
     let turn : tie.In-loop Inv-loop μ-loop = search in
     let head : tie.At-loop Inv-loop μ-loop = search in
-    run-next _ _ _ _ _ _ _ _ _ (head .loop .inv) (turn .loop-test .taken) (stored .put-step .ensures) _ (judged .goes-on .ensures)
+    run-next (head .loop .inv) (turn .loop-test .taken) (stored .put-step .ensures) (judged .goes-on .ensures)
 
 returns : tie.Need-returns Inv-loop μ-loop
 returns c =
     let left : tie.After-loop Inv-loop μ-loop = search in
     let head : tie.At-loop Inv-loop μ-loop = search in
-    run-done _ _ _ _ _ _ _ (head .loop .inv) (left .loop-test .left)
+    run-done (head .loop .inv) (left .loop-test .left)
 
 pub put-steps-spec : {M : Type 1} → statement M
 put-steps-spec =

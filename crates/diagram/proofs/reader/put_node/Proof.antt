@@ -44,7 +44,7 @@ returns c =
     let start : tie.Start = search in
     let stops : tie.Then1 = search in
     let ends : tie.After-stopped = search in
-    take-bad _ _ _ (start .args .step .now) (start .args .inner .now) (start .pre) _ (judged .node-fault .ensures) (stops .if1 .taken) _ (ends .stopped .ensures)
+    take-bad _ _ (start .args .read) (start .args .step .now) (start .args .inner .now) (start .pre) _ (judged .node-fault .ensures) (stops .if1 .taken) _ (ends .stopped .ensures)
 
 add-store-node : tie.Need-add-store-node
 add-store-node c = omega (arith, room c)
@@ -65,7 +65,7 @@ returns-2 : tie.Need-returns-2
 returns-2 c =
     let p = passed c in
     let s = start-of p in
-    take-node _ _ _ (s .args .step .now) (s .args .inner .now) (s .pre) _ (p .before .node-fault .ensures) (p .if1 .left) _ _ (c .store-node .ensures .0) (c .store-node .ensures .1)
+    take-node _ _ (s .args .read) (s .args .step .now) (s .args .inner .now) (s .pre) _ (p .before .node-fault .ensures) (p .if1 .left) _ _ (c .store-node .ensures .0) (c .store-node .ensures .1)
 
 pub put-node-spec : {M : Type 1} → statement M
 put-node-spec =

@@ -3,19 +3,20 @@ use Prim.Native.Nat.{_-_}
 use lib.ListN.{length}
 use borrow.Author.Needs.{needs}
 use Rattle.fields.specs.Scans.{leftOf}
-use Rattle.diagram.specs.Turns.{Run}
-use Rattle.diagram.proofs.Nodes.{run-start, run-next, run-less, run-done}
+use Rattle.fields.specs.Turns.{Run, run-start, run-next, run-less, run-done}
+use Rattle.diagram.specs.Turns.{SoFarAt, StandsAt}
 use Rattle.diagram.proofs.reader.put_nodes.Statement.{statement}
 use Rattle.diagram.proofs.reader.put_nodes.Tie as tie
 
 abbrev Inv-loop : tie.InvT-loop
-Inv-loop file steps step₀ inner₀ read₀ here₀ step inner read here = Run file steps read₀ step₀ inner₀ step inner read here
+Inv-loop file steps step₀ inner₀ read₀ here₀ step inner read here =
+    Run file 18 6 (read₀ .place) (read .place) (read .going) here (SoFarAt file steps step₀ inner₀ read₀) (SoFarAt file steps step inner read) (StandsAt file steps step inner read)
 
 abbrev μ-loop : tie.MeasureT-loop
 μ-loop file steps step₀ inner₀ read₀ here₀ step inner read here = leftOf here (length file - read .place)
 
 loop-holds : tie.Need-loop-holds Inv-loop μ-loop
-loop-holds c = let start : tie.Start Inv-loop μ-loop = search in run-start _ _ _ _ _ (start .pre)
+loop-holds c = let start : tie.Start Inv-loop μ-loop = search in run-start (start .pre)
 
 put-node-requires : tie.Need-put-node-requires Inv-loop μ-loop
 put-node-requires c κs =
@@ -32,7 +33,7 @@ loop-less c =
     let stored : tie.After-put-node Inv-loop μ-loop = search in
     let turn : tie.In-loop Inv-loop μ-loop = search in
     let head : tie.At-loop Inv-loop μ-loop = search in
-    run-less _ _ _ _ _ _ _ _ _ _ _ _ (head .loop .inv) (turn .loop-test .taken) (stored .put-node .ensures) _ (judged .goes-on .ensures)
+    run-less (head .loop .inv) (turn .loop-test .taken) (stored .put-node .ensures) (judged .goes-on .ensures)
 
 loop-again : tie.Need-loop-again Inv-loop μ-loop
 loop-again c =
@@ -40,13 +41,13 @@ loop-again c =
     let stored : tie.After-put-node Inv-loop μ-loop = search in
     let turn : tie.In-loop Inv-loop μ-loop = search in
     let head : tie.At-loop Inv-loop μ-loop = search in
-    run-next _ _ _ _ _ _ _ _ _ _ _ _ (head .loop .inv) (turn .loop-test .taken) (stored .put-node .ensures) _ (judged .goes-on .ensures)
+    run-next (head .loop .inv) (turn .loop-test .taken) (stored .put-node .ensures) (judged .goes-on .ensures)
 
 returns : tie.Need-returns Inv-loop μ-loop
 returns c =
     let left : tie.After-loop Inv-loop μ-loop = search in
     let head : tie.At-loop Inv-loop μ-loop = search in
-    run-done _ _ _ _ _ _ _ _ _ (head .loop .inv) (left .loop-test .left)
+    run-done (head .loop .inv) (left .loop-test .left)
 
 pub put-nodes-spec : {M : Type 1} → statement M
 put-nodes-spec =

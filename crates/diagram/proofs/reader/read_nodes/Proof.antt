@@ -1,5 +1,5 @@
 -- `diagram::read_nodes` meets its contract: a walk of its MIR, by hand, since a local holds the reader. The reader is made and moved to the first place. In each turn it is asked for the next field, `take_nodes` takes what it found,
--- with both tables lent again for the call, and the reader is moved on. What a turn comes to is `Nodes.antt`'s `take-turn`; how the reader's functions are called, `Calls.antt` of `fields`.
+-- with both tables lent again for the call, and the reader is moved on. What a turn comes to is its `stands`; how the reader's functions are called, `Calls.antt` of `fields`.
 -- Assumes nothing.
 use mathlib.Core.Path.{_≡_, refl, _∙_, ap, subst}
 use mathlib.Core.Bool.{Bool, true, false}
@@ -50,10 +50,11 @@ use Rattle.definitions.specs.Fields.{only, orRemark, fieldAt}
 use Rattle.definitions.specs.declared.Field.{Field}
 use Rattle.fields.specs.declared.reader.Reader.{Reader}
 use Rattle.diagram.specs.declared.reader.NodesRead.{NodesRead}
-use Rattle.diagram.specs.Turns.{Over, Stands, Takes}
+use Rattle.diagram.specs.Turns.{Over, StandsAt, Takes}
 use Rattle.fields.specs.Scans.{leftOf}
+use Rattle.fields.specs.Turns.{stands-on, turn-less}
 use Rattle.fields.proofs.Calls.{B, fileVal, fileOwn, New, Moved, Next, to-new, goes-new, new-said, to-moved, goes-moved, moved-said, to-next, goes-next, next-said}
-use Rattle.diagram.proofs.Nodes.{stands-begin, take-turn, take-nearer}
+use Rattle.diagram.proofs.Nodes.{nodes-start}
 use Rattle.fields.proofs.reader.Reader as T
 use Rattle.fields.proofs.reader.Reader.Laws as T′
 use Rattle.definitions.proofs.Field as S
@@ -197,7 +198,7 @@ module _ {M : Type 1} (𝓤 : URA M) (H : Heap 𝓤) (A : Atoms 𝓤) (W : Given
 
   -- what the loop carries: the reader and its machine value, what is read so far, and the tables
   abbrev State : Type 0
-  State = (d : Reader) × (u : Val) × (t : NodesRead) × (vs : List ℕ) × (ws : List ℕ) × Is (B (κ, tt)) d (u ∷ []) × Is SR t (R′.lowered t ∷ []) × (d .src ≡ s) × (d .at ≡ t .place) × Stands (now s) start steps us₁ us₂ vs ws t
+  State = (d : Reader) × (u : Val) × (t : NodesRead) × (vs : List ℕ) × (ws : List ℕ) × Is (B (κ, tt)) d (u ∷ []) × Is SR t (R′.lowered t ∷ []) × (d .src ≡ s) × (d .at ≡ t .place) × StandsAt (now s) steps vs ws t (start, us₁, us₂)
 
   abbrev left : State → ℕ
   left z = leftOf (z .2 .going) (length (now s) - z .2 .place)
@@ -245,7 +246,7 @@ module _ {M : Type 1} (𝓤 : URA M) (H : Heap 𝓤) (A : Atoms 𝓤) (W : Given
     abbrev Turned : State → Out → SProp 𝓤
     Turned z = afterTurn 𝓤 H (Below 𝓤 H A Nearer At z) (afterBlock 𝓤 H (afterSeq 𝓤 H (Wp 𝓤 H C Λ En rest (atReturn 𝓤 H En Post)) (atReturn 𝓤 H En Post)))
 
-    more : (d : Reader) (u : Val) (t : NodesRead) (vs ws : List ℕ) (ud : Is (B (κ, tt)) d (u ∷ [])) (is : Is SR t (R′.lowered t ∷ [])) (src : d .src ≡ s) (at : d .at ≡ t .place) (g : Stands (now s) start steps us₁ us₂ vs ws t)
+    more : (d : Reader) (u : Val) (t : NodesRead) (vs ws : List ℕ) (ud : Is (B (κ, tt)) d (u ∷ [])) (is : Is SR t (R′.lowered t ∷ [])) (src : d .src ≡ s) (at : d .at ≡ t .place) (g : StandsAt (now s) steps vs ws t (start, us₁, us₂))
         → t .going ≡ true → Sq W (held d u t vs ws) (runs C Λ En mir-of.turn-1 (anyQ (Turned (d, u, t, vs, ws, ud, is, src, at, g))))
     unfolding afterTurn
     more d u t vs ws ud is src at g going =
@@ -293,8 +294,7 @@ module _ {M : Type 1} (𝓤 : URA M) (H : Heap 𝓤) (A : Atoms 𝓤) (W : Given
         split ! $ move ! (1 ∷ []) $ peeks ! (B (κ, tt)) (Is (B (κ, tt))) (shows 𝓤 H A (B (κ, tt))) m (u′ ∷ []) (λ um. land-last ! (from ! (stop !)) (store ! 29 refl (LL.lawful (T.the-type αᵉ) (T′.the-laws αᵉ) 𝓤 H A W .typed m _ um .0)) $
         forget ! 25 refl $ forget ! 21 refl $ forget ! 19 refl $ forget ! 17 refl $ forget ! 15 refl $ forget ! 13 refl $
         keep ! (0 ∷ 1 ∷ 12 ∷ 4 ∷ 5 ∷ 2 ∷ 3 ∷ 13 ∷ 14 ∷ 15 ∷ 16 ∷ 17 ∷ 18 ∷ 19 ∷ 20 ∷ 21 ∷ 22 ∷ 23 ∷ 24 ∷ 25 ∷ 26 ∷ 27 ∷ 28 ∷ 29 ∷ 30 ∷ 31 ∷ 32 ∷ 33 ∷ 34 ∷ 35 ∷ 36 ∷ 37 ∷ 38 ∷ 39 ∷ 40 ∷ 41 ∷ 42 ∷ []) $
-        again ! Nearer At z (m, u′, r, zs .1 .1 .1 .1 .0, zs .1 .1 .1 .1 .1 .0, um, lowers r w isw, em .0 ∙ src, em .1, take-turn (now s) start steps us₁ us₂ vs ws (zs .1 .1 .1 .1 .0) (zs .1 .1 .1 .1 .1 .0) t r g going e)
-        (take-nearer (now s) steps vs ws (zs .1 .1 .1 .1 .0) (zs .1 .1 .1 .1 .1 .0) t r going e))))))))))))))))))
+        again ! Nearer At z (m, u′, r, zs .1 .1 .1 .1 .0, zs .1 .1 .1 .1 .1 .0, um, lowers r w isw, em .0 ∙ src, em .1, e .stands (start, us₁, us₂) (g .goes going)) (turn-less going e))))))))))))))))))
       where
         z : State
         z = (d, u, t, vs, ws, ud, is, src, at, g)
@@ -302,7 +302,7 @@ module _ {M : Type 1} (𝓤 : URA M) (H : Heap 𝓤) (A : Atoms 𝓤) (W : Given
         found-at : {f : Field} → f ≡ fieldAt (now (d .src)) (d .at) (orRemark (only 18 6)) → f ≡ fieldAt (now s) (t .place) (orRemark (only 18 6))
         found-at e = e ∙ (ap (λ (y : RefT (List ℕ)). fieldAt (now y) (d .at) (orRemark (only 18 6))) src ∙ ap (λ (n : ℕ). fieldAt (now s) n (orRemark (only 18 6))) at)
 
-    ends : (d : Reader) (u : Val) (t : NodesRead) (vs ws : List ℕ) (ud : Is (B (κ, tt)) d (u ∷ [])) (is : Is SR t (R′.lowered t ∷ [])) (src : d .src ≡ s) (at : d .at ≡ t .place) (g : Stands (now s) start steps us₁ us₂ vs ws t)
+    ends : (d : Reader) (u : Val) (t : NodesRead) (vs ws : List ℕ) (ud : Is (B (κ, tt)) d (u ∷ [])) (is : Is SR t (R′.lowered t ∷ [])) (src : d .src ≡ s) (at : d .at ≡ t .place) (g : StandsAt (now s) steps vs ws t (start, us₁, us₂))
         → t .going ≡ false → Sq W (held d u t vs ws) (runs C Λ En mir-of.turn-1 (anyQ (Turned (d, u, t, vs, ws, ud, is, src, at, g))))
     unfolding afterTurn
     ends d u t vs ws ud is src at g stopped =
@@ -343,7 +343,7 @@ module _ {M : Type 1} (𝓤 : URA M) (H : Heap 𝓤) (A : Atoms 𝓤) (W : Given
         move ! (1 ∷ []) $ peeks ! (B (κ, tt)) (Is (B (κ, tt))) (shows 𝓤 H A (B (κ, tt))) d (u ∷ []) (λ ud. land ! (from ! (stop !)) (init ! 23 refl (LL.lawful (T.the-type αᵉ) (T′.the-laws αᵉ) 𝓤 H A W .typed d _ ud .0)) $
         assigns ! (agg ! (and-then ! (lit ! tt) (and-then ! (load ! (from ! (stop !)) (look ! 31 refl)) (and-then ! (lit ! tt) (and-then ! (true-lit !) (no-more !)))))) (from ! (stop !)) (init ! 21 refl (LL.lawful R.the-type R′.the-laws 𝓤 H A W .typed begun _ begun-is .0)) $
         forget ! 17 refl $ keep ! (0 ∷ 1 ∷ 2 ∷ 3 ∷ 4 ∷ 5 ∷ 6 ∷ 7 ∷ 8 ∷ 9 ∷ 10 ∷ 11 ∷ 12 ∷ 13 ∷ 14 ∷ 15 ∷ 16 ∷ 17 ∷ 18 ∷ 19 ∷ 20 ∷ 21 ∷ 22 ∷ 23 ∷ 24 ∷ 25 ∷ 26 ∷ 27 ∷ 28 ∷ 29 ∷ 30 ∷ 31 ∷ 32 ∷ 33 ∷ 34 ∷ 35 ∷ 36 ∷ []) $
-        first ! $ blocks ! $ loops ! 𝓣 Nearer Nearer-wf At turns (d, u, begun, us₁, us₂, ud, begun-is, ed .0 ∙ er .0, ed .1, stands-begin (now s) start steps us₁ us₂)))))))))
+        first ! $ blocks ! $ loops ! 𝓣 Nearer Nearer-wf At turns (d, u, begun, us₁, us₂, ud, begun-is, ed .0 ∙ er .0, ed .1, stands-on (nodes-start (now s) start steps us₁ us₂))))))))))
 
   walk : Is (ShrSlice (named 0) κ u8) s (v ∷ []) → (𝓣 : Tables 𝓤 H) → Triple 𝓤 (𝓣 .C #fields·reader·new) (New 𝓤 H A mem run) → Triple 𝓤 (𝓣 .C #fields·reader·next) (Next 𝓤 H A mem run)
       → Triple 𝓤 (𝓣 .C #fields·reader·moved) (Moved 𝓤 H A mem run) → Triple 𝓤 (𝓣 .C #diagram·reader·take-nodes) (Take 𝓤 H A mem run)
