@@ -7,7 +7,7 @@ use native.Mathlib.Omega.{arith}
 use lib.ListN.{length, getD}
 use Rattle.definitions.specs.Diagrams.{size}
 use Rattle.definitions.specs.Ways.{Graph}
-use Rattle.definitions.specs.Pairs.{Automaton}
+use Rattle.definitions.specs.Pairs.{Automaton, rowStarts}
 use Rattle.definitions.specs.Plans.{graph, automaton}
 use Rattle.theory.specs.Limits.{Sound}
 use Rattle.theory.specs.Pairs.{Lawful, lawful}
@@ -15,7 +15,7 @@ use Rattle.chart.specs.Held.{held-count, held-from, held-to, held-cost}
 use Rattle.chart_stages.specs.FirstSteps.{FirstTable, Firsts, first-leaves, leaves-first, first-inside, first-rises}
 use Rattle.chart_stages.specs.HeldGraph.{held-firsts}
 use Rattle.diagram.specs.Held.{length-held}
-use Rattle.rows.specs.Rows.{rowStarts, row-at}
+use Rattle.rows.specs.Rows.{row-at}
 use Rattle.checks.specs.Tables.{Read, Tables, chartIn, diagramIn}
 use Rattle.definitions.specs.declared.Shape.{Shape}
 

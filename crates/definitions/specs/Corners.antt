@@ -1,4 +1,4 @@
--- Corners of the definitions: an estimate that is none on one side, the last step and the last node that pass, two faults in one step, a diagram head's fault, a refusal's file and place.
+-- Corners of the definitions: an estimate that is none on one side, the last step and the last node that pass, two faults in one step, a diagram head's fault, a refusal's file and place, row starts.
 -- Assumes nothing.
 use Prim.Native.Nat.{ℕ}
 use mathlib.Core.Path.{_≡_, refl}
@@ -6,13 +6,14 @@ use mathlib.Core.Bool.{false}
 use mathlib.Core.List.{List, [], _∷_, _++_, map}
 use mathlib.Core.Option.{Option, none, some}
 use lib.Dec.{eqb}
-use lib.ListN.{take}
+use lib.ListN.{length, getD, take, drop}
 use Rattle.definitions.specs.Basics.{pick, smaller, larger, sumOf}
 use Rattle.definitions.specs.Fields.{only, orRemark, fieldAt, firstField, onField, scan}
 use Rattle.definitions.specs.Charts.{ChartStep, headFault, stepFault, readChart}
 use Rattle.definitions.specs.Diagrams.{nodeFault, readDiagram}
 use Rattle.definitions.specs.Bytes.{field, bodyOfStep, bodyOfNode, headBytes, stepBytes, chartBytes, diagramBytes}
 use Rattle.definitions.specs.Answers.{readFiles, load}
+use Rattle.definitions.specs.Pairs.{rowStart, rowStarts}
 use Rattle.definitions.specs.Marked.{st, nd, chart, rules}
 use Rattle.definitions.specs.Examples.{rooted, steps, chartRefusal, rulesRefusal, loadRefusal}
 
@@ -159,3 +160,27 @@ neighbours =
 pub neighbours-hold : neighbours ≡ (6 ∷ 5 ∷ []) ∷ (6 ∷ 5 ∷ []) ∷ (6 ∷ 23 ∷ []) ∷ (0 ∷ 0 ∷ []) ∷ (5 ∷ 31 ∷ []) ∷ []
 unfolding neighbours pick only orRemark fieldAt firstField onField scan headFault stepFault readChart nodeFault readDiagram
 neighbours-hold = refl
+
+-- row starts: of five stages with three nodes, of one stage, of a full table, of one with a stage less; all tables are as long
+pub rowTables : List (List ℕ)
+rowTables =
+    take 7 (rowStarts 5 3)
+    ∷ take 3 (rowStarts 1 2)
+    ∷ drop 253 (rowStarts 256 512)
+    ∷ drop 253 (rowStarts 255 512)
+    ∷ map length (rowStarts 1 2 ∷ rowStarts 256 512 ∷ [])
+    ∷ []
+
+pub row-tables-hold : rowTables ≡ (0 ∷ 3 ∷ 6 ∷ 9 ∷ 12 ∷ 0 ∷ 0 ∷ []) ∷ (0 ∷ 0 ∷ 0 ∷ []) ∷ (129536 ∷ 130048 ∷ 130560 ∷ []) ∷ (129536 ∷ 130048 ∷ 0 ∷ []) ∷ (256 ∷ 256 ∷ []) ∷ []
+unfolding rowTables pick rowStart rowStarts
+row-tables-hold = refl
+
+-- mistakes: one row off, one stage short, a row past the stages, stages for nodes
+pub rowMistakes : List (ℕ × ℕ)
+rowMistakes =
+    let entry : ℕ → ℕ = λ s. getD (rowStarts 5 3) s 0 in
+    (entry 0, 3) ∷ (entry 1, 0) ∷ (entry 4, 0) ∷ (entry 5, 15) ∷ (entry 1, 5) ∷ []
+
+pub row-mistakes-refuted : map (λ x. eqb (x .0) (x .1)) rowMistakes ≡ map (λ x. false) rowMistakes
+unfolding rowMistakes pick rowStart rowStarts
+row-mistakes-refuted = refl

@@ -2,9 +2,9 @@
 -- Assumes nothing.
 use Prim.Native.Nat.{ℕ, _+_, _*_, _/_, _%_}
 use mathlib.Core.Bool.{Bool, _&&_}
-use mathlib.Core.List.{List, [], _∷_}
+use mathlib.Core.List.{List, [], _∷_, map}
 use mathlib.Core.Option.{Option, none}
-use lib.Dec.{eqb}
+use lib.Dec.{eqb, ltb}
 use Rattle.definitions.specs.Basics.{pick, isSome, sumOf, keep, upto}
 use Rattle.definitions.specs.Ways.{GraphOf, Graph, endOf, leastWay}
 
@@ -43,6 +43,14 @@ stageOf a p = p / a .size
 
 abbrev pub nodeOf : Automaton → ℕ → ℕ
 nodeOf a p = p % a .size
+
+-- where a stage's row of pairs starts, in a chart of so many stages and with N nodes: stage × N, and 0 past the stages
+unfoldable pub rowStart : ℕ → ℕ → ℕ → ℕ
+rowStart stages size s = pick (ltb s stages) (s * size) 0
+
+-- the table of all row starts
+unfoldable pub rowStarts : ℕ → ℕ → List ℕ
+rowStarts stages size = map (rowStart stages size) (upto 256)
 
 -- how many pairs there are, reached or not
 abbrev pub pairs : {C : Type 0} → GraphOf C → Automaton → ℕ

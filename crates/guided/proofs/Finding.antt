@@ -18,7 +18,7 @@ use Rattle.definitions.specs.declared.Shape.{Shape}
 use Rattle.chart_stages.specs.FirstSteps.{FirstTable}
 use Rattle.chart_stages.specs.Estimates.{EstimateTable}
 use Rattle.node_estimates.specs.Estimates.{Estimated}
-use Rattle.rows.specs.Rows.{rowStarts}
+use Rattle.definitions.specs.Pairs.{rowStarts}
 use Rattle.trace.specs.Trails.{Trail, trail-short}
 use Rattle.checks.specs.Tables.{Read, chartIn, diagramIn, Tables}
 use Rattle.checks.specs.Ready.{Walk, walk, Ready, graphIn, automatonIn, width-is}

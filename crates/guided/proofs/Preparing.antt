@@ -10,7 +10,7 @@ use Rattle.definitions.specs.Basics.{larger}
 use Rattle.definitions.specs.Charts.{Chart}
 use Rattle.definitions.specs.Diagrams.{Diagram, size}
 use Rattle.definitions.specs.Ways.{Graph}
-use Rattle.definitions.specs.Pairs.{Automaton}
+use Rattle.definitions.specs.Pairs.{Automaton, rowStarts}
 use Rattle.definitions.specs.Plans.{chartEstimate, diagramEstimate, estimate}
 use Rattle.definitions.specs.Promises.{shown}
 use Rattle.definitions.specs.declared.Shape.{Shape}
@@ -24,7 +24,6 @@ use Rattle.nodes.specs.Walks.{Falls}
 use Rattle.nodes.specs.Falling.{lo-falls, hi-falls}
 use Rattle.node_estimates.specs.Estimates.{Priced, Costs, Estimated}
 use Rattle.node_estimates.specs.Prices.{costs-of, priced}
-use Rattle.rows.specs.Rows.{rowStarts}
 use Rattle.checks.specs.Tables.{Read, chartIn, diagramIn, Tables}
 use Rattle.checks.specs.Ready.{walk, graphIn, automatonIn, count-is, width-is, sound-in, few-stages, few-nodes, cost-at}
 use Rattle.guided_model.specs.State.{Guide}

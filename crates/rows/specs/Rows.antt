@@ -1,24 +1,16 @@
--- The table of row starts: stage × N at each stage of the chart, and 0 past them.
+-- The table of row starts while it is filled, and what the searches ask of it.
 -- Assumes nothing.
 use Prim.Native.Nat.{ℕ, _+_, _*_, _≤_, _<_}
 use mathlib.Core.Path.{_≡_, sym, _∙_}
 use mathlib.Core.List.{List, map}
 use native.Mathlib.Omega.{arith}
-use lib.Dec.{ltb}
 use lib.ListN.{length, getD, set, length-set, length-replicate, replicate, getD-replicate}
 use lib.Seq.{getD-set-same, getD-set-other, ext-getD}
 use borrow.Author.Tests.{lt-ltb, le-ltb}
-use Rattle.definitions.specs.Basics.{pick, upto}
+use Rattle.definitions.specs.Basics.{upto}
+use Rattle.definitions.specs.Pairs.{rowStart, rowStarts}
 use Rattle.theory.specs.Basics.{either, lt-or-le, same-or-not, pick-true, pick-false, length-map-run, getD-map-upto}
 
--- the start of one row in a chart of so many stages
-unfoldable pub rowStart : ℕ → ℕ → ℕ → ℕ
-rowStart stages width s = pick (ltb s stages) (s * width) 0
-
-unfoldable pub rowStarts : ℕ → ℕ → List ℕ
-rowStarts stages width = map (rowStart stages width) (upto 256)
-
--- what the searches ask of it
 pub row-at : (stages width s : ℕ) → stages ≤ 256 → s < stages → getD (rowStarts stages width) s 0 ≡ s * width
 unfolding rowStarts rowStart
 row-at stages width s h i = getD-map-upto (rowStart stages width) 256 s 0 (omega arith) ∙ pick-true _ _ _ (lt-ltb s stages i)

@@ -1,6 +1,6 @@
 // The number at which each stage's row of pairs starts: stage × N.
 ghost use Prim.Native.Nat.{_≤_};
-ghost use Rattle.rows.specs.Rows.{rowStarts};
+ghost use Rattle.definitions.specs.Pairs.{rowStarts};
 ghost use mathlib.Core.Path.{_≡_};
 ghost use lib.ListN.{replicate};
 

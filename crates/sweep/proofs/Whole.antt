@@ -10,7 +10,7 @@ use Rattle.definitions.specs.Basics.{NONE}
 use Rattle.definitions.specs.Charts.{Chart}
 use Rattle.definitions.specs.Diagrams.{Diagram}
 use Rattle.definitions.specs.Ways.{Graph}
-use Rattle.definitions.specs.Pairs.{Automaton, pairs}
+use Rattle.definitions.specs.Pairs.{Automaton, rowStarts, pairs}
 use Rattle.definitions.specs.Answers.{Load, ready, refused, load, workNeed, refusal}
 use Rattle.definitions.specs.Promises.{leastCosts, SweepSlices, sweepSlices, sweepLoad, SweepPromise, SweepCall}
 use Rattle.definitions.specs.declared.Answer.{Answer}
@@ -18,7 +18,6 @@ use Rattle.definitions.specs.declared.Shape.{Shape}
 use Rattle.chart_stages.specs.FirstSteps.{SortedTable, FirstTable}
 use Rattle.chart_stages.specs.HeldGraph.{held-sorted}
 use Rattle.diagram.specs.Held.{length-held}
-use Rattle.rows.specs.Rows.{rowStarts}
 use Rattle.sweep_model.specs.Model.{Rows, rows, swept}
 use Rattle.sweep_model.specs.Rows.{Past}
 use Rattle.sweep_model.specs.Result.{Fresh, Finished, finished, final-past, final-costs}

@@ -5,12 +5,11 @@ use mathlib.Core.Path.{_≡_}
 use mathlib.Core.List.{List, _++_}
 use lib.ListN.{length, getD, drop, replicate}
 use Rattle.definitions.specs.Basics.{NONE}
-use Rattle.definitions.specs.Pairs.{reachedPairs}
+use Rattle.definitions.specs.Pairs.{rowStarts, reachedPairs}
 use Rattle.definitions.specs.Plans.{cheapest}
 use Rattle.definitions.specs.Promises.{Outcome, SweepSlices}
 use Rattle.definitions.specs.declared.Answer.{Answer}
 use Rattle.definitions.specs.declared.Shape.{Shape}
-use Rattle.rows.specs.Rows.{rowStarts}
 use Rattle.sweep_model.specs.Model.{Rows, rows}
 use Rattle.sweep_model.specs.Result.{Finished}
 use Rattle.checks.specs.Tables.{Read, Tables, chartIn, diagramIn, pairsIn}

@@ -5,7 +5,7 @@ use mathlib.Core.Path.{_≡_}
 use mathlib.Core.List.{List, [], _∷_, _++_}
 use native.Mathlib.Omega.{arith}
 use lib.ListN.{length, getD, length-append}
-use Rattle.rows.specs.Rows.{rowStarts}
+use Rattle.definitions.specs.Pairs.{rowStarts}
 use Rattle.via_marks.specs.Marks.{packed, stepIn, nodeIn}
 use Rattle.trace.specs.declared.Predecessor.{Predecessor}
 
