@@ -24,7 +24,7 @@ METHODS = {"len"}
 
 # What the loops multiply and divide by, and where: parts of packed numbers, blocks and halves, none of them N.
 CONSTANTS = {
-    2: "the heap's parents; half of a plan",
+    2: "the parents in the heap",
     128: "the keys of a block",
     512: "the nodes in a mark and in a node's entry",
     1024: "the steps in a mark",
