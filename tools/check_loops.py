@@ -10,14 +10,15 @@ run the loops of these functions, conditions included, and the whole of every fu
     every * / % << >> is by a literal of CONSTANTS,
     every call is one of a function of the tree, or of METHODS: what is not known is told.
 
-The search itself fills the table of row starts, outside of all loops, and each loop of LOOKUPS reads it. What is wrong is told
-a line each, and the exit status is 1.
+The search itself fills the table of row starts, outside of all loops, and its own loop and the trace-back's read it. What is
+wrong is told a line each, and the exit status is 1.
 """
 import re
 import sys
 from pathlib import Path
 
 ROOT = Path(__file__).resolve().parent.parent
+# Each search, with the functions whose loops must read the table.
 SEARCHES = {"sweep::run": ["sweep_rows::relax_rows", "trace::trace_back"], "guided::run": ["guided_loop::search", "trace::trace_back"]}
 TABLE, FILL = "row", "rows::fill_row_starts"
 METHODS = {"len"}
