@@ -1,8 +1,9 @@
-//! The cases of the differential test: first the corners of the limits, then every systematic damage,
-//! then random ones. A case is fixed by the seed and its number.
+//! The cases of the differential test: first the corners of the limits, among them those of rows, then
+//! every systematic damage, then random ones. A case is fixed by the seed and its number.
 
 use std::ops::Range;
 
+use crate::compare::slices::are_exact;
 use crate::files::{write_chart, write_diagram, Chart, Diagram, Node, Problem, Step};
 use crate::files::{MAX_NODES, MAX_STAGES, MAX_STEPS};
 use crate::generate::broken::{at_limits, damaged, noise, systematic, Files};
@@ -13,7 +14,7 @@ use crate::generate::load::load;
 use crate::generate::long::{self, near_longest};
 use crate::generate::mutate::mutated;
 use crate::generate::remarks::{self, with_remarks};
-use crate::generate::{steps, Random};
+use crate::generate::{rows, steps, Random};
 
 /// Two files, and the seed from which the lent slices and their content are drawn.
 #[derive(Clone, Debug)]
@@ -35,6 +36,8 @@ impl Case {
 pub struct Cases {
     seed: u64,
     corners: Vec<Files>,
+    /// Each makes two cases: slices of just the length needed, and longer ones.
+    rows: Vec<Files>,
     systematic: Vec<Files>,
 }
 
@@ -51,12 +54,17 @@ impl Cases {
             files.extend(remarks::systematic(problem));
         }
         let corner = |shape: &corners::Shape| written(&shape(&mut random, Size::FULL));
-        Cases { seed, corners: corners::SHAPES.iter().map(corner).collect(), systematic: files }
+        Cases {
+            seed,
+            corners: corners::SHAPES.iter().map(corner).collect(),
+            rows: rows::systematic().iter().map(written).collect(),
+            systematic: files,
+        }
     }
 
     /// How many cases are in the corners; they come first.
     pub fn corners(&self) -> usize {
-        self.corners.len()
+        self.corners.len() + 2 * self.rows.len()
     }
 
     /// The cases of systematic damage.
@@ -75,11 +83,26 @@ impl Cases {
         if let Some((chart, rules)) = self.corners.get(number).cloned() {
             return Case { kind: "corner", chart, rules, dirt: random.word() | 1 };
         }
+        let in_rows = number - self.corners.len();
+        if let Some((chart, rules)) = self.rows.get(in_rows / 2).cloned() {
+            let dirt = enough(&mut random, in_rows % 2 == 0);
+            return Case { kind: "rows", chart, rules, dirt };
+        }
         let (kind, (chart, rules)) = match self.systematic.get(number - self.corners()) {
             Some(files) => ("systematic damage", files.clone()),
             None => random_files(&mut random),
         };
         Case { kind, chart, rules, dirt: random.word() }
+    }
+}
+
+/// A seed of slices that have just what they need, or of longer ones.
+fn enough(random: &mut Random, exact: bool) -> u64 {
+    loop {
+        let dirt = random.word() | 1;
+        if are_exact(&mut Random::new(dirt)) == exact {
+            return dirt;
+        }
     }
 }
 

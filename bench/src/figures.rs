@@ -35,6 +35,10 @@ pub struct Figures {
     pub settled: usize,
     /// The settled pairs under 8.
     pub settled_without_plan: usize,
+    /// The highest number of a reached pair.
+    pub reached_pair: usize,
+    /// The lowest number of a goal pair that a cheapest plan ends in.
+    pub goal_pair: usize,
     /// Inner nodes passed from the root by lo alone.
     pub lo_chain: usize,
     /// Inner nodes on a longest path from the root.
@@ -130,6 +134,8 @@ impl Figures {
             reached: facts.reached() as usize,
             settled: if has_plan { settled } else { 0 },
             settled_without_plan: if has_plan { 0 } else { settled },
+            reached_pair: facts.least.iter().rposition(Option::is_some).unwrap_or(0),
+            goal_pair: cheapest_goal(facts).unwrap_or(0),
             lo_chain: lo_chain(diagram),
             chain: chain(diagram),
             ..Figures::of_files(facts)
@@ -150,6 +156,11 @@ pub fn remarks_passed(case: &Case, judged: &Judged) -> usize {
         Err(Refusal { number: 6, place: 0, .. }) => in_chart(usize::MAX) + in_rules(usize::MAX),
         Err(Refusal { place, .. }) => in_chart(usize::MAX) + in_rules(*place),
     }
+}
+
+fn cheapest_goal(facts: &Facts) -> Option<usize> {
+    let cost = facts.cheapest?.cost;
+    (0..facts.least.len()).find(|pair| facts.least[*pair] == Some(cost) && facts.is_goal(*pair))
 }
 
 fn has_dead_end(facts: &Facts) -> bool {
@@ -216,13 +227,15 @@ impl Corner {
 }
 
 /// Most of the largest ones are what the limits allow.
-pub const CORNERS: [Corner; 54] = [
+pub const CORNERS: [Corner; 56] = [
     Corner::largest("plan cost", 255_000_000, |f| f.plan_cost),
     Corner::largest("plan length", 255, |f| f.plan_length),
     Corner::largest("sum of a reached pair", 765_000_000, |f| f.sum),
     Corner::largest("reached pairs", 65_027, |f| f.reached),
     Corner::largest("settled pairs", 64_517, |f| f.settled),
     Corner::largest("settled pairs under 8", 64_517, |f| f.settled_without_plan),
+    Corner::largest("number of a reached pair", 131_071, |f| f.reached_pair),
+    Corner::largest("number of a cheapest plan's goal pair", 131_071, |f| f.goal_pair),
     Corner::largest("nodes in a row by lo", MAX_NODES, |f| f.lo_chain),
     Corner::largest("nodes in a row", MAX_NODES, |f| f.chain),
     Corner::largest("stages", MAX_STAGES as usize, |f| f.stages),

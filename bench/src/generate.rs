@@ -9,6 +9,7 @@ pub mod long;
 pub mod mutate;
 pub mod random;
 pub mod remarks;
+pub mod rows;
 pub mod rules;
 pub mod steps;
 

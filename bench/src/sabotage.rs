@@ -1,6 +1,7 @@
 //! Planners that are spoiled in one corner: the differential test must find each of them.
 
 mod readings;
+mod rows;
 mod steps;
 
 use std::borrow::Cow;
@@ -8,6 +9,7 @@ use std::borrow::Cow;
 use crate::files::{read_chart, LONGEST_FILE};
 use crate::planner::{self, Answer, GuidedSlices, Planner, Space, SweepSlices};
 use crate::steps::{StepAtFault, StepFaults};
+use rows::Rows;
 
 /// One way to spoil a planner.
 pub struct Sabotage {
@@ -34,6 +36,10 @@ enum Spoil {
     Files(fn(&mut Vec<u8>, &mut Vec<u8>)),
     /// How the values of a step at fault are judged: the tests in their order, with their numbers.
     Step(&'static [(Test, u32)]),
+    /// Where a sweep by itself looks for pairs.
+    SweepRows(Rows),
+    /// Where a guided search does.
+    GuidedRows(Rows),
 }
 
 /// Whether a step's values have some fault.
@@ -62,7 +68,12 @@ const fn new(name: &'static str, spoil: Spoil) -> Sabotage {
 
 /// Every sabotage.
 pub fn all() -> impl Iterator<Item = &'static Sabotage> {
-    CORNERS.iter().chain(readings())
+    searches().chain(readings())
+}
+
+/// Results spoiled in one corner, and pairs in wrong places.
+pub fn searches() -> impl Iterator<Item = &'static Sabotage> {
+    CORNERS.iter().chain(&rows::ROWS)
 }
 
 /// The wrong readings of remarks, of files that are too long and of a step's values.
@@ -211,6 +222,22 @@ impl Spoiled {
         tests.iter().find(|(test, _)| test(&step.faults)).map_or(number, |(_, number)| *number)
     }
 
+    /// A search that looks for pairs in wrong places; none where this is no such sabotage.
+    fn sweep_rows(&self, chart: &[u8], rules: &[u8], lent: &mut SweepSlices) -> Option<Answer> {
+        match &self.sabotage.spoil {
+            Spoil::SweepRows(rows) => rows.sweep(chart, rules, lent),
+            _ => None,
+        }
+    }
+
+    /// The same of a guided one.
+    fn guided_rows(&self, chart: &[u8], rules: &[u8], lent: &mut GuidedSlices) -> Option<Answer> {
+        match &self.sabotage.spoil {
+            Spoil::GuidedRows(rows) => rows.guided(chart, rules, lent),
+            _ => None,
+        }
+    }
+
     fn spoil_sweep(&self, chart: &[u8], mut answer: Answer, lent: &mut SweepSlices) -> Answer {
         answer.number = self.number(chart, answer.number);
         match self.sabotage.spoil {
@@ -240,6 +267,9 @@ impl Planner for Spoiled {
     fn sweep(&self, chart: &[u8], rules: &[u8], lent: &mut SweepSlices) -> Answer {
         self.touch(chart, rules);
         let (chart, rules) = self.read(chart, rules);
+        if let Some(answer) = self.sweep_rows(&chart, &rules, lent) {
+            return answer;
+        }
         let answer = self.planner.sweep(&chart, &rules, lent);
         self.spoil_sweep(&chart, answer, lent)
     }
@@ -247,6 +277,9 @@ impl Planner for Spoiled {
     fn guided(&self, chart: &[u8], rules: &[u8], lent: &mut GuidedSlices) -> Answer {
         self.touch(chart, rules);
         let (chart, rules) = self.read(chart, rules);
+        if let Some(answer) = self.guided_rows(&chart, &rules, lent) {
+            return answer;
+        }
         let answer = self.planner.guided(&chart, &rules, lent);
         self.spoil_guided(&chart, answer, lent)
     }

@@ -1,8 +1,9 @@
 //! The generators: what should be valid is, and the broken files have every number.
 
-use std::collections::{BTreeMap, BTreeSet};
+use std::collections::{BTreeMap, BTreeSet, HashSet};
 
-use planner_bench::cases::{example_problem, Cases};
+use planner_bench::cases::{example_problem, Case, Cases};
+use planner_bench::compare::slices::are_exact;
 use planner_bench::files::{
     read_both, read_chart, read_diagram, write_chart, write_diagram, Problem,
 };
@@ -14,10 +15,10 @@ use planner_bench::generate::long::near_longest;
 use planner_bench::generate::remarks::{count_before, with_remarks};
 use planner_bench::generate::rules::{diagram_of, AtMost, ExactlyOne, Modulo, Needs, Rule};
 use planner_bench::generate::Random;
-use planner_bench::generate::{long, remarks, steps};
+use planner_bench::generate::{long, remarks, rows, steps};
 use planner_bench::loads::{self, growth, standard};
-use planner_bench::reference::refused_field;
 use planner_bench::reference::rules::verdict;
+use planner_bench::reference::{refused_field, Facts};
 use planner_bench::steps::StepAtFault;
 
 #[test]
@@ -132,6 +133,60 @@ fn steps_have_every_set_of_faults() {
         // Four faults: 15 sets of them.
         assert_eq!(sets.keys().copied().collect::<Vec<u8>>(), (1..16).collect::<Vec<u8>>());
         assert!(sets.values().chain(&of_field).all(|count| *count >= 10), "{sets:?} {of_field:?}");
+    }
+}
+
+/// By stage count and N: the pairs that some problem of rows reaches, as stage and node.
+fn reached_in_rows() -> BTreeMap<(usize, usize), BTreeSet<(usize, usize)>> {
+    let mut reached: BTreeMap<_, BTreeSet<_>> = BTreeMap::new();
+    for problem in rows::systematic() {
+        let facts = Facts::by_dynamic_programming(&problem);
+        let width = facts.references();
+        let size = (usize::from(problem.chart.stages), width);
+        let pairs = (0..facts.least.len()).filter(|pair| facts.least[*pair].is_some());
+        reached.entry(size).or_default().extend(pairs.map(|pair| (pair / width, pair % width)));
+    }
+    reached
+}
+
+#[test]
+fn rows_are_reached_at_both_ends() {
+    let reached = reached_in_rows();
+    // One stage has no steps and so no nodes.
+    assert_eq!(reached.len(), 1 + 5 * 6);
+    for ((stages, width), pairs) in reached {
+        let (middle, last) = ((stages / 2).min(stages - 1), stages - 1);
+        assert!(pairs.contains(&(0, width - 1)), "{stages} {width}");
+        let nodes = if width > 3 { vec![1, 2, 3, width - 2, width - 1] } else { vec![width - 1] };
+        for node in nodes {
+            let here = |stage| pairs.contains(&(stage, node));
+            assert!(here(middle) && here(last), "{stages} {width} {node}");
+        }
+    }
+}
+
+#[test]
+fn rows_are_sound_and_have_no_doubles() {
+    for problem in rows::systematic() {
+        let files = (write_chart(&problem.chart), write_diagram(&problem.diagram));
+        let nodes = problem.diagram.nodes.clone();
+        assert!(nodes.iter().all(|node| node.lo != node.hi));
+        assert_eq!(nodes.iter().collect::<HashSet<_>>().len(), nodes.len());
+        assert_eq!(read_both(&files.0, &files.1), Ok(problem));
+    }
+}
+
+#[test]
+fn rows_are_lent_just_enough_and_more() {
+    let cases = Cases::new(17);
+    let all = (0..cases.corners()).map(|number| cases.case(number));
+    let of_rows: Vec<Case> = all.filter(|case| case.kind == "rows").collect();
+    assert_eq!(of_rows.len(), 2 * rows::systematic().len());
+    for two in of_rows.chunks(2) {
+        assert_eq!((&two[0].chart, &two[0].rules), (&two[1].chart, &two[1].rules));
+        assert!(two.iter().all(Case::lends_enough));
+        let exact = two.iter().map(|case| are_exact(&mut Random::new(case.dirt)));
+        assert_eq!(exact.collect::<Vec<bool>>(), [true, false]);
     }
 }
 

@@ -209,11 +209,15 @@ fn replay(folder: &Path, planners: &[Box<dyn Planner>]) -> ExitCode {
     }
 }
 
-/// Runs this program with each sabotage, since some of them end it.
+/// Runs this program with each sabotage, since some of them end it. Wrong readings show in files that
+/// come behind the corners.
 fn sabotage_all() -> ExitCode {
+    let corners = Cases::new(FIXED_SEED).corners();
+    let searches = sabotage::searches().map(|sabotage| (sabotage, 0));
+    let readings = sabotage::readings().map(|sabotage| (sabotage, corners));
     let mut missed = 0;
-    for sabotage in sabotage::all() {
-        match caught(sabotage.name) {
+    for (sabotage, first) in searches.chain(readings) {
+        match caught(sabotage.name, first) {
             Ok(line) => println!("{}: {line}", sabotage.name),
             Err(text) => {
                 missed += 1;
@@ -225,12 +229,13 @@ fn sabotage_all() -> ExitCode {
     ExitCode::from(u8::from(missed > 0))
 }
 
-/// The line with which a run ended that was spoiled, or why it is none.
-fn caught(name: &str) -> Result<String, String> {
+/// The line with which a run from a case on ended that was spoiled, or why it is none.
+fn caught(name: &str, first: usize) -> Result<String, String> {
     let program = std::env::current_exe().map_err(|error| error.to_string())?;
     let folder = std::env::temp_dir().join(format!("difftest-{}-{name}", std::process::id()));
-    let run = Command::new(program).args(["--sabotage", name, "--save"]).arg(&folder).output();
-    let run = run.map_err(|error| error.to_string())?;
+    let mut command = Command::new(program);
+    command.args(["--sabotage", name, "--first", &first.to_string(), "--save"]).arg(&folder);
+    let run = command.output().map_err(|error| error.to_string())?;
     let saved = saved::load(&folder).is_ok();
     let _ = std::fs::remove_dir_all(&folder);
     let shown = String::from_utf8_lossy(&run.stdout);

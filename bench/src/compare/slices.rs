@@ -34,7 +34,7 @@ pub fn drawn(judged: &Judged, enough: bool, random: &mut Random) -> (SweepSlices
 fn lengths(problem: &Problem, enough: bool, random: &mut Random) -> Lengths {
     let (pairs, steps) = (problem.pairs(), problem.longest_plan());
     let mut lengths = Lengths { work: [pairs; WORK], plans: [steps; 2] };
-    if !random.percent(25) {
+    if !are_exact(random) {
         let more: [usize; WORK] = shuffled(random);
         lengths.work.iter_mut().zip(more).for_each(|(length, more)| *length += more);
         let more: [usize; 2] = shuffled(random);
@@ -48,6 +48,11 @@ fn lengths(problem: &Problem, enough: bool, random: &mut Random) -> Lengths {
     shorten(random, problem, sweep, sweep_plan);
     shorten(random, problem, guided, plan);
     lengths
+}
+
+/// Whether each slice has just what it needs; the first draw of all.
+pub fn are_exact(random: &mut Random) -> bool {
+    random.percent(25)
 }
 
 /// Takes entries from the slices of one search in one of five cases.
