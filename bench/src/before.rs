@@ -1,7 +1,8 @@
 //! An earlier archive of the library beside the linked one (feature `before`), to be timed against
 //! it in one process, and a second copy of that archive: equal code at other addresses, whose times
 //! tell how large noise is. `build.rs` links both with their calls renamed, so the archive must have
-//! the calls of the present `include/planner.h`.
+//! the calls of the present `include/planner.h`. The linked one is called here just as they are: by
+//! way of `rust/` and `library.rs` a call takes 3 ns more.
 
 use planner::lent;
 
@@ -135,6 +136,11 @@ macro_rules! copy {
     };
 }
 
+copy! {
+    /// The linked library.
+    Linked, "library",
+    planner_space_needed, planner_sweep, planner_guided
+}
 copy! {
     /// The earlier library.
     Before, "before",

@@ -228,17 +228,28 @@ pub fn all() -> Vec<Box<dyn Planner>> {
     ]
 }
 
-/// Those to be measured: the library writes its answers on the stack; an earlier one is beside it,
-/// in two copies.
+/// Those to be timed. Where an earlier library is beside the linked one, in two copies, all three are
+/// called alike.
 pub fn timed() -> Vec<Box<dyn Planner>> {
     vec![
-        #[cfg(feature = "library")]
+        #[cfg(all(feature = "library", not(feature = "before")))]
         Box::new(crate::library::Library { guarded: false }),
+        #[cfg(feature = "before")]
+        Box::new(crate::before::Linked),
         #[cfg(feature = "before")]
         Box::new(crate::before::Before),
         #[cfg(feature = "before")]
         Box::new(crate::before::Control),
         Box::new(crate::same::Same),
         Box::new(crate::textbook::Textbook),
+    ]
+}
+
+/// Those with all calls, whose stack is measured: the library writes its answers on it.
+pub fn complete() -> Vec<Box<dyn Planner>> {
+    vec![
+        #[cfg(feature = "library")]
+        Box::new(crate::library::Library { guarded: false }),
+        Box::new(crate::same::Same),
     ]
 }

@@ -160,7 +160,7 @@ fn run(options: &Options, loads: &[Load]) -> Result<(), String> {
     let (main, growing) = plain.split_at(main);
     println!("\n{}\n", summary(main, &plain));
     left_out(&all, &names).iter().for_each(|text| println!("{text}\n"));
-    let peaks = peaks(&planners, &[standard(), remarks()].concat());
+    let peaks = peaks(&planner::complete(), &[standard(), remarks()].concat());
     for Peak { planner, call, bytes } in &peaks {
         println!("peak stack of {planner}, {call}: {bytes} bytes");
     }
