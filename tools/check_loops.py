@@ -1,236 +1,266 @@
 #!/usr/bin/env python3
 """Checks that both searches look row starts up in a table: no loop of theirs multiplies or divides by N.
 
-    tools/check_loops.py            the check, and that it finds each of the wrong sources under TRIALS
+    tools/check_loops.py            the check, and that it tells wrong programs (trials)
     tools/check_loops.py --list     also the functions that run in the loops, with what they multiply and divide by
 
-A search is sweep::run or guided::run with all that it calls, the trace-back too; the files are read before it. In its loops
-run the loops of these functions, conditions included, and the whole of every function that is called there. In them
+It reads the sources as the compiler does (rt mir): there each operator and call stands by itself, with the whole name of what
+is called and the value of each constant. A search is sweep::sweep or guided::guided with all that it calls, the trace-back too,
+but for checks::load, which reads the files before. In its loops run the loops of these functions, and the whole of every
+function that is called in one or that calls itself. There every product, quotient and remainder is by a constant of CONSTANTS,
+on its right side; the index of an entry, times its bytes (SIZES), is left out. The table of row starts is filled outside of all
+loops, and just the functions under SEARCHES read it. Sums are not looked at: a product by repeated addition is not found.
 
-    every * / % << >> is by a literal of CONSTANTS,
-    every call is one of a function of the tree, or of METHODS: what is not known is told.
-
-The search itself fills the table of row starts, outside of all loops, and its own loop and the trace-back's read it. What is
-wrong is told a line each, and the exit status is 1.
+What is wrong is told a line each, and the exit status is 1. Needs rt.
 """
 import re
+import subprocess
 import sys
 from pathlib import Path
 
 ROOT = Path(__file__).resolve().parent.parent
-# Each search, with the functions whose loops must read the table.
-SEARCHES = {"sweep::run": ["sweep_rows::relax_rows", "trace::trace_back"], "guided::run": ["guided_loop::search", "trace::trace_back"]}
-TABLE, FILL = "row", "rows::fill_row_starts"
-METHODS = {"len"}
-
-# What the loops multiply and divide by, and where: parts of packed numbers, blocks and halves, none of them N.
+READING, FILL = "checks::load", "rows::fill_row_starts"
+# Of each search, by its crate: its call, the function that fills the table, and those that look row starts up.
+SEARCHES = {
+    "sweep": (
+        "sweep::run::sweep",
+        "sweep::run::run",
+        {"sweep::run::least_costs", "sweep_rows::relax_row", "sweep_offers::relax_step", "sweep::conclude::conclude", "trace::pair_at"},
+    ),
+    "guided": ("guided::run::guided", "guided::run::run", {"guided_places::pair_in", "trace::pair_at"}),
+}
+# What the loops multiply and divide by: parts of packed numbers, blocks, halves. None of them is N.
 CONSTANTS = {
-    2: "the parents in the heap",
+    2: "parents in the heap",
     128: "the keys of a block",
     512: "the nodes in a mark and in a node's entry",
     1024: "the steps in a mark",
     65536: "the stages in the ends of a step",
 }
-
-# Sources that the check must find: a file, a text that stands there once, and what takes its place.
-TRIALS = [
-    ("sweep_offers/src/lib.rt", "let base = wide(row[s.0 as usize]);", "let base = s.0 as usize * width;"),
-    ("sweep_rows/src/lib.rt", "let base = wide(row[stage]);", "let base = stage * 512 * width;"),
-    ("sweep_rows/src/lib.rt", "k += 1;", "k *= 2 + k;"),
-    ("trace/src/lib.rt", "wide(row[s.0 as usize]) + n.0 as usize", "pair_number(s, n)"),
-    ("trace/src/lib.rt", "wide(row[s.0 as usize]) + n.0 as usize", "(s.0 as usize).wrapping_mul(width) + n.0 as usize"),
-    ("trace/src/lib.rt", "let before = came_from(ends, via[pair_at(row, s, n)]);", "let before = came_from(ends, via[count]);"),
-    ("guided_places/src/lib.rt", "node: Node((x - first) as u16),", "node: Node((x % width) as u16),"),
-    ("guided_places/src/lib.rt", "stage: s,", "stage: Stage((x as u32 / row[1]) as u16),"),
-    ("guided_loop/src/turns.rt", "while 0 < counts.held {", "while width * 0 < counts.held {"),
-    ("guided_loop/src/turns.rt", "count = log_pair(log, count, x);", "rows::fill_row_starts(&mut again, count, 2);"),
-    ("guided_expand/src/steps.rt", "let y = pair_at(row, stage, t);", "let y = ((stage.0 as usize) << bits) + t.0 as usize;"),
-    ("guided_expand/src/steps.rt", "let i = e.0 as usize;", "let i = 512 / e.0 as usize;"),
-    ("heap_sift/src/lib.rt", "(x - 1) / 2", "(x - 1) / 3"),
-    ("heap_sift/src/lib.rt", "x + x + 1 < n {", "x * TWO < n {"),
-    ("sweep/src/run.rt", "fill_row_starts(&mut row, z.stages as usize, z.nodes + 2);", "row[0] = 0;"),
-]
-
-TOKEN = re.compile(
-    r"""b?"(?:\\.|[^"\\])*" | b?'(?:\\.|[^'\\])' | '\w+ | \w+ | :: | -> | => | <<= | >>= | << | >> | [*/%+\-&|^<>=!]= | && | \|\| | \S""",
-    re.VERBOSE,
-)
-NAME = re.compile(r"[a-z_]\w*")
-KEYWORDS = {"as", "else", "for", "if", "in", "let", "loop", "match", "mut", "return", "while"}
-OPERATORS = {"*", "/", "%", "<<", ">>", "*=", "/=", "%=", "<<=", ">>="}
+# By what an index is multiplied: the bytes of an entry.
+SIZES = {2, 4, 8, 4096}
+FACTORS = ("mul", "div", "rem")
+PLAIN = ("add", "sub", "lt", "le", "eq", "ne", "offset")
 
 
-# ---- the sources
+# ---- programs: lists of words and lists
 
 
-def close(words, at):
-    """The place behind the bracket that closes the one at a place."""
-    depth = 0
-    for i in range(at, len(words)):
-        depth += (words[i] in "([{") - (words[i] in ")]}")
-        if depth == 0:
-            return i + 1
-    raise SystemExit(f"not closed: {' '.join(words[at : at + 9])}")
-
-
-def code(text):
-    """The words of a source, without comments and contracts."""
-    words = TOKEN.findall(re.sub(r"//.*", "", text))
-    kept, at = [], 0
-    while at < len(words):
-        if words[at] in ("requires", "ensures"):
-            at = close(words, at + 1)
+def parse(text):
+    stack = [[]]
+    for word in re.findall(r'"[^"]*"|[()]|[^\s()]+', text):
+        if word == "(":
+            stack.append([])
+        elif word == ")":
+            last = stack.pop()
+            stack[-1].append(last)
         else:
-            kept.append(words[at])
-            at += 1
-    return kept
+            stack[-1].append(word)
+    return stack[0]
+
+
+def walk(tree):
+    """Every list within a list, and whether it stands in a loop."""
+    left = [(tree, False)]
+    while left:
+        node, looped = left.pop()
+        yield node, looped
+        looped = looped or node[:1] == ["loop"]
+        left += [(part, looped) for part in node if isinstance(part, list)]
+
+
+def members(chain):
+    """The members of a list that is written (lcons a (lcons b lnil))."""
+    while isinstance(chain, list):
+        yield chain[1]
+        chain = chain[2]
+
+
+def local(operand):
+    """The local that an operand, an address or a place begins at; none for a constant."""
+    while isinstance(operand, list) and operand[0] != "place":
+        operand = operand[1]
+    return operand[1] if isinstance(operand, list) else None
+
+
+def operator(value):
+    """The operator of two operands that a value has, or none."""
+    return (value[1] if isinstance(value[1], str) else value[1][0]) if value[:1] == ["op2"] else None
+
+
+def constant(operand):
+    return int(operand[2]) if operand[0] == "int" else None
 
 
 class Function:
-    """A function: its crate, the words of its body, those of its loops, and the crate of each name that its file uses."""
+    """What the code of a function assigns and calls, each with whether that stands in a loop."""
 
-    def __init__(self, crate, body, uses):
-        self.crate, self.body, self.uses = crate, body, uses
-        heads = [i for i, word in enumerate(body) if word in ("while", "for", "loop")]
-        self.loops = [word for i in heads for word in body[i : close(body, body.index("{", i))]]
+    def __init__(self, code):
+        self.assigned, self.called = [], []
+        for node, looped in walk(code):
+            if node[:1] == ["assign"] and isinstance(node[2], list):
+                self.assigned.append((local(node[1]), node[2], looped))
+            elif node[:1] == ["call"]:
+                name = node[1][1][1].strip('"') if node[1][0] == "direct" else node[1][0]
+                self.called.append((name, [local(operand) for operand in members(node[2])], looped))
+        self.places = {local(value[3]) for _, value, _ in self.assigned if operator(value) == "offset"}
 
-    def called(self, words):
-        """What some of its words call: the name with its crate, or a name that is of no function."""
-        for i, word in enumerate(words):
-            if words[i + 1 : i + 2] != ["("] or not NAME.fullmatch(word) or word in KEYWORDS:
+    def factors(self, all_of_it):
+        """What its loops, or all of it, multiply and divide by, but for indices: a number, or none."""
+        for to, value, looped in self.assigned:
+            name = operator(value)
+            if name is None or name in PLAIN or not (looped or all_of_it):
                 continue
-            before = words[i - 1] if i else ""
-            if before == "::":
-                yield f"{self.uses.get(words[i - 2], words[i - 2])}::{word}"
-            elif before != ".":
-                yield f"{self.uses.get(word, self.crate)}::{word}"
-            elif word not in METHODS:
-                yield f".{word}"
+            by = constant(value[3]) if name in FACTORS else None
+            if name != "mul" or by not in SIZES or to not in self.places:
+                yield by
 
+    def calls(self, all_of_it):
+        return [name for name, _, looped in self.called if looped or all_of_it]
 
-def functions(sources):
-    """Every function by its crate and name. Where two of a crate have one name, the name is of none."""
-    found = {}
-    for path, text in sources.items():
-        crate, words = path.split("/")[0], code(text)
-        uses = {}
-        for i, word in enumerate(words):
-            if word == "use" and words[i - 1 : i] != ["ghost"]:
-                end = words.index(";", i)
-                uses[words[end - 1]] = crate if words[i + 1] == "crate" else words[i + 1]
-        for i, word in enumerate(words):
-            if word == "fn":
-                name = f"{crate}::{words[i + 1]}"
-                first = words.index("{", close(words, words.index("(", i)))
-                found[name] = None if name in found else Function(crate, words[first : close(words, first)], uses)
-    return found
+    def leading(self, tables):
+        """Its locals that hold a table or lead into it, where some do."""
+        found = set(tables)
+        for _ in self.assigned:
+            for to, value, _ in self.assigned:
+                source = value[2] if operator(value) == "offset" else value[1] if value[0] in ("addrOf", "rvOpd") else None
+                whole = source and (value[0] == "addrOf" or source[-1][-1:] == ["lnil"])
+                if whole and local(source) in found:
+                    found.add(to)
+        return found
+
+    def reads(self, tables):
+        """Whether an entry of a table is looked up."""
+        found = self.leading(tables)
+        return any(operator(value) == "offset" and local(value[2]) in found for _, value, _ in self.assigned)
 
 
 # ---- the check
 
 
-def factors(words):
-    """What some words multiply and divide by: a literal's value, or the words where that is no literal."""
-    for i, word in enumerate(words):
-        before, after = words[i - 1] if i else "", words[i + 1 : i + 2]
-        if word not in OPERATORS or word == "*" and (before in KEYWORDS or not re.fullmatch(r"\w+|[)\]]", before)):
-            continue  # another word, or what a reference leads to
-        alone = word[-1] != "=" or words[i + 2 : i + 3] == [";"]
-        by = after[0] if after and after[0].isdecimal() and alone else None
-        if word == "*" and by is None and before.isdecimal() and words[i - 2] not in OPERATORS:
-            by = before
-        if by is None:
-            yield " ".join(words[max(i - 3, 0) : i + 4])
-        else:
-            yield 2 ** int(by) if word[0] in "<>" else int(by)
-
-
 class Search:
-    """A search: what it calls, and which of that runs in its loops."""
+    """A search of a program: which functions it calls, which of them run in loops, and which read the table."""
 
-    def __init__(self, tree, root):
-        self.tree, self.root = tree, root
-        self.all = self.reached([root])
-        self.looped = self.reached(name for f in self.known(self.all) for name in f.called(f.loops))
-        self.looped |= {name for name in self.all if self.tree.get(name) and name in self.reached(self.calls(name))}
+    def __init__(self, program, crate):
+        self.program = program
+        self.root, self.filling, self.readers = SEARCHES[crate]
+        self.all = self.reached([self.root])
+        known = [name for name in self.all if name in program]
+        self.looped = self.reached(name for at in known for name in program[at].calls(False))
+        self.looped |= {name for name in known if name in self.reached(program[name].calls(True))}
+        self.inside = {name: list(program[name].factors(name in self.looped)) for name in known if self.loops(name)}
+        self.tables = self.lent()
+        self.found = {name for name in self.tables if program[name].reads(self.tables[name])} - {FILL}
 
-    def known(self, names):
-        return [self.tree[name] for name in sorted(names) if self.tree.get(name)]
-
-    def calls(self, name):
-        function = self.tree.get(name)
-        return function.called(function.body) if function else []
+    def loops(self, name):
+        return name in self.looped or any(looped for *_, looped in self.program[name].assigned)
 
     def reached(self, names):
         """Some functions, and those that they call in turn."""
         found, left = set(), list(names)
         while left:
             name = left.pop()
-            if name not in found:
+            if name not in found and name != READING:
                 found.add(name)
-                left += self.calls(name)
+                left += self.program[name].calls(True) if name in self.program else []
         return found
 
-    def inside(self):
-        """Of each function the words that run in a loop, where there are some."""
-        for name in sorted(self.all):
-            function = self.tree.get(name)
-            words = function and (function.body if name in self.looped else function.loops)
-            if words:
-                yield name, words
-
-    def looks_up(self, name):
-        """Whether the loop of a function reads the table, or something called in it does."""
-        function = self.tree.get(name)
-        if name not in self.all or not function:
-            return False
-        bodies = [function.loops] + [f.body for f in self.known(self.reached(function.called(function.loops)))]
-        return any(pair == (TABLE, "[") for body in bodies for pair in zip(body, body[1:]))
+    def lent(self):
+        """The functions that the filled table is handed to, each with its locals that hold it."""
+        filling = self.program[self.filling]
+        lent = {places[0] for name, places, _ in filling.called if name == FILL}
+        tables = {self.filling: {local(value) for to, value, _ in filling.assigned if to in lent and value[0] == "addrOf"}}
+        left = [self.filling]
+        while left:
+            name = left.pop()
+            leading = self.program[name].leading(tables[name])
+            for called, places, _ in self.program[name].called:
+                more = {str(i + 1) for i, place in enumerate(places) if place in leading} - tables.get(called, set())
+                if more and called in self.program:
+                    tables[called] = tables.get(called, set()) | more
+                    left.append(called)
+        return tables
 
     def faults(self):
-        for name in sorted(self.all):
-            if not self.tree.get(name):
-                yield f"{self.root}: {name} is called, and is no one function of the tree"
-        for name, words in self.inside():
-            for by in factors(words):
+        for name in sorted(self.all - set(self.program)):
+            yield f"{self.root}: what {name} does is not known"
+        for name, factors in sorted(self.inside.items()):
+            for by in factors:
                 if by not in CONSTANTS:
-                    yield f"{self.root}: in a loop {name} multiplies or divides by what is not in the list: {by}"
-        if FILL in self.looped or FILL not in self.calls(self.root):
-            yield f"{self.root}: {FILL} is not called there, or is called in a loop"
-        for name in SEARCHES[self.root]:
-            if not self.looks_up(name):
-                yield f"{self.root}: the loop of {name} looks no row start up"
+                    yield f"{self.root}: in a loop {name} multiplies or divides by {by or 'what is no constant'}"
+        filled = [looped for name, _, looped in self.program[self.filling].called if name == FILL]
+        if filled != [False] or FILL in self.looped:
+            yield f"{self.root}: {self.filling} does not call {FILL} once, outside of all loops"
+        for name in sorted(self.found ^ self.readers):
+            yield f"{self.root}: {name} {'reads' if name in self.found else 'does not read'} the table of row starts"
 
 
-def searches(sources):
-    tree = functions(sources)
-    return [Search(tree, root) for root in SEARCHES]
+# ---- wrong programs that must be told
 
 
-def trial(sources, file, old, new):
-    """What is wrong with a trial: its text does not stand there once, or nothing is found."""
-    if sources.get(file, "").count(old) != 1:
-        yield f"trial: not once in crates/{file}: {old}"
-    elif not any(True for search in searches(sources | {file: sources[file].replace(old, new)}) for _ in search.faults()):
-        yield f"trial: not found in crates/{file}: {new}"
+def trials(search, codes):
+    """Changes of lists of a search, each as (function, list, place, what takes the place)."""
+    other = ["copy", ["place", "1", "lnil"]]
+    for name in sorted(search.inside):
+        for node, looped in walk(codes[name]):
+            if not (looped or name in search.looped):
+                continue
+            if node[:1] == ["call"]:
+                yield name, node[1], 0, "indirect"
+            elif operator(node) in ("add", "sub") and constant(node[3]) is None:
+                yield from ((name, node, 1, [factor, "unsigned"]) for factor in (*FACTORS, "shl"))
+            elif operator(node) in FACTORS and constant(node[3]) in CONSTANTS:
+                yield from ((name, node, 3, by) for by in (other, ["int", "64", "510"]))
+    for name in sorted(search.all & set(codes)):
+        outside = name not in search.looped and None in search.program[name].factors(True)
+        for node, _ in walk(codes[name]) if outside else []:
+            if node[:1] == ["fnRef"]:
+                yield name, node, 1, f'"{name}"'
+    for name in sorted(search.found):
+        leading = search.program[name].leading(search.tables[name])
+        for node, _ in walk(codes[name]):
+            if operator(node) == "offset" and local(node[2]) in leading:
+                yield name, node, 2, ["copy", ["place", "0", "lnil"]]
+    for node, _ in list(walk(codes[search.filling])):
+        if node[:1] == ["seq"] and node[1][:1] == ["call"] and FILL in str(node[1][1]):
+            yield search.filling, node, 1, ["loop", node[1]]
+            yield search.filling, node, 1, "skip"
+
+
+def missed(crate, program, codes):
+    """How many trials there are, and those that are not told."""
+    count, left = 0, []
+    for name, node, at, new in trials(Search(program, crate), codes):
+        old, node[at] = node[at], new
+        changed = program | {name: Function(codes[name])}
+        if not any(True for _ in Search(changed, crate).faults()):
+            left.append(f"trial: {name} with {new} for {old} is not told")
+        node[at] = old
+        count += 1
+    return count, left
 
 
 def main(words):
     if words not in ([], ["--list"]):
         print(__doc__, file=sys.stderr)
         return 2
-    crates = ROOT / "crates"
-    sources = {str(path.relative_to(crates)): path.read_text() for path in sorted(crates.glob("*/src/**/*.rt"))}
-    found = searches(sources)
-    faults = [fault for search in found for fault in search.faults()]
-    faults += [fault for case in TRIALS for fault in trial(sources, *case)]
-    for search in found:
-        inside = list(search.inside())
-        print(f"{search.root}: {len(inside)} functions run in its loops")
-        for name, text in inside if words else []:
-            by = sorted(set(map(str, factors(text))), key=len)
-            print(f"    {name}{'' if name in search.looped else ', its own loop'}{': by ' + ', '.join(by) if by else ''}")
-    print("\n".join(faults + [f"{len(TRIALS)} trials, {len(faults)} at fault"]))
+    faults, tried = [], 0
+    for crate in SEARCHES:
+        said = subprocess.run(["rt", "mir", crate], cwd=ROOT, capture_output=True, text=True)
+        if said.returncode != 0:
+            print(f"rt mir {crate} failed:\n{said.stdout[-2000:]}{said.stderr[-2000:]}", file=sys.stderr)
+            return 2
+        parts = (node for node, _ in walk(parse(said.stdout)) if node[:1] == ["fn-def"])
+        codes = {node[1].strip('"'): node[2][5] for node in parts}
+        program = {name: Function(code) for name, code in codes.items()}
+        search = Search(program, crate)
+        print(f"{search.root}: {len(search.inside)} functions run in its loops")
+        for name, by in sorted(search.inside.items()) if words else []:
+            print(f"    {name}{'' if name in search.looped else ', its loop'}{f': by {sorted(set(by))}' if by else ''}")
+        count, left = missed(crate, program, codes)
+        faults += [*search.faults(), *left]
+        tried += count
+    print("\n".join(faults + [f"{tried} trials; {len(faults)} faults"]))
     return 1 if faults else 0
 
 

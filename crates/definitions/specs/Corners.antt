@@ -6,7 +6,7 @@ use mathlib.Core.Bool.{false}
 use mathlib.Core.List.{List, [], _∷_, _++_, map}
 use mathlib.Core.Option.{Option, none, some}
 use lib.Dec.{eqb}
-use lib.ListN.{length, getD, take, drop}
+use lib.ListN.{length, getD, take, drop, replicate}
 use Rattle.definitions.specs.Basics.{pick, smaller, larger, sumOf}
 use Rattle.definitions.specs.Fields.{only, orRemark, fieldAt, firstField, onField, scan}
 use Rattle.definitions.specs.Charts.{ChartStep, headFault, stepFault, readChart}
@@ -161,19 +161,25 @@ pub neighbours-hold : neighbours ≡ (6 ∷ 5 ∷ []) ∷ (6 ∷ 5 ∷ []) ∷ (
 unfolding neighbours pick only orRemark fieldAt firstField onField scan headFault stepFault readChart nodeFault readDiagram
 neighbours-hold = refl
 
--- row starts: of five stages with three nodes, of one stage, of a full table, of one with a stage less; all tables are as long
+-- row starts: the first of five stages with three nodes, and of one stage; the last of 256 stages, and of 255; two in between; all tables are as long
 pub rowTables : List (List ℕ)
 rowTables =
     take 7 (rowStarts 5 3)
     ∷ take 3 (rowStarts 1 2)
     ∷ drop 253 (rowStarts 256 512)
     ∷ drop 253 (rowStarts 255 512)
-    ∷ map length (rowStarts 1 2 ∷ rowStarts 256 512 ∷ [])
+    ∷ map (λ s. getD (rowStarts 256 512) s 0) (128 ∷ 200 ∷ [])
+    ∷ map length (rowStarts 1 2 ∷ rowStarts 5 3 ∷ rowStarts 256 512 ∷ [])
     ∷ []
 
-pub row-tables-hold : rowTables ≡ (0 ∷ 3 ∷ 6 ∷ 9 ∷ 12 ∷ 0 ∷ 0 ∷ []) ∷ (0 ∷ 0 ∷ 0 ∷ []) ∷ (129536 ∷ 130048 ∷ 130560 ∷ []) ∷ (129536 ∷ 130048 ∷ 0 ∷ []) ∷ (256 ∷ 256 ∷ []) ∷ []
+pub row-tables-hold : rowTables ≡ (0 ∷ 3 ∷ 6 ∷ 9 ∷ 12 ∷ 0 ∷ 0 ∷ []) ∷ (0 ∷ 0 ∷ 0 ∷ []) ∷ (129536 ∷ 130048 ∷ 130560 ∷ []) ∷ (129536 ∷ 130048 ∷ 0 ∷ []) ∷ (65536 ∷ 102400 ∷ []) ∷ (256 ∷ 256 ∷ 256 ∷ []) ∷ []
 unfolding rowTables pick rowStart rowStarts
 row-tables-hold = refl
+
+-- past the five stages all are 0
+pub rows-past : drop 5 (rowStarts 5 3) ≡ replicate 251 0
+unfolding pick rowStart rowStarts
+rows-past = refl
 
 -- mistakes: one row off, one stage short, a row past the stages, stages for nodes
 pub rowMistakes : List (ℕ × ℕ)
