@@ -200,7 +200,7 @@ class Search:
 
 def trials(search, codes):
     """Changes of lists of a search, each as (function, list, place, what takes the place)."""
-    other = ["copy", ["place", "1", "lnil"]]
+    others = (["copy", ["place", "1", "lnil"]], ["int", "64", "510"])
     for name in sorted(search.inside):
         for node, looped in walk(codes[name]):
             if not (looped or name in search.looped):
@@ -208,9 +208,10 @@ def trials(search, codes):
             if node[:1] == ["call"]:
                 yield name, node[1], 0, "indirect"
             elif operator(node) in ("add", "sub") and constant(node[3]) is None:
-                yield from ((name, node, 1, [factor, "unsigned"]) for factor in (*FACTORS, "shl"))
+                yield from ((name, node, 1, [factor, "unsigned"]) for factor in ("mul", "div", "rem", "shl"))
             elif operator(node) in FACTORS and constant(node[3]) in CONSTANTS:
-                yield from ((name, node, 3, by) for by in (other, ["int", "64", "510"]))
+                sizes = [["int", "64", "4"]] if constant(node[3]) not in SIZES else []
+                yield from ((name, node, 3, by) for by in (*others, *sizes))
     for name in sorted(search.all & set(codes)):
         outside = name not in search.looped and None in search.program[name].factors(True)
         for node, _ in walk(codes[name]) if outside else []:
