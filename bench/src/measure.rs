@@ -92,19 +92,10 @@ impl Buffers {
             .map_err(|fault| format!("{}: {fault:?}", load.name))?;
         let random = &mut Random::new(1);
         let (pairs, plan) = (problem.pairs(), problem.longest_plan());
+        let [for_sweep, for_guided] = [(); 2].map(|()| dirty_plan(random, plan));
         let mut work = || dirty(random, pairs);
-        let sweep =
-            SweepSlices { cost: work(), via: work(), nodes: work(), plan: vec![7; plan].into() };
-        let guided = GuidedSlices {
-            keys: work(),
-            via: work(),
-            heap: work(),
-            pos: work(),
-            stack: work(),
-            log: work(),
-            plan: dirty_plan(random, plan),
-        };
-        Ok(Buffers { sweep, guided })
+        let sweep = SweepSlices::with(&mut work, for_sweep);
+        Ok(Buffers { sweep, guided: GuidedSlices::with(work, for_guided) })
     }
 
     /// The count; none where an implementation has no such call.

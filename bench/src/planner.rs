@@ -59,8 +59,12 @@ pub struct SweepSlices {
 impl SweepSlices {
     /// So many entries in each work slice and in the plan slice, all 0.
     pub fn of(work: usize, plan: usize) -> SweepSlices {
-        let slice = || vec![0; work].into();
-        SweepSlices { cost: slice(), via: slice(), nodes: slice(), plan: vec![0; plan].into() }
+        SweepSlices::with(|| vec![0; work].into(), vec![0; plan].into())
+    }
+
+    /// Work slices as they are made in turn.
+    pub fn with(mut work: impl FnMut() -> Lent<u32>, plan: Lent<u16>) -> SweepSlices {
+        SweepSlices { cost: work(), via: work(), nodes: work(), plan }
     }
 
     /// The same content, each slice beside a page that faults.
@@ -116,15 +120,19 @@ pub struct GuidedSlices {
 impl GuidedSlices {
     /// So many entries in each work slice and in the plan slice, all 0.
     pub fn of(work: usize, plan: usize) -> GuidedSlices {
-        let slice = || vec![0; work].into();
+        GuidedSlices::with(|| vec![0; work].into(), vec![0; plan].into())
+    }
+
+    /// Work slices as they are made in turn.
+    pub fn with(mut work: impl FnMut() -> Lent<u32>, plan: Lent<u16>) -> GuidedSlices {
         GuidedSlices {
-            keys: slice(),
-            via: slice(),
-            heap: slice(),
-            pos: slice(),
-            stack: slice(),
-            log: slice(),
-            plan: vec![0; plan].into(),
+            keys: work(),
+            via: work(),
+            heap: work(),
+            pos: work(),
+            stack: work(),
+            log: work(),
+            plan,
         }
     }
 

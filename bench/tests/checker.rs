@@ -17,26 +17,13 @@ type Falsify<S> = fn(&Facts, &mut Answer, &mut S) -> bool;
 const SPARE: usize = 3;
 
 fn sweep_slices(problem: &Problem, random: &mut Random) -> SweepSlices {
-    let work = problem.pairs() + SPARE;
-    SweepSlices {
-        cost: dirty(random, work),
-        via: dirty(random, work),
-        nodes: dirty(random, work),
-        plan: dirty_plan(random, problem.longest_plan() + SPARE),
-    }
+    let plan = dirty_plan(random, problem.longest_plan() + SPARE);
+    SweepSlices::with(|| dirty(random, problem.pairs() + SPARE), plan)
 }
 
 fn guided_slices(problem: &Problem, random: &mut Random) -> GuidedSlices {
-    let work = problem.pairs() + SPARE;
-    GuidedSlices {
-        keys: dirty(random, work),
-        via: dirty(random, work),
-        heap: dirty(random, work),
-        pos: dirty(random, work),
-        stack: dirty(random, work),
-        log: dirty(random, work),
-        plan: dirty_plan(random, problem.longest_plan() + SPARE),
-    }
+    let plan = dirty_plan(random, problem.longest_plan() + SPARE);
+    GuidedSlices::with(|| dirty(random, problem.pairs() + SPARE), plan)
 }
 
 /// Valid problems of the differential test.

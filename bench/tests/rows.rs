@@ -86,24 +86,20 @@ fn writes(problem: &Problem, wanted: &Wanted) {
     elsewhere_in_log(&judged, problem, wanted);
 }
 
+fn work(problem: &Problem, more: usize) -> Lent<u32> {
+    vec![DIRT; problem.pairs() + more].into()
+}
+
+fn plan(problem: &Problem, more: usize) -> Lent<u16> {
+    vec![PLAN_DIRT; problem.longest_plan() + more].into()
+}
+
 fn sweep_slices(problem: &Problem, more: usize) -> SweepSlices {
-    let work = || Lent::from(vec![DIRT; problem.pairs() + more]);
-    let plan = vec![PLAN_DIRT; problem.longest_plan() + more].into();
-    SweepSlices { cost: work(), via: work(), nodes: work(), plan }
+    SweepSlices::with(|| work(problem, more), plan(problem, more))
 }
 
 fn guided_slices(problem: &Problem, more: usize) -> GuidedSlices {
-    let work = || Lent::from(vec![DIRT; problem.pairs() + more]);
-    let plan = vec![PLAN_DIRT; problem.longest_plan() + more].into();
-    GuidedSlices {
-        keys: work(),
-        via: work(),
-        heap: work(),
-        pos: work(),
-        stack: work(),
-        log: work(),
-        plan,
-    }
+    GuidedSlices::with(|| work(problem, more), plan(problem, more))
 }
 
 fn sweeps(planner: &dyn Planner, problem: &Problem, wanted: &Wanted, more: usize) {

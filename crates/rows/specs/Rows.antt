@@ -1,4 +1,4 @@
--- The table of row starts while it is filled, and what the searches ask of it.
+-- Laws of the table of row starts: while it is filled, and for the searches.
 -- Assumes nothing.
 use Prim.Native.Nat.{ℕ, _+_, _*_, _≤_, _<_}
 use mathlib.Core.Path.{_≡_, sym, _∙_}
@@ -11,6 +11,7 @@ use Rattle.definitions.specs.Basics.{upto}
 use Rattle.definitions.specs.Pairs.{rowStart, rowStarts}
 use Rattle.theory.specs.Basics.{either, lt-or-le, same-or-not, pick-true, pick-false, length-map-run, getD-map-upto}
 
+-- what the searches ask of it: the row of a stage of the chart starts at stage × N
 pub row-at : (stages width s : ℕ) → stages ≤ 256 → s < stages → getD (rowStarts stages width) s 0 ≡ s * width
 unfolding rowStarts rowStart
 row-at stages width s h i = getD-map-upto (rowStart stages width) 256 s 0 (omega arith) ∙ pick-true _ _ _ (lt-ltb s stages i)
