@@ -1,13 +1,13 @@
 -- The walk over the steps: how it begins, and one law for each way out of a turn.
 -- Assumes nothing.
-use Prim.Native.Nat.{ℕ, _+_, _-_, _<_}
+use Prim.Native.Nat.{ℕ, _+_, _-_, _≤_, _<_}
 use mathlib.Core.Path.{_≡_, refl, sym, _∙_, ap, subst}
 use mathlib.Core.Bool.{true, false}
 use mathlib.Core.List.{List, [], _∷_, _++_}
 use lib.ListN.{length, length-append}
 use lib.Seq.{getD-append-seam}
 use native.Mathlib.Omega.{arith}
-use Rattle.definitions.specs.Fields.{part, only, orRemark, fieldAt, stopped}
+use Rattle.definitions.specs.Fields.{four, part, only, orRemark, fieldAt, stopped}
 use Rattle.definitions.specs.Charts.{ChartStep, noStep, stepFault, stepOf, lastFrom, stepFaultAfter, stepGrammar, scanSteps}
 use Rattle.definitions.specs.declared.Field.{Field}
 use Rattle.definitions.specs.declared.Field.the-variants.{Absent, Faulty, Passed, Whole}
@@ -24,9 +24,13 @@ use Rattle.chart.specs.Limits.{step-fits}
 use Rattle.chart.specs.Turns.{SoFar, Takes}
 use Rattle.chart.specs.declared.reader.StepsRead.{StepsRead}
 
--- a step that passes has room in the tables
-pub step-below : (v stages last count : ℕ) (b : List ℕ) → v ≡ stepFault stages last count b → v ≡ 0 → count < 1024
-step-below v stages last count b judged passes = step-fits stages last count b (sym passes ∙ judged) .below
+-- a step that passes has room in the tables, and its value keeps the limit
+module _ (v stages last count : ℕ) (b : List ℕ) (judged : v ≡ stepFault stages last count b) (passes : v ≡ 0) where
+  pub step-below : count < 1024
+  step-below = step-fits stages last count b (sym passes ∙ judged) .below
+
+  pub step-cheap : four b 4 ≤ 1000000
+  step-cheap = step-fits stages last count b (sym passes ∙ judged) .cheap
 
 -- the last of some steps, with one more
 last-grown : (before : List ChartStep) (x : ChartStep) → lastFrom (before ++ x ∷ []) ≡ x .from

@@ -76,7 +76,7 @@ module _ (stages : ℕ) (l : List ChartStep) (b : List ℕ) (passes : 0 ≡ step
     forward = each-grown l (stepOf b) (λ (x : ChartStep). x .from < x .to) (old .forward) (fits .forward);
     inside = each-grown l (stepOf b) (λ (x : ChartStep). x .to < stages) (old .inside) (fits .inside);
     sorted = sorted-grown;
-    cheap = each-grown l (stepOf b) (λ (x : ChartStep). x .cost ≤ 1000000) (old .cheap) (fits .cheap);
+    cheap = each-grown l (stepOf b) (λ (x : ChartStep). x .cost ≤ 1000000) (old .cheap) (omega (arith, fits .cheap));
   }
 
 -- the steps that passed keep the limits, also where a later field is refused

@@ -5,7 +5,7 @@ use mathlib.Core.Path.{_≡_}
 use mathlib.Core.List.{List}
 use Rattle.definitions.specs.Basics.{pick}
 use Rattle.definitions.specs.Fields.{two, four}
-use Rattle.definitions.specs.Charts.{headFault, stepFault}
+use Rattle.definitions.specs.Charts.{headFault, stepFault, rounded}
 use Rattle.chart_fields.specs.Bodies.{headBody, stepBody}
 use Rattle.theory.specs.Choices.{tests}
 
@@ -50,17 +50,17 @@ module _ (stages last count : ℕ) (b : List ℕ) where
     unfolding stepFault pick
     step-order p q r u = simp (← ef, ← et, tests)
 
-    module _ (c : ℕ) (ec : c ≡ four b 4) where
-      pub step-dear : count < 1024 → f < t → t < stages → last ≤ f → 1000000 < c → 11 ≡ stepFault stages last count b
+    module _ (v : ℕ) (ev : v ≡ four b 4) where
+      pub step-dear : count < 1024 → f < t → t < stages → last ≤ f → 1000000 < v → 11 ≡ stepFault stages last count b
       unfolding stepFault pick
-      step-dear p q r u v = simp (← ef, ← et, ← ec, tests)
+      step-dear p q r u w = simp (← ef, ← et, ← ev, tests)
 
-      pub step-passes : count < 1024 → f < t → t < stages → last ≤ f → c ≤ 1000000 → 0 ≡ stepFault stages last count b
+      pub step-passes : count < 1024 → f < t → t < stages → last ≤ f → v ≤ 1000000 → 0 ≡ stepFault stages last count b
       unfolding stepFault pick
-      step-passes p q r u v = simp (← ef, ← et, ← ec, tests)
+      step-passes p q r u w = simp (← ef, ← et, ← ev, tests)
 
-pub step-read : (b : List ℕ) (f t c : ℕ) → f ≡ two b 0 → t ≡ two b 2 → c ≡ four b 4 → record { from = f; to = t; cost = c } ≡ stepBody b
-step-read b f t c ef et ec = rw (ef, et, ec)
+pub step-read : (b : List ℕ) (f t v c : ℕ) → f ≡ two b 0 → t ≡ two b 2 → v ≡ four b 4 → c ≡ rounded v → record { from = f; to = t; cost = c } ≡ stepBody b
+step-read b f t v c ef et ev ec = rw (ef, et, ec, ev)
 
 pub head-read : (b : List ℕ) (n x y : ℕ) → n ≡ two b 0 → x ≡ two b 2 → y ≡ two b 4 → record { stages = n; start = x; end = y } ≡ headBody b
 head-read b n x y en ex ey = rw (en, ex, ey)

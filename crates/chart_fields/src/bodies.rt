@@ -1,7 +1,9 @@
 // A head's and a step's body: what it holds, and what it is refused for.
 ghost use mathlib.Core.Path.{_≡_};
+ghost use Prim.Native.Nat.{_≤_};
 ghost use lib.ListN.{length};
-ghost use Rattle.definitions.specs.Charts.{headFault, stepFault};
+ghost use Rattle.definitions.specs.Fields.{four};
+ghost use Rattle.definitions.specs.Charts.{headFault, stepFault, rounded};
 ghost use Rattle.chart_fields.specs.Bodies.{headBody, stepBody};
 use field_numbers::read_u16;
 use field_numbers::read_u32;
@@ -57,7 +59,7 @@ pub fn step_fault(b: &[u8], stages: u16, last: u16, count: usize) -> u8
     }
     let from = read_u16(b, 0);
     let to = read_u16(b, 2);
-    let cost = read_u32(b, 4);
+    let value = read_u32(b, 4);
     if to <= from {
         return 10; // not to a higher stage
     }
@@ -67,13 +69,21 @@ pub fn step_fault(b: &[u8], stages: u16, last: u16, count: usize) -> u8
     if from < last {
         return 5; // out of order
     }
-    if 1000000 < cost {
-        return 11; // too dear
+    if 1000000 < value {
+        return 11; // too dear, before it is rounded
     }
     0
 }
 
-// What a step's body holds.
+// What a step costs that has this value in the file: whole ticks of 50.
+fn rounded_cost(value: u32) -> u32
+    requires { ⌜ value ≤ 1000000 ⌝ }
+    ensures { λ r. ⌜ r ≡ rounded value ⌝ }
+{
+    (value + 49) / 50 * 50
+}
+
+// What a step's body holds, its cost rounded.
 pub struct StepBody {
     pub from: u16,
     pub to: u16,
@@ -82,11 +92,12 @@ pub struct StepBody {
 
 pub fn step_of(b: &[u8]) -> StepBody
     requires { ⌜ length (now b) ≡ 8 ⌝ }
+    requires { ⌜ four (now b) 4 ≤ 1000000 ⌝ }
     ensures { λ r. ⌜ r ≡ stepBody (now (b .entry)) ⌝ }
 {
     StepBody {
         from: read_u16(b, 0),
         to: read_u16(b, 2),
-        cost: read_u32(b, 4),
+        cost: rounded_cost(read_u32(b, 4)),
     }
 }

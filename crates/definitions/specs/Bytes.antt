@@ -1,10 +1,10 @@
 -- The bytes of fields and of files (REFERENCE 2.5). A file that is written holds the head and the steps or inner nodes, and no other field.
 -- Assumes nothing.
 use Prim.Native.Nat.{ℕ, _/_, _%_}
-use mathlib.Core.List.{List, [], _∷_, _++_}
+use mathlib.Core.List.{List, [], _∷_, _++_, map}
 use lib.ListN.{length}
 use Rattle.definitions.specs.Basics.{each}
-use Rattle.definitions.specs.Charts.{Chart, ChartStep}
+use Rattle.definitions.specs.Charts.{Chart, ChartStep, rounded}
 use Rattle.definitions.specs.Diagrams.{Diagram, InnerNode}
 
 -- a number in two bytes, and in four, low byte first
@@ -21,7 +21,7 @@ header tag len = tag ∷ le2 len
 abbrev pub field : ℕ → List ℕ → List ℕ
 field tag body = header tag (length body) ++ body
 
--- a chart's head (tag 1): stage count, start, end; a step (tag 2): from, to, cost
+-- a chart's head (tag 1): stage count, start, end; a step (tag 2): from, to, value. What stands as a step's cost is written as its value, whatever it is
 abbrev pub bodyOfHead : ℕ → ℕ → ℕ → List ℕ
 bodyOfHead stages start end = le2 stages ++ le2 start ++ le2 end
 
@@ -36,6 +36,13 @@ stepBytes x = field 2 (bodyOfStep x)
 
 abbrev pub chartBytes : Chart → List ℕ
 chartBytes c = headBytes (c .stages) (c .start) (c .end) ++ each stepBytes (c .steps)
+
+-- and read back as its cost
+abbrev pub roundedStep : ChartStep → ChartStep
+roundedStep x = record { from = x .from; to = x .to; cost = rounded (x .cost) }
+
+abbrev pub roundedChart : Chart → Chart
+roundedChart c = record { stages = c .stages; start = c .start; end = c .end; steps = map roundedStep (c .steps) }
 
 -- a diagram's head (tag 11, hexadecimal): the root; an inner node (tag 12): step, lo, hi
 abbrev pub bodyOfNode : InnerNode → List ℕ

@@ -1,6 +1,6 @@
 -- The chart (a weighted acyclic graph) and its file (REFERENCE 2.2, 2.4).
 -- Assumes nothing.
-use Prim.Native.Nat.{ℕ, _-_}
+use Prim.Native.Nat.{ℕ, _+_, _-_, _*_, _/_}
 use mathlib.Core.Bool.{not}
 use mathlib.Core.List.{List, []}
 use lib.Dec.{leb, ltb, eqb}
@@ -37,7 +37,8 @@ abbrev pub headOf : List ℕ → List ChartStep → Chart
 headOf b steps = record { stages = two b 0; start = two b 2; end = two b 4; steps = steps }
 
 -- what is wrong with a step's body after `count` steps, the last of which leaves the stage `last`; 0: nothing.
--- At most 1,024 steps, else 5; from < to and to < stage count, else 10; from at least that of the step before, else 5; cost at most 1,000,000, else 11
+-- At most 1,024 steps, else 5; from < to and to < stage count, else 10; from at least that of the step before, else 5; the value, as the file has it,
+-- at most 1,000,000, else 11
 unfoldable pub stepFault : ℕ → ℕ → ℕ → List ℕ → ℕ
 stepFault stages last count b =
     pick (leb 1024 count) 5
@@ -46,9 +47,13 @@ stepFault stages last count b =
     (pick (ltb (two b 0) last) 5
     (pick (not (leb (four b 4) 1000000)) 11 0))))
 
--- a step's body: from, to, cost
+-- what a step costs that has this value in the file: the value, rounded up to a multiple of 50
+abbrev pub rounded : ℕ → ℕ
+rounded value = (value + 49) / 50 * 50
+
+-- a step's body: from, to, value
 abbrev pub stepOf : List ℕ → ChartStep
-stepOf b = record { from = two b 0; to = two b 2; cost = four b 4 }
+stepOf b = record { from = two b 0; to = two b 2; cost = rounded (four b 4) }
 
 -- the stage that the last of some steps leaves, 0 before the first
 abbrev pub lastFrom : List ChartStep → ℕ

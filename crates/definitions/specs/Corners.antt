@@ -14,7 +14,7 @@ use Rattle.definitions.specs.Diagrams.{nodeFault, readDiagram}
 use Rattle.definitions.specs.Bytes.{field, bodyOfStep, bodyOfNode, headBytes, stepBytes, chartBytes, diagramBytes}
 use Rattle.definitions.specs.Answers.{readFiles, load}
 use Rattle.definitions.specs.Pairs.{rowStart, rowStarts}
-use Rattle.definitions.specs.Marked.{st, nd, chart, rules}
+use Rattle.definitions.specs.Marked.{st, nd, values, rules}
 use Rattle.definitions.specs.Examples.{rooted, steps, chartRefusal, rulesRefusal, loadRefusal}
 
 -- the smaller, the larger and the sum, where one is none
@@ -137,10 +137,10 @@ heads-hold = refl
 -- number, file and place: the chart's second step cut, the diagram's second node cut, its second node beyond a limit; a faulty chart before a faulty diagram
 pub places : List (List ℕ)
 places =
-    loadRefusal (load (take 25 (chartBytes chart)) (diagramBytes rules) (20 ∷ []) 4)
-    ∷ loadRefusal (load (chartBytes chart) (take 22 (diagramBytes rules)) (20 ∷ []) 4)
-    ∷ loadRefusal (load (chartBytes chart) (diagramBytes (rooted 3 (nd 2 0 1 ∷ nd 2 1 2 ∷ []))) (20 ∷ []) 4)
-    ∷ loadRefusal (load (take 25 (chartBytes chart)) (take 22 (diagramBytes rules)) [] 0)
+    loadRefusal (load (take 25 (chartBytes values)) (diagramBytes rules) (20 ∷ []) 4)
+    ∷ loadRefusal (load (chartBytes values) (take 22 (diagramBytes rules)) (20 ∷ []) 4)
+    ∷ loadRefusal (load (chartBytes values) (diagramBytes (rooted 3 (nd 2 0 1 ∷ nd 2 1 2 ∷ []))) (20 ∷ []) 4)
+    ∷ loadRefusal (load (take 25 (chartBytes values)) (take 22 (diagramBytes rules)) [] 0)
     ∷ []
 
 pub places-hold : places ≡ (1 ∷ 1 ∷ 20 ∷ []) ∷ (1 ∷ 2 ∷ 14 ∷ []) ∷ (6 ∷ 2 ∷ 14 ∷ []) ∷ (1 ∷ 1 ∷ 20 ∷ []) ∷ []

@@ -12,7 +12,7 @@ use Rattle.definitions.specs.Charts.{ChartStep, headFault, stepFault, re
 use Rattle.definitions.specs.Diagrams.{Diagram, InnerNode, nodeFault, readDiagram}
 use Rattle.definitions.specs.Bytes.{headBytes, stepBytes, chartBytes, diagramBytes}
 use Rattle.definitions.specs.Answers.{Load, ready, refused, readFiles, load}
-use Rattle.definitions.specs.Marked.{st, nd, chart, rules}
+use Rattle.definitions.specs.Marked.{st, nd, values, chart, rules}
 
 abbrev pub rooted : ℕ → List InnerNode → Diagram
 rooted root nodes = record { root = root; nodes = nodes }
@@ -31,7 +31,7 @@ abbrev pub loadRefusal : Load → List ℕ
 loadRefusal (ready c d) = []
 loadRefusal (refused number file place) = number ∷ file ∷ place ∷ []
 
-pub whole-chart : readChart (chartBytes chart) ≡ record { number = 0; place = 0; chart = chart }
+pub whole-chart : readChart (chartBytes values) ≡ record { number = 0; place = 0; chart = chart }
 unfolding pick only orRemark fieldAt firstField onField scan headFault stepFault readChart
 whole-chart = refl
 
@@ -63,9 +63,9 @@ computed =
     ∷ rulesRefusal (diagramBytes rules) 2
     ∷ rulesRefusal (diagramBytes (rooted 9 (nd 2 0 1 ∷ nd 2 1 2 ∷ []))) 6
     ∷ rulesRefusal (diagramBytes (rooted 2 (nd 2 0 2 ∷ []))) 6
-    ∷ refusedField (chartBytes chart) (diagramBytes rules) 2 5
-    ∷ refusedField (chartBytes chart) (diagramBytes rules) 1 73
-    ∷ refusedField (chartBytes chart) (diagramBytes rules) 3 0
+    ∷ refusedField (chartBytes values) (diagramBytes rules) 2 5
+    ∷ refusedField (chartBytes values) (diagramBytes rules) 1 73
+    ∷ refusedField (chartBytes values) (diagramBytes rules) 3 0
     ∷ []
 
 pub expected : List (List ℕ)
@@ -104,10 +104,10 @@ refusals-hold = refl
 -- the space: 5 × 4 entries for each work slice and 4 for the plan
 pub loads : List (List ℕ)
 loads =
-    loadRefusal (load (chartBytes chart) (diagramBytes rules) (20 ∷ 20 ∷ []) 4)
-    ∷ loadRefusal (load (chartBytes chart) (diagramBytes rules) (20 ∷ 19 ∷ []) 4)
-    ∷ loadRefusal (load (chartBytes chart) (diagramBytes rules) (20 ∷ 20 ∷ []) 3)
-    ∷ loadRefusal (load (chartBytes chart) (diagramBytes (rooted 4 (rules .nodes))) (0 ∷ []) 0)
+    loadRefusal (load (chartBytes values) (diagramBytes rules) (20 ∷ 20 ∷ []) 4)
+    ∷ loadRefusal (load (chartBytes values) (diagramBytes rules) (20 ∷ 19 ∷ []) 4)
+    ∷ loadRefusal (load (chartBytes values) (diagramBytes rules) (20 ∷ 20 ∷ []) 3)
+    ∷ loadRefusal (load (chartBytes values) (diagramBytes (rooted 4 (rules .nodes))) (0 ∷ []) 0)
     ∷ loadRefusal (load (9 ∷ []) [] [] 0)
     ∷ []
 

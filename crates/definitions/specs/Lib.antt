@@ -14,4 +14,5 @@ pub mod Logs
 pub mod Slices
 pub mod Corners
 pub mod Remarks
+pub mod Ticks
 pub mod Calls

@@ -30,19 +30,19 @@ h = estimate chart rules
 
 pub sums : List (Option ℕ)
 sums =
-    none ∷ none ∷ none ∷ some 120
-    ∷ none ∷ some 170 ∷ some 240 ∷ none
-    ∷ none ∷ some 310 ∷ none ∷ none
-    ∷ none ∷ some 170 ∷ none ∷ none
-    ∷ none ∷ some 170 ∷ none ∷ none ∷ []
+    none ∷ none ∷ none ∷ some 150
+    ∷ none ∷ some 200 ∷ some 250 ∷ none
+    ∷ none ∷ some 350 ∷ none ∷ none
+    ∷ none ∷ some 200 ∷ none ∷ none
+    ∷ none ∷ some 200 ∷ none ∷ none ∷ []
 
 pub costs : List (Option ℕ)
 costs =
     none ∷ none ∷ none ∷ some 0
-    ∷ none ∷ some 90 ∷ some 40 ∷ none
-    ∷ none ∷ some 240 ∷ none ∷ none
-    ∷ none ∷ some 120 ∷ none ∷ none
-    ∷ none ∷ some 170 ∷ none ∷ none ∷ []
+    ∷ none ∷ some 100 ∷ some 50 ∷ none
+    ∷ none ∷ some 250 ∷ none ∷ none
+    ∷ none ∷ some 150 ∷ none ∷ none
+    ∷ none ∷ some 200 ∷ none ∷ none ∷ []
 
 pub sums-hold : map (sumAt g a h) (upto 20) ≡ sums
 unfolding sums pick smaller larger sumOf descend descendIn advance waysIn ways leastWay stands leastCost toEnd sum chartEstimate diagramEstimate estimate variable variableCost
@@ -57,7 +57,7 @@ pub cost-slices : List (List ℕ)
 cost-slices = leastCosts g a ∷ leastCosts (graph single) (automaton single (leaf 1)) ∷ leastCosts (graph single) (automaton single (leaf 0)) ∷ []
 
 pub cost-slices-hold : cost-slices ≡
-    (NONE ∷ NONE ∷ NONE ∷ 0 ∷ NONE ∷ 90 ∷ 40 ∷ NONE ∷ NONE ∷ 240 ∷ NONE ∷ NONE ∷ NONE ∷ 120 ∷ NONE ∷ NONE ∷ NONE ∷ 170 ∷ NONE ∷ NONE ∷ [])
+    (NONE ∷ NONE ∷ NONE ∷ 0 ∷ NONE ∷ 100 ∷ 50 ∷ NONE ∷ NONE ∷ 250 ∷ NONE ∷ NONE ∷ NONE ∷ 150 ∷ NONE ∷ NONE ∷ NONE ∷ 200 ∷ NONE ∷ NONE ∷ [])
     ∷ (NONE ∷ 0 ∷ [])
     ∷ (NONE ∷ NONE ∷ [])
     ∷ []
@@ -118,7 +118,7 @@ abbrev good : List ℕ
 good = 3 ∷ 5 ∷ 13 ∷ 17 ∷ []
 
 abbrev goodSum : ℕ → ℕ
-goodSum i = getD (120 ∷ 170 ∷ 170 ∷ 170 ∷ []) i 0
+goodSum i = getD (150 ∷ 200 ∷ 200 ∷ 200 ∷ []) i 0
 
 good-sums : (i : ℕ) → i < 4 → sumAt g a h (getD good i 0) ≡ some (goodSum i)
 unfolding sums
@@ -127,10 +127,10 @@ good-sums = each 4 (λ i. sumAt g a h (getD good i 0) ≡ some (goodSum i)) (sum
 good-rises : (i j : ℕ) → i ≤ j → j < 4 → goodSum i ≤ goodSum j
 good-rises i j l u =
     each 4 (λ j. (i : ℕ) → i < suc j → goodSum i ≤ goodSum j)
-    (each 1 (λ i. goodSum i ≤ 120) (omega arith also tt)
-    also each 2 (λ i. goodSum i ≤ 170) (omega arith also omega arith also tt)
-    also each 3 (λ i. goodSum i ≤ 170) (omega arith also omega arith also omega arith also tt)
-    also each 4 (λ i. goodSum i ≤ 170) (omega arith also omega arith also omega arith also omega arith also tt)
+    (each 1 (λ i. goodSum i ≤ 150) (omega arith also tt)
+    also each 2 (λ i. goodSum i ≤ 200) (omega arith also omega arith also tt)
+    also each 3 (λ i. goodSum i ≤ 200) (omega arith also omega arith also omega arith also tt)
+    also each 4 (λ i. goodSum i ≤ 200) (omega arith also omega arith also omega arith also omega arith also tt)
     also tt) j u i (omega arith)
 
 good-once : (j i : ℕ) → i < j → j < 4 → getD good i 0 ≡ getD good j 0 → ⊥
@@ -148,8 +148,8 @@ good-follows =
     each 4 (λ j. 0 < j → (i : ℕ) × (i < j) × Follows g a h (getD good i 0) (getD good j 0))
     ((λ l. absurd (omega arith))
     also (λ l. (0, omega arith, record { step = 1; exists = omega arith; leaves = refl; enters = refl; before = 0; least-before = cost-of 3; least = cost-of 5 }))
-    also (λ l. (1, omega arith, record { step = 3; exists = omega arith; leaves = refl; enters = refl; before = 90; least-before = cost-of 5; least = cost-of 13 }))
-    also (λ l. (2, omega arith, record { step = 5; exists = omega arith; leaves = refl; enters = refl; before = 120; least-before = cost-of 13; least = cost-of 17 }))
+    also (λ l. (1, omega arith, record { step = 3; exists = omega arith; leaves = refl; enters = refl; before = 100; least-before = cost-of 5; least = cost-of 13 }))
+    also (λ l. (2, omega arith, record { step = 5; exists = omega arith; leaves = refl; enters = refl; before = 150; least-before = cost-of 13; least = cost-of 17 }))
     also tt)
 
 pub good-settled : Settled g a h good
@@ -165,28 +165,28 @@ good-settled = record {
   follows = λ j l u. let t = good-follows j u l in (t .0, omega (arith, t .1), t .2);
 }
 
--- every pair with a sum below 170 is in the log: it is 3
-good-complete : (p : ℕ) → p < 20 → (k : ℕ) → sumAt g a h p ≡ some k → k < 170 → List·Memᴰ p good
+-- every pair with a sum below 200 is in the log: it is 3
+good-complete : (p : ℕ) → p < 20 → (k : ℕ) → sumAt g a h p ≡ some k → k < 200 → List·Memᴰ p good
 unfolding sums
 good-complete =
-    each 20 (λ p. (k : ℕ) → sumAt g a h p ≡ some k → k < 170 → List·Memᴰ p good)
+    each 20 (λ p. (k : ℕ) → sumAt g a h p ≡ some k → k < 200 → List·Memᴰ p good)
     (gone 0 (sum-of 0) also gone 1 (sum-of 1) also gone 2 (sum-of 2) also (λ k e l. List·Memᴰ·head refl)
-    also gone 4 (sum-of 4) also high 5 170 (sum-of 5) (omega arith) also high 6 240 (sum-of 6) (omega arith) also gone 7 (sum-of 7)
-    also gone 8 (sum-of 8) also high 9 310 (sum-of 9) (omega arith) also gone 10 (sum-of 10) also gone 11 (sum-of 11)
-    also gone 12 (sum-of 12) also high 13 170 (sum-of 13) (omega arith) also gone 14 (sum-of 14) also gone 15 (sum-of 15)
-    also gone 16 (sum-of 16) also high 17 170 (sum-of 17) (omega arith) also gone 18 (sum-of 18) also gone 19 (sum-of 19)
+    also gone 4 (sum-of 4) also high 5 200 (sum-of 5) (omega arith) also high 6 250 (sum-of 6) (omega arith) also gone 7 (sum-of 7)
+    also gone 8 (sum-of 8) also high 9 350 (sum-of 9) (omega arith) also gone 10 (sum-of 10) also gone 11 (sum-of 11)
+    also gone 12 (sum-of 12) also high 13 200 (sum-of 13) (omega arith) also gone 14 (sum-of 14) also gone 15 (sum-of 15)
+    also gone 16 (sum-of 16) also high 17 200 (sum-of 17) (omega arith) also gone 18 (sum-of 18) also gone 19 (sum-of 19)
     also tt)
   where
-    gone : (p : ℕ) → sumAt g a h p ≡ none → (k : ℕ) → sumAt g a h p ≡ some k → k < 170 → List·Memᴰ p good
+    gone : (p : ℕ) → sumAt g a h p ≡ none → (k : ℕ) → sumAt g a h p ≡ some k → k < 200 → List·Memᴰ p good
     gone p n k e l = absurd (none-some (sym n ∙ e))
 
-    high : (p m : ℕ) → sumAt g a h p ≡ some m → 170 ≤ m → (k : ℕ) → sumAt g a h p ≡ some k → k < 170 → List·Memᴰ p good
+    high : (p m : ℕ) → sumAt g a h p ≡ some m → 200 ≤ m → (k : ℕ) → sumAt g a h p ≡ some k → k < 200 → List·Memᴰ p good
     high p m n u k e l = absurd (omega (arith, some-same (sym n ∙ e)))
 
 goal-of : (i : ℕ) → getD (map (goalAt g a h) (3 ∷ 5 ∷ 6 ∷ 13 ∷ 17 ∷ [])) i false ≡ getD (false ∷ false ∷ false ∷ false ∷ true ∷ []) i false
 goal-of i = ap (λ (l : List Bool). getD l i false) goals-hold
 
-pub good-found : Found g a h 170 good
+pub good-found : Found g a h 200 good
 unfolding costs
 good-found = record {
   some-entry = omega arith;
@@ -211,7 +211,7 @@ no-sum s = let t = s .sums 1 (omega arith) in none-some (sym (sum-of 4) ∙ t .1
 
 pub falls : Settled g a h (3 ∷ 6 ∷ 5 ∷ []) → ⊥
 unfolding sums
-falls s = omega (arith, s .rises 1 2 240 170 (omega arith) (omega arith) (sum-of 6) (sum-of 5))
+falls s = omega (arith, s .rises 1 2 250 200 (omega arith) (omega arith) (sum-of 6) (sum-of 5))
 
 pub twice : Settled g a h (3 ∷ 5 ∷ 5 ∷ 13 ∷ 17 ∷ []) → ⊥
 twice s = s .once 1 2 (omega arith) (omega arith) refl
@@ -235,11 +235,11 @@ skips s =
     also (λ f. each 6 (Apart 1 1) (apart .1) (f .step) (f .exists) (f .leaves) (f .enters))
     also tt) (t .0) (t .1) (t .2)
 
--- pair 9 has the least cost 240; step 2 leads to it from pair 5, at 290
+-- pair 9 has the least cost 250; step 2 leads to it from pair 5, at 300
 abbrev Priced : ℕ → ℕ → Type 0
 Priced m e = g .cost e ≡ m → ⊥
 
-unpriced : Each 6 (Priced 240) × Each 6 (Priced 150)
+unpriced : Each 6 (Priced 250) × Each 6 (Priced 150)
 unpriced = (
   (λ l. omega arith) also (λ l. omega arith) also (λ l. omega arith) also (λ l. omega arith) also (λ l. omega arith) also (λ l. omega arith) also tt,
   (λ l. omega arith) also (λ l. omega arith) also (λ l. omega arith) also (λ l. omega arith) also (λ l. omega arith) also (λ l. omega arith) also tt,
@@ -250,53 +250,54 @@ unfolding costs
 not-least s =
     let t = s .follows 2 (omega arith) (omega arith) in
     each 2 (λ i. Follows g a h (getD (3 ∷ 5 ∷ 9 ∷ []) i 0) 9 → ⊥)
-    ((λ f. each 6 (Priced 240) (unpriced .0) (f .step) (f .exists) (omega (arith, some-same (sym (cost-of 3) ∙ f .least-before), some-same (sym (cost-of 9) ∙ f .least))))
+    ((λ f. each 6 (Priced 250) (unpriced .0) (f .step) (f .exists) (omega (arith, some-same (sym (cost-of 3) ∙ f .least-before), some-same (sym (cost-of 9) ∙ f .least))))
     also (λ f. each 6 (Priced 150) (unpriced .1) (f .step) (f .exists) (omega (arith, some-same (sym (cost-of 5) ∙ f .least-before), some-same (sym (cost-of 9) ∙ f .least))))
     also tt) (t .0) (t .1) (t .2)
 
-pub empty : Found g a h 170 [] → ⊥
+pub empty : Found g a h 200 [] → ⊥
 empty f = omega (arith, f .some-entry)
 
-pub stops-early : Found g a h 170 (3 ∷ 5 ∷ 13 ∷ []) → ⊥
+pub stops-early : Found g a h 200 (3 ∷ 5 ∷ 13 ∷ []) → ⊥
 stops-early f = false-true (sym (goal-of 3) ∙ f .only-goal 2 (omega arith))
 
-pub other-cost : Found g a h 180 good → ⊥
+-- 170 is what the values of the file add up to
+pub other-cost : Found g a h 170 good → ⊥
 unfolding costs
 other-cost f = omega (arith, some-same (sym (cost-of 17) ∙ f .goal-cost))
 
--- pair 3 has the sum 120
-pub misses : Found g a h 170 (5 ∷ 13 ∷ 17 ∷ []) → ⊥
+-- pair 3 has the sum 150
+pub misses : Found g a h 200 (5 ∷ 13 ∷ 17 ∷ []) → ⊥
 unfolding sums
 misses f =
     outside 3 (5 ∷ 13 ∷ 17 ∷ []) ((λ e. omega arith) also (λ e. omega arith) also (λ e. omega arith) also tt)
-    (f .below 3 (omega arith) 120 (sum-of 3) (omega arith))
+    (f .below 3 (omega arith) 150 (sum-of 3) (omega arith))
 
--- pair 6 has the sum 240
-pub above : Found g a h 170 (3 ∷ 5 ∷ 6 ∷ 13 ∷ 17 ∷ []) → ⊥
+-- pair 6 has the sum 250
+pub above : Found g a h 200 (3 ∷ 5 ∷ 6 ∷ 13 ∷ 17 ∷ []) → ⊥
 unfolding sums
-above f = omega (arith, f .none-above 2 240 (omega arith) (sum-of 6))
+above f = omega (arith, f .none-above 2 250 (omega arith) (sum-of 6))
 
 -- where there is no legal plan the log may not stop before pair 3
 pub ends-early : Ended g a h none [] → ⊥
 unfolding sums
-ends-early e = List·Memᴰ·not-nil (e 3 (omega arith) 120 (sum-of 3) tt)
+ends-early e = List·Memᴰ·not-nil (e 3 (omega arith) 150 (sum-of 3) tt)
 
 -- ---- the log slice: the log, then the entries that stay
 
-pub good-logged : Logged g a h (some 170) 4 (0 ∷ 0 ∷ 0 ∷ 0 ∷ 9 ∷ []) (3 ∷ 5 ∷ 13 ∷ 17 ∷ 9 ∷ [])
+pub good-logged : Logged g a h (some 200) 4 (0 ∷ 0 ∷ 0 ∷ 0 ∷ 9 ∷ []) (3 ∷ 5 ∷ 13 ∷ 17 ∷ 9 ∷ [])
 unfolding pick smaller descend descendIn advance waysIn ways leastWay stands leastCost reached reachedPairs variable
 good-logged = record { fits = omega arith; settled = good-settled; ended = good-found; few = omega arith; long = refl; rest = refl }
 
-pub writes-past : Logged g a h (some 170) 4 (0 ∷ 0 ∷ 0 ∷ 0 ∷ 9 ∷ []) (3 ∷ 5 ∷ 13 ∷ 17 ∷ 8 ∷ []) → ⊥
+pub writes-past : Logged g a h (some 200) 4 (0 ∷ 0 ∷ 0 ∷ 0 ∷ 9 ∷ []) (3 ∷ 5 ∷ 13 ∷ 17 ∷ 8 ∷ []) → ⊥
 writes-past l = let e = ap (λ (r : List ℕ). getD r 0 0) (l .rest) in omega arith
 
-pub cuts : Logged g a h (some 170) 4 (0 ∷ 0 ∷ 0 ∷ 0 ∷ 9 ∷ []) (3 ∷ 5 ∷ 13 ∷ 17 ∷ []) → ⊥
+pub cuts : Logged g a h (some 200) 4 (0 ∷ 0 ∷ 0 ∷ 0 ∷ 9 ∷ []) (3 ∷ 5 ∷ 13 ∷ 17 ∷ []) → ⊥
 cuts l = omega (arith, l .long)
 
-pub no-space : Logged g a h (some 170) 5 (0 ∷ 0 ∷ 0 ∷ 0 ∷ []) good → ⊥
+pub no-space : Logged g a h (some 200) 5 (0 ∷ 0 ∷ 0 ∷ 0 ∷ []) good → ⊥
 no-space l = omega (arith, l .fits)
 
 -- six pairs are reached
-pub too-many : Logged g a h (some 170) 7 (0 ∷ 0 ∷ 0 ∷ 0 ∷ 0 ∷ 0 ∷ 0 ∷ []) (3 ∷ 5 ∷ 6 ∷ 9 ∷ 13 ∷ 17 ∷ 3 ∷ []) → ⊥
+pub too-many : Logged g a h (some 200) 7 (0 ∷ 0 ∷ 0 ∷ 0 ∷ 0 ∷ 0 ∷ 0 ∷ []) (3 ∷ 5 ∷ 6 ∷ 9 ∷ 13 ∷ 17 ∷ 3 ∷ []) → ⊥
 unfolding pick smaller descend descendIn advance waysIn ways leastWay stands leastCost reached reachedPairs variable
 too-many l = omega (arith, l .few)

@@ -7,6 +7,7 @@ use mathlib.Core.List.{List, [], _∷_, _++_, map}
 use mathlib.Core.Option.{Option, none, some}
 use Rattle.definitions.specs.Basics.{pick, smaller, larger, sumOf, upto}
 use Rattle.definitions.specs.Charts.{Chart, ChartStep}
+use Rattle.definitions.specs.Bytes.{roundedChart}
 use Rattle.definitions.specs.Diagrams.{Diagram, InnerNode, descend, descendIn, advance, finish, verdict}
 use Rattle.definitions.specs.Ways.{waysIn, ways, leastWay, wayCost}
 use Rattle.definitions.specs.Pairs.{stageOf, nodeOf, stands, leastCost, reached, goal, reachedPairs, goalPairs, toEnd, sum}
@@ -18,9 +19,12 @@ st from to cost = record { from = from; to = to; cost = cost }
 abbrev pub nd : ℕ → ℕ → ℕ → InnerNode
 nd step lo hi = record { step = step; lo = lo; hi = hi }
 
--- the chart of REFERENCE 14 and its rule: step 0 needs step 2
+-- the chart of REFERENCE 14: with the values of its file, and as it is read; its rule: step 0 needs step 2
+abbrev pub values : Chart
+values = record { stages = 5; start = 0; end = 4; steps = st 0 1 40 ∷ st 0 1 90 ∷ st 1 2 200 ∷ st 1 3 30 ∷ st 2 3 20 ∷ st 3 4 50 ∷ [] }
+
 abbrev pub chart : Chart
-chart = record { stages = 5; start = 0; end = 4; steps = st 0 1 40 ∷ st 0 1 90 ∷ st 1 2 200 ∷ st 1 3 30 ∷ st 2 3 20 ∷ st 3 4 50 ∷ [] }
+chart = roundedChart values
 
 abbrev pub rules : Diagram
 rules = record { root = 3; nodes = nd 2 0 1 ∷ nd 0 1 2 ∷ [] }
@@ -37,7 +41,7 @@ leaf n = record { root = n; nodes = [] }
 
 -- (i): the chart and the diagram whose goal pair is not at node 1
 abbrev skip : Chart
-skip = record { stages = 3; start = 0; end = 2; steps = st 0 2 5 ∷ st 1 2 1 ∷ [] }
+skip = roundedChart (record { stages = 3; start = 0; end = 2; steps = st 0 2 5 ∷ st 1 2 1 ∷ [] })
 
 abbrev avoid : Diagram
 avoid = record { root = 2; nodes = nd 1 1 0 ∷ [] }
@@ -71,15 +75,15 @@ computed =
 -- the figures worked by hand
 pub marked : List (List (Option ℕ))
 marked =
-    (some 170 ∷ [])
+    (some 200 ∷ [])
     ∷ (some 3 ∷ some 5 ∷ some 6 ∷ some 9 ∷ some 13 ∷ some 17 ∷ [])
-    ∷ (some 120 ∷ some 80 ∷ some 70 ∷ some 50 ∷ some 0 ∷ some 200 ∷ some 0 ∷ [])
-    ∷ (some 120 ∷ some 170 ∷ some 170 ∷ some 170 ∷ some 240 ∷ some 310 ∷ [])
-    ∷ (some 120 ∷ some 0 ∷ [])
-    ∷ (some 310 ∷ some 1 ∷ [])
+    ∷ (some 150 ∷ some 100 ∷ some 100 ∷ some 50 ∷ some 0 ∷ some 200 ∷ some 0 ∷ [])
+    ∷ (some 150 ∷ some 200 ∷ some 200 ∷ some 200 ∷ some 250 ∷ some 350 ∷ [])
+    ∷ (some 150 ∷ some 0 ∷ [])
+    ∷ (some 350 ∷ some 1 ∷ [])
     ∷ (some 0 ∷ some 1 ∷ [])
     ∷ (none ∷ [])
-    ∷ (some 5 ∷ some 1 ∷ some 8 ∷ [])
+    ∷ (some 50 ∷ some 1 ∷ some 8 ∷ [])
     ∷ (none ∷ [])
     ∷ []
 

@@ -15,7 +15,7 @@ use Rattle.definitions.specs.Charts.{headFault, stepFault, chartRefused,
 use Rattle.definitions.specs.Diagrams.{nodeFault, diagramRefused, readDiagram}
 use Rattle.definitions.specs.Bytes.{headBytes, field, stepBytes, rootBytes, nodeBytes, chartBytes, diagramBytes}
 use Rattle.definitions.specs.Answers.{refused, readFiles, load}
-use Rattle.definitions.specs.Marked.{st, nd, chart, rules}
+use Rattle.definitions.specs.Marked.{st, nd, values, chart, rules}
 use Rattle.definitions.specs.Examples.{alike, rooted, chartRefusal, rulesRefusal, loadRefusal, whole-chart}
 use Rattle.definitions.specs.declared.Field.the-variants.{Faulty}
 
@@ -24,7 +24,7 @@ abbrev noted : List (List ℕ) → List ℕ
 noted fields = each (λ f. field 128 [] ++ f) fields ++ field 255 (2 ∷ 8 ∷ 0 ∷ [])
 
 abbrev chartNoted : List ℕ
-chartNoted = headBytes (chart .stages) (chart .start) (chart .end) ++ noted (map stepBytes (chart .steps))
+chartNoted = headBytes (values .stages) (values .start) (values .end) ++ noted (map stepBytes (values .steps))
 
 abbrev rulesNoted : List ℕ
 rulesNoted = rootBytes (rules .root) ++ noted (map nodeBytes (rules .nodes))
@@ -135,7 +135,7 @@ module _ (s : List ℕ) (long : longest < length s) where
   long-chart rules = rw long-chart-read
 
   -- the diagram's before its fields, and after the chart's fields
-  pub long-rules : readFiles (chartBytes chart) s ≡ refused 9 2 longest
+  pub long-rules : readFiles (chartBytes values) s ≡ refused 9 2 longest
   unfolding readFiles pick
   long-rules = rw (whole-chart, long-rules-read 6)
 

@@ -26,12 +26,12 @@ differ e i = ap (λ (l : List ℕ). getD l i 0) e
 abbrev fields : Answer → List ℕ
 fields r = r .number ∷ r .file ∷ r .place ∷ r .cost ∷ r .length ∷ r .count ∷ []
 
-pub answers-hold : _≡_ {A = List (List ℕ)} (fields (refusal 6 2 14 3) ∷ fields (accepted 170 5 4) ∷ []) ((6 ∷ 2 ∷ 14 ∷ 0 ∷ 0 ∷ 3 ∷ []) ∷ (0 ∷ 0 ∷ 0 ∷ 170 ∷ 5 ∷ 4 ∷ []) ∷ [])
+pub answers-hold : _≡_ {A = List (List ℕ)} (fields (refusal 6 2 14 3) ∷ fields (accepted 200 5 4) ∷ []) ((6 ∷ 2 ∷ 14 ∷ 0 ∷ 0 ∷ 3 ∷ []) ∷ (0 ∷ 0 ∷ 0 ∷ 200 ∷ 5 ∷ 4 ∷ []) ∷ [])
 answers-hold = refl
 
--- ---- the plan slice: steps 1, 3, 5 of the chart of REFERENCE 14 cost 170
+-- ---- the plan slice: steps 1, 3, 5 of the chart of REFERENCE 14 cost 200
 
-pub good-planned : Planned chart rules 170 3 (7 ∷ 7 ∷ 7 ∷ 7 ∷ []) (1 ∷ 3 ∷ 5 ∷ 7 ∷ [])
+pub good-planned : Planned chart rules 200 3 (7 ∷ 7 ∷ 7 ∷ 7 ∷ []) (1 ∷ 3 ∷ 5 ∷ 7 ∷ [])
 unfolding pick descend descendIn verdict saysYes variable
 good-planned = record {
   fits = omega arith;
@@ -45,17 +45,18 @@ good-planned = record {
 pub no-room : Planned single (leaf 1) 0 1 [] [] → ⊥
 no-room p = omega (arith, p .fits)
 
-pub not-legal : Planned chart rules 120 3 (7 ∷ 7 ∷ 7 ∷ []) (0 ∷ 3 ∷ 5 ∷ []) → ⊥
+pub not-legal : Planned chart rules 150 3 (7 ∷ 7 ∷ 7 ∷ []) (0 ∷ 3 ∷ 5 ∷ []) → ⊥
 unfolding pick descend descendIn verdict saysYes variable
 not-legal p = false-true (p .legal .1)
 
-pub not-its-cost : Planned chart rules 171 3 (7 ∷ 7 ∷ 7 ∷ []) (1 ∷ 3 ∷ 5 ∷ []) → ⊥
+-- 170 is what the values of its file add up to
+pub not-its-cost : Planned chart rules 170 3 (7 ∷ 7 ∷ 7 ∷ []) (1 ∷ 3 ∷ 5 ∷ []) → ⊥
 not-its-cost p = omega (arith, p .costs)
 
-pub plan-cut : Planned chart rules 170 3 (7 ∷ 7 ∷ 7 ∷ 7 ∷ []) (1 ∷ 3 ∷ 5 ∷ []) → ⊥
+pub plan-cut : Planned chart rules 200 3 (7 ∷ 7 ∷ 7 ∷ 7 ∷ []) (1 ∷ 3 ∷ 5 ∷ []) → ⊥
 plan-cut p = omega (arith, p .long)
 
-pub plan-past : Planned chart rules 170 3 (7 ∷ 7 ∷ 7 ∷ 7 ∷ []) (1 ∷ 3 ∷ 5 ∷ 8 ∷ []) → ⊥
+pub plan-past : Planned chart rules 200 3 (7 ∷ 7 ∷ 7 ∷ 7 ∷ []) (1 ∷ 3 ∷ 5 ∷ 8 ∷ []) → ⊥
 plan-past p = let e = differ (p .rest) 0 in omega arith
 
 -- no legal plan: 8, and the plan slice stays
@@ -128,11 +129,11 @@ pub sweep-writes-past : Swept (ready single (leaf 1)) (7 ∷ []) (7 ∷ []) (5 �
 unfolding pick smaller descend descendIn advance waysIn ways leastWay stands leastCost leastCosts variable
 sweep-writes-past s = let e = differ (s .1) 2 in omega arith
 
-pub guided-holds : Guided (ready chart rules) (7 ∷ 7 ∷ 7 ∷ 7 ∷ []) (1 ∷ 3 ∷ 5 ∷ 7 ∷ []) (0 ∷ 0 ∷ 0 ∷ 0 ∷ 9 ∷ []) (3 ∷ 5 ∷ 13 ∷ 17 ∷ 9 ∷ []) (accepted 170 3 4)
+pub guided-holds : Guided (ready chart rules) (7 ∷ 7 ∷ 7 ∷ 7 ∷ []) (1 ∷ 3 ∷ 5 ∷ 7 ∷ []) (0 ∷ 0 ∷ 0 ∷ 0 ∷ 9 ∷ []) (3 ∷ 5 ∷ 13 ∷ 17 ∷ 9 ∷ []) (accepted 200 3 4)
 unfolding pick smaller descend descendIn verdict saysYes waysIn ways leastWay cheapest variable
 guided-holds = ((refl, good-planned), good-logged)
 
-pub guided-cost : Guided (ready chart rules) (7 ∷ 7 ∷ 7 ∷ 7 ∷ []) (1 ∷ 3 ∷ 5 ∷ 7 ∷ []) (0 ∷ 0 ∷ 0 ∷ 0 ∷ 9 ∷ []) (3 ∷ 5 ∷ 13 ∷ 17 ∷ 9 ∷ []) (accepted 171 3 4) → ⊥
+pub guided-cost : Guided (ready chart rules) (7 ∷ 7 ∷ 7 ∷ 7 ∷ []) (1 ∷ 3 ∷ 5 ∷ 7 ∷ []) (0 ∷ 0 ∷ 0 ∷ 0 ∷ 9 ∷ []) (3 ∷ 5 ∷ 13 ∷ 17 ∷ 9 ∷ []) (accepted 170 3 4) → ⊥
 unfolding pick smaller descend descendIn verdict saysYes waysIn ways leastWay cheapest variable
 guided-cost s = let e = ap (λ (r : Answer). r .cost) (s .0 .0) in omega arith
 

@@ -5,7 +5,7 @@ use mathlib.Core.Path.{_≡_, refl}
 use mathlib.Core.List.{[], _∷_, _++_}
 use native.Mathlib.Omega.{arith}
 use lib.ListN.{take, replicate}
-use Rattle.definitions.specs.Marked.{chart, rules}
+use Rattle.definitions.specs.Marked.{values, rules}
 use Rattle.definitions.specs.Bytes.{le2, le4, field, chartBytes, diagramBytes}
 
 low-byte-first : le2 513 ++ le4 67305985 ≡ 1 ∷ 2 ∷ 1 ∷ 2 ∷ 3 ∷ 4 ∷ []
@@ -25,7 +25,7 @@ not-with-header : field 128 (7 ∷ []) ≡ 128 ∷ 4 ∷ 0 ∷ 7 ∷ [] → ⊥
 not-with-header e = let z : _≡_ {A = ℕ} 1 4 = cc in omega arith
 
 -- the chart and the diagram of REFERENCE 14
-chart-file : chartBytes chart
+chart-file : chartBytes values
     ≡ 1 ∷ 6 ∷ 0 ∷ 5 ∷ 0 ∷ 0 ∷ 0 ∷ 4 ∷ 0
     ∷ 2 ∷ 8 ∷ 0 ∷ 0 ∷ 0 ∷ 1 ∷ 0 ∷ 40 ∷ 0 ∷ 0 ∷ 0
     ∷ 2 ∷ 8 ∷ 0 ∷ 0 ∷ 0 ∷ 1 ∷ 0 ∷ 90 ∷ 0 ∷ 0 ∷ 0

@@ -1,16 +1,16 @@
--- Every chart and every diagram within the limits has a file of bytes, and is read back from it.
+-- Every chart and every diagram within the limits has a file of bytes, and is read back from it, the chart with its costs rounded.
 -- Assumes nothing.
 use Prim.Native.Nat.{ℕ, _+_, _-_, _*_, _/_, _%_, _≤_, _<_}
 use mathlib.Core.Path.{_≡_, refl, _∙_, ap}
 use mathlib.Core.Bool.{true}
-use mathlib.Core.List.{List, [], _∷_, _++_}
+use mathlib.Core.List.{List, [], _∷_, _++_, map, map-id}
 use native.Mathlib.Omega.{arith}
-use lib.ListN.{length, getD, length-append, List·getD-append, List·getD-eq-default}
+use lib.ListN.{length, getD, length-append, length-map, List·getD-map, List·getD-append, List·getD-eq-default}
 use lib.Seq.{getD-at}
 use borrow.Author.Tests.{lt-ltb, le-ltb, lt-leb}
 use Rattle.definitions.specs.Basics.{pick, each}
 use Rattle.definitions.specs.Fields.{two, four, only, firstField, onField, stopped}
-use Rattle.definitions.specs.Charts.{Chart, ChartStep, noStep, headFault, stepFault, stepOf, lastFrom, stepGrammar, scanSteps, readChart}
+use Rattle.definitions.specs.Charts.{Chart, ChartStep, noStep, headFault, stepFault, rounded, stepOf, lastFrom, stepGrammar, scanSteps, readChart}
 use Rattle.definitions.specs.Diagrams.{InnerNode, Diagram, noNode, inner, childFits, nodeFault, innerNodeOf, nodeGrammar, scanNodes, readDiagram}
 use Rattle.theory.specs.Limits.{Valid, Small, Sound}
 use Rattle.definitions.specs.Marked.{st, nd}
@@ -18,7 +18,7 @@ use Rattle.definitions.specs.Plans.{graph}
 use Rattle.definitions.specs.declared.Field.the-variants.{Whole}
 use Rattle.theory.specs.Basics.{either, lt-or-le}
 use Rattle.theory.specs.Choices.{tests}
-use Rattle.definitions.specs.Bytes.{le2, le4, bodyOfHead, bodyOfStep, stepBytes, chartBytes, headBytes, bodyOfNode, nodeBytes, rootBytes, diagramBytes}
+use Rattle.definitions.specs.Bytes.{le2, le4, bodyOfHead, bodyOfStep, roundedStep, roundedChart, stepBytes, chartBytes, headBytes, bodyOfNode, nodeBytes, rootBytes, diagramBytes}
 use Rattle.field_writer.specs.Sizes.{chart-long, diagram-long, AllBytes, append-bytes, le2-bytes, le4-bytes, field-bytes, each-bytes}
 use Rattle.fields.specs.First.{first-short}
 use Rattle.field_writer.specs.Scanned.{fieldAt-written, Reads, scan-written}
@@ -54,8 +54,14 @@ step-passes : (stages last count : ℕ) (b : List ℕ) → count < 1024 → two 
 unfolding stepFault pick
 step-passes stages last count b h i j k l = simp tests
 
-same-step : (x : ChartStep) → stepOf (bodyOfStep x) ≡ x
-same-step x = λ i. st (le2-back (x .from) i) (le2-back (x .to) i) (le4-back (x .cost) i)
+same-step : (x : ChartStep) → stepOf (bodyOfStep x) ≡ roundedStep x
+same-step x = λ i. st (le2-back (x .from) i) (le2-back (x .to) i) (rounded (le4-back (x .cost) i))
+
+-- the steps before leave the same stages, rounded or not
+same-last : (before : List ChartStep) → lastFrom (map roundedStep before) ≡ lastFrom before
+same-last before =
+    ap (λ (k : ℕ). getD (map roundedStep before) (k - 1) noStep .from) (length-map before roundedStep)
+    ∙ ap (λ (x : ChartStep). x .from) (List·getD-map roundedStep before (length before - 1) noStep)
 
 module _ (c : Chart) (v : Valid (graph c)) (small : Small c) where
   module _ (before : List ChartStep) (x : ChartStep) (rest : List ChartStep) (split : c .steps ≡ before ++ x ∷ rest) where
@@ -86,7 +92,7 @@ module _ (c : Chart) (v : Valid (graph c)) (small : Small c) where
         (λ h. omega (arith, v .sorted (k - 1) k (omega arith) inside, from-is, ap (λ (y : ChartStep). y .from) (earlier before x rest split noStep (k - 1) (omega arith))))
         (λ h. omega (arith, ap (λ (y : ChartStep). y .from) (List·getD-eq-default before noStep {n = k - 1} (omega arith))))
 
-    step-reads : Reads (stepGrammar (c .stages)) 2 bodyOfStep before x
+    step-reads : Reads (stepGrammar (c .stages)) 2 bodyOfStep roundedStep (map roundedStep before) x
     unfolding only pick
     step-reads = record {
       other = refl;
@@ -94,8 +100,8 @@ module _ (c : Chart) (v : Valid (graph c)) (small : Small c) where
       given = refl;
       fits = refl;
       passes =
-          step-passes (c .stages) (lastFrom before) k (bodyOfStep x) (omega (arith, v .few, inside)) (omega (arith, forward)) (omega (arith, to-inside)) (omega (arith, rises))
-          (omega (arith, cheap));
+          step-passes (c .stages) (lastFrom (map roundedStep before)) (length (map roundedStep before)) (bodyOfStep x) (omega (arith, v .few, inside, length-map before roundedStep))
+          (omega (arith, forward)) (omega (arith, to-inside)) (omega (arith, rises, same-last before)) (omega (arith, cheap));
       same = same-step x;
     }
 
@@ -113,15 +119,15 @@ module _ (c : Chart) (v : Valid (graph c)) (small : Small c) where
       append-bytes (headBytes (c .stages) (c .start) (c .end)) (each stepBytes (c .steps)) (field-bytes 1 (bodyOfHead (c .stages) (c .start) (c .end)) (omega arith) (omega arith) body)
       (each-bytes stepBytes (c .steps) step-bytes)
 
-  pub chart-read-back : readChart (chartBytes c) ≡ record { number = 0; place = 0; chart = c }
+  pub chart-read-back : readChart (chartBytes c) ≡ record { number = 0; place = 0; chart = roundedChart c }
   unfolding readChart onField only pick
   chart-read-back =
       let b = bodyOfHead (c .stages) (c .start) (c .end) in
       let head : Whole 0 3 9 ≡ firstField (chartBytes c) (only 1 6)
       = first-short (chartBytes c) 1 6 (omega (arith, chart-long c, v .few)) _ (fieldAt-written [] b (each stepBytes (c .steps)) 1 (only 1 6) refl refl refl) in
       let good : headFault b ≡ 0 = head-passes b (omega (arith, v .some-stages)) (omega (arith, v .few-stages)) (omega (arith, v .start-inside)) (omega (arith, v .end-inside)) in
-      let steps : scanSteps (chartBytes c) (c .stages) 9 ≡ stopped (c .steps) 0 0
-      = scan-written (stepGrammar (c .stages)) 2 bodyOfStep (c .steps) step-reads (chartBytes c) (headBytes (c .stages) (c .start) (c .end)) refl in
+      let steps : scanSteps (chartBytes c) (c .stages) 9 ≡ stopped (map roundedStep (c .steps)) 0 0
+      = scan-written (stepGrammar (c .stages)) 2 bodyOfStep roundedStep (c .steps) step-reads (chartBytes c) (headBytes (c .stages) (c .start) (c .end)) refl in
       rw (← head, good, le2-back (c .stages), le2-back (c .start), le2-back (c .end), steps)
 
 -- ---- diagrams
@@ -168,7 +174,7 @@ module _ (steps : ℕ) (d : Diagram) (p : Sound steps d) where
         (λ h. rw (le-ltb r 2 h)
         (lt-ltb (x .step) (stepAt r) (omega (arith, f h, ap (λ (y : InnerNode). y .step) (earlier before x rest split noNode (r - 2) (omega arith)))))))
 
-    node-reads : Reads (nodeGrammar steps) 18 bodyOfNode before x
+    node-reads : Reads (nodeGrammar steps) 18 bodyOfNode (λ y. y) before x
     unfolding only pick
     node-reads = record {
       other = refl;
@@ -197,5 +203,6 @@ module _ (steps : ℕ) (d : Diagram) (p : Sound steps d) where
       let head : Whole 0 3 5 ≡ firstField (diagramBytes d) (only 17 2)
       = first-short (diagramBytes d) 17 2 (omega (arith, diagram-long d, p .few)) _ (fieldAt-written [] (le2 (d .root)) (each nodeBytes (d .nodes)) 17 (only 17 2) refl refl refl) in
       let nodes : scanNodes (diagramBytes d) steps 5 ≡ stopped (d .nodes) 0 0
-      = scan-written (nodeGrammar steps) 18 bodyOfNode (d .nodes) node-reads (diagramBytes d) (rootBytes (d .root)) refl in
+      = scan-written (nodeGrammar steps) 18 bodyOfNode (λ x. x) (d .nodes) (λ before x rest split. rw (map-id before) (node-reads before x rest split)) (diagramBytes d) (rootBytes (d .root)) refl
+      ∙ ap (λ (l : List InnerNode). stopped l 0 0) (map-id (d .nodes)) in
       rw (← head, le2-back (d .root), nodes, lt-leb (length (d .nodes) + 2) (d .root) (p .root-inside))

@@ -2,7 +2,7 @@
 use Prim.Native.Nat.{_<_}
 use native.Mathlib.Omega.{arith}
 use borrow.Author.Needs.{needs}
-use Rattle.chart.proofs.Steps.{step-below, take-bad, take-step}
+use Rattle.chart.proofs.Steps.{step-below, step-cheap, take-bad, take-step}
 use Rattle.chart.proofs.reader.put_step.Statement.{statement}
 use Rattle.chart.proofs.reader.put_step.Tie as tie
 
@@ -50,7 +50,7 @@ returns c =
     take-bad _ _ (start .args .read) (start .args .steps .now) (start .pre) _ (judged .step-fault .ensures) (stops .if1 .taken) _ (ends .stopped .ensures)
 
 step-of-requires : tie.Need-step-of-requires
-step-of-requires c κs = search needs
+step-of-requires c κs = search (needs, step-cheap)
 
 ends-of-requires : tie.Need-ends-of-requires
 ends-of-requires c κs = search needs

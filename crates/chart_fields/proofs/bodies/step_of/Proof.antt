@@ -13,8 +13,11 @@ read-u16-requires-2 c κs = search needs
 read-u32-requires : tie.Need-read-u32-requires
 read-u32-requires c κs = search needs
 
+rounded-cost-requires : tie.Need-rounded-cost-requires
+rounded-cost-requires c κs = search needs
+
 returns : tie.Need-returns
 returns c = search step-read
 
 pub step-of-spec : {M : Type 1} → statement M
-step-of-spec = tie.close (tie.spec read-u16-requires read-u16-requires-2 read-u32-requires returns)
+step-of-spec = tie.close (tie.spec read-u16-requires read-u16-requires-2 read-u32-requires rounded-cost-requires returns)
