@@ -6,7 +6,8 @@
 
 Each case states its charts and diagrams as stages, steps and nodes, or byte by byte where a field is faulty. A refusal's line
 is written by hand. The lines of a plan and of refusal 8 are computed here by enumerating all ways, by the
-rules of docs/REFERENCE.md alone; a case in which they leave the plan or the settled count free is an error.
+rules of docs/REFERENCE.md alone. Where these leave the plan or the settled count free, the case has the lines that the program
+writes, which must be some that the rules allow.
 """
 import re
 import shutil
@@ -19,6 +20,7 @@ ROOT = Path(__file__).resolve().parent.parent
 MOST_PAIRS = 4096  # the work that the program lends
 LONGEST_FILE = 32768  # bytes; the program reads one more
 REMARK = 0x80  # the first tag of remarks
+TICK = 50  # a step takes whole ticks
 
 
 # ---- the files: tagged fields
@@ -36,8 +38,8 @@ def head(stages, start, end):
     return field(0x01, number(stages) + number(start) + number(end))
 
 
-def step(source, target, cost):
-    return field(0x02, number(source) + number(target) + number(cost, 4))
+def step(source, target, value):
+    return field(0x02, number(source) + number(target) + number(value, 4))
 
 
 def root(reference):
@@ -59,10 +61,14 @@ class Chart(NamedTuple):
     stages: int
     start: int
     end: int
-    steps: tuple = ()  # (from, to, cost)
+    steps: tuple = ()  # (from, to, value in the file)
 
     def file(self):
         return head(self.stages, self.start, self.end) + b"".join(step(*s) for s in self.steps)
+
+    def rounded(self):
+        """The same chart with the costs of its steps for their values."""
+        return self._replace(steps=tuple((source, target, -(-value // TICK) * TICK) for source, target, value in self.steps))
 
 
 class Diagram(NamedTuple):
@@ -99,7 +105,7 @@ class Planned:
     """All ways of a chart from its start, the pairs they reach, and the estimates."""
 
     def __init__(self, chart, diagram):
-        self.chart, self.diagram = chart, diagram
+        self.chart, self.diagram = chart.rounded(), diagram
         self.size = len(diagram.nodes) + 2
         self.leaving = [[e for e, s in enumerate(chart.steps) if s[0] == stage] for stage in range(chart.stages)]
 
@@ -177,22 +183,41 @@ class Planned:
         return [p for p in least for e in self.leaving[p[0]]
                 if (self.chart.steps[e][1], self.advance(p[1], e)) == pair and least[p] + self.chart.steps[e][2] == least[pair]]
 
+    def possible(self, cost, least):
+        """The pairs that the guided search may settle: those with a sum that is not above the cost."""
+        totals = {p: self.total(p, least) for p in least}
+        return {p: t for p, t in totals.items() if t is not None and t <= cost}
+
     def settled(self, cost, least):
         """How many pairs the guided search settles: those with a sum below the cost, and the pairs on the way to the goal pair."""
-        totals = {p: self.total(p, least) for p in least}
-        possible = {p for p in least if totals[p] is not None and totals[p] <= cost}
+        possible = self.possible(cost, least)
         [goal] = [p for p in possible if p[0] == self.chart.end and self.finish(p[1]) == 1]
         chain = [goal]
         while chain[-1] != (self.chart.start, self.diagram.root):
             [previous] = self.before(chain[-1], least)
             chain.append(previous)
-        forced = {p for p in possible if totals[p] < cost} | set(chain)
-        assert forced == possible, "the settled count is free"
+        forced = {p for p in possible if possible[p] < cost} | set(chain)
+        assert forced == set(possible), "the settled count is free"
         return len(forced)
+
+    def plans(self):
+        return [way for stage, way in self.ways() if self.legal(stage, way)]
+
+    def allows(self, lines):
+        """Lines for a case in which the plan is free: a cheapest plan, and a settled count between what it needs and what may be settled."""
+        plans = self.plans()
+        cost, plan = int(lines[0].split()[1]), tuple(int(line.split()[1]) for line in lines[1:-1])
+        _, settled, _, reached = lines[-1].split()
+        cheapest = [way for way in plans if self.cost(way) == min(map(self.cost, plans))]
+        least = self.reached()
+        possible = self.possible(cost, least)
+        fewest = len({p for p in possible if possible[p] < cost} | {(self.chart.end, self.stands(plan))})
+        return (len(cheapest) > 1 and plan in cheapest and cost == self.cost(plan) and int(reached) == len(least)
+                and max(fewest, len(plan) + 1) <= int(settled) <= len(possible))
 
     def lines(self):
         assert self.chart.stages * self.size <= MOST_PAIRS
-        plans = [way for stage, way in self.ways() if self.legal(stage, way)]
+        plans = self.plans()
         if not plans:
             return ["refused 8 file 0 place 0"]
         cost = min(map(self.cost, plans))
@@ -206,7 +231,7 @@ class Planned:
 
 EXAMPLE_CHART = Chart(5, 0, 4, ((0, 1, 40), (0, 1, 90), (1, 2, 200), (1, 3, 30), (2, 3, 20), (3, 4, 50)))
 EXAMPLE_RULES = Diagram(3, ((2, 0, 1), (0, 1, 2)))  # step 0 needs step 2
-EXAMPLE_LINES = ["cost 170", "step 1", "step 3", "step 5", "settled 4 reached 6"]
+EXAMPLE_LINES = ["cost 200", "step 1", "step 3", "step 5", "settled 4 reached 6"]
 CHART, RULES = EXAMPLE_CHART.file(), EXAMPLE_RULES.file()
 
 ANYTHING = Diagram(1)  # every set of steps is allowed
@@ -223,8 +248,15 @@ def forked_chart(stages):
     steps = []
     for s in range(stages - 1):
         fork = s - (stages - 16)
-        steps += [(s, s + 1, 10 + s % 7)] + [(s, s + 1, 100 + 3 * abs(fork - 7) + s % 7)] * (fork >= 0)
+        steps += [(s, s + 1, TICK * (10 + s % 7) - s % TICK)] + [(s, s + 1, TICK * (100 + 3 * abs(fork - 7) + s % 7) - s % TICK)] * (fork >= 0)
     return Chart(stages, 0, stages - 1, tuple(steps))
+
+
+def layered_chart(layers, width):
+    """Layers of stages, from each stage a step to each of the next layer; the steps' values are 1, 2, 3 ..."""
+    stages = [[0]] + [[1 + k * width + i for i in range(width)] for k in range(layers)] + [[1 + layers * width]]
+    ends = [(a, b) for k in range(layers + 1) for a in stages[k] for b in stages[k + 1]]
+    return Chart(2 + layers * width, 0, 1 + layers * width, tuple((a, b, 1 + e) for e, (a, b) in enumerate(ends)))
 
 
 def odd_of(chosen):
@@ -246,11 +278,12 @@ def all_of(conditions):
 
 
 FULL, TOO_WIDE = forked_chart(128), forked_chart(129)
+LAST = (2, 11, 20, 29, 38, 41)  # in a layered chart 5 × 3 the last step of each stage that it leads to
 
 
 def dearer(chart):
     """The numbers of the dearer steps of a forked chart."""
-    return [e for e, s in enumerate(chart.steps) if s[2] >= 100]
+    return [e for e, s in enumerate(chart.steps) if s[2] >= TICK * 99]
 
 
 def bad_chart(fields, line):
@@ -264,7 +297,7 @@ def bad_rules(fields, line, at=3):
 STEP_0, NODE_2 = step(0, 1, 40), node(2, 0, 1)
 LIKE_STEP, LIKE_NODE = bytes([0x82]) + STEP_0[1:], bytes([0x92]) + NODE_2[1:]  # remarks
 
-# each case: what it shows, the chart, the diagram, and the line of a refusal. A file is a Chart or a Diagram, perhaps Noted, bytes, None (missing) or "folder"
+# each case: what it shows, the chart, the diagram, and the line of a refusal, or the lines where they are free. A file is a Chart or a Diagram, perhaps Noted, bytes, None (missing) or "folder"
 CASES = [
     ("the example's chart", EXAMPLE_CHART, EXAMPLE_RULES),
     ("the header of a step is cut", *bad_chart(STEP_0 + b"\x02\x08", "refused 1 file 1 place 20")),
@@ -301,7 +334,7 @@ CASES = [
     ("a step to its own stage", *bad_chart(step(1, 1, 40), "refused 10 file 1 place 9")),
     ("a step past the stages", *bad_chart(step(0, 5, 40), "refused 10 file 1 place 9")),
     ("a step from an earlier stage", *bad_chart(step(1, 2, 40) + step(0, 1, 40), "refused 5 file 1 place 20")),
-    ("1,024 steps pass", Chart(2, 0, 1, tuple((0, 1, 2000 - e) for e in range(1024))), ANYTHING),
+    ("1,024 steps pass", Chart(2, 0, 1, tuple((0, 1, TICK * (2000 - e) - e % TICK) for e in range(1024))), ANYTHING),
     ("the 1,025th step, in a longer file", *bad_chart(STEP_0 * 1600, "refused 5 file 1 place 11273")),
     ("a chart of 32,768 bytes, all steps", *bad_chart((STEP_0 * 3000)[:LONGEST_FILE - HEAD], "refused 5 file 1 place 11273")),
     ("a node whose step is not in the chart", *bad_rules(node(6, 0, 1), "refused 6 file 2 place 5")),
@@ -357,6 +390,12 @@ CASES = [
     ("the 1,025th step of 9 bytes", *bad_chart(STEP_0 * 1024 + field(0x02, bytes(9)), "refused 3 file 1 place 11273")),
     ("the 1,025th step is cut", *bad_chart(STEP_0 * 1024 + step(1, 1, 40)[:-1], "refused 1 file 1 place 11273")),
     ("the 1,024th step to its own stage", *bad_chart(STEP_0 * 1023 + step(1, 1, 40), "refused 10 file 1 place 11262")),
+    *((f"value {value:,}", Chart(2, 0, 1, ((0, 1, value),)), ANYTHING) for value in (0, 1, 49, 50, 51, 999950, 999951, 999999)),
+    ("value 1,000,049", *bad_chart(STEP_0 + step(0, 1, 1000049), "refused 11 file 1 place 20")),
+    ("value 4,294,967,247", *bad_chart(step(0, 1, 4294967247), "refused 11 file 1 place 9")),
+    ("values sum up otherwise than costs", Chart(4, 0, 3, ((0, 1, 10), (0, 3, 90), (1, 2, 10), (2, 3, 10))), ANYTHING),
+    ("the same where the long step is ruled out", Chart(4, 0, 3, ((0, 1, 10), (0, 3, 90), (1, 2, 10), (2, 3, 10))), all_of([(1, False)])),
+    ("values 1 to 42 that all cost 50", layered_chart(5, 3), ANYTHING, ["cost 300"] + [f"step {e}" for e in LAST] + ["settled 7 reached 17"]),
 ]
 
 # what docs/REFERENCE.md says of its example, by the case's title
@@ -364,13 +403,28 @@ STATED = {
     "the example's chart": EXAMPLE_LINES,
     "one stage, no steps, root 1": ["cost 0", "settled 1 reached 1"],
     "the same with root 0": ["refused 8 file 0 place 0"],
-    "a goal pair whose node is inner": ["cost 5", "step 0", "settled 2 reached 2"],
+    "a goal pair whose node is inner": ["cost 50", "step 0", "settled 2 reached 2"],
     "the end before the start": ["refused 8 file 0 place 0"],
+    "value 0": ["cost 0", "step 0", "settled 2 reached 2"],
+    "value 1": ["cost 50", "step 0", "settled 2 reached 2"],
+    "value 49": ["cost 50", "step 0", "settled 2 reached 2"],
+    "value 50": ["cost 50", "step 0", "settled 2 reached 2"],
+    "value 51": ["cost 100", "step 0", "settled 2 reached 2"],
+    "value 999,950": ["cost 999950", "step 0", "settled 2 reached 2"],
+    "value 999,951": ["cost 1000000", "step 0", "settled 2 reached 2"],
+    "values sum up otherwise than costs": ["cost 100", "step 1", "settled 2 reached 4"],
+    "the same where the long step is ruled out": ["cost 150", "step 0", "step 2", "step 3", "settled 4 reached 4"],
 }
 
 
-def expected(title, chart, rules, refusal=None):
-    lines = [refusal] if refusal else Planned(getattr(chart, "plain", chart), getattr(rules, "plain", rules)).lines()
+def expected(title, chart, rules, given=None):
+    if isinstance(given, str):
+        return [given]
+    planned = Planned(getattr(chart, "plain", chart), getattr(rules, "plain", rules))
+    if given:
+        assert planned.allows(given), (title, given)
+        return given
+    lines = planned.lines()
     assert lines == STATED.get(title, lines), (title, lines)
     return lines
 
@@ -391,9 +445,9 @@ def case_files(folder, chart, rules):
 def all_files():
     files = {}
     output = ""
-    for i, (title, chart, rules, *refusal) in enumerate(CASES, 1):
-        files |= case_files(f"crates/plan_run/data/{i:02}", chart, rules)
-        output += "\n".join([f"case {i:02}"] + expected(title, chart, rules, *refusal)) + "\n"
+    for i, (title, chart, rules, *given) in enumerate(CASES, 1):
+        files |= case_files(f"crates/plan_run/data/{i:03}", chart, rules)
+        output += "\n".join([f"case {i:03}"] + expected(title, chart, rules, *given)) + "\n"
     files["crates/plan_run/stdout"] = output.encode()
     files |= case_files("crates/plan/data", CHART, RULES)
     files["crates/plan/stdout"] = ("\n".join(EXAMPLE_LINES) + "\n").encode()

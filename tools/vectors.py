@@ -74,16 +74,16 @@ def read_chart(content):
             if not 1 <= stages <= 256 or start >= stages or end >= stages:
                 raise Refused(4, 1, 0)
             continue
-        source, target, cost = two(body, 0), two(body, 2), int.from_bytes(body[4:8], "little")
+        source, target, value = two(body, 0), two(body, 2), int.from_bytes(body[4:8], "little")
         if len(steps) == 1024:
             raise Refused(5, 1, place)
         if not source < target < stages:
             raise Refused(10, 1, place)
         if steps and source < steps[-1][0]:
             raise Refused(5, 1, place)
-        if cost > 1000000:
+        if value > 1000000:
             raise Refused(11, 1, place)
-        steps.append((source, target, cost))
+        steps.append((source, target, value))
     return Chart(stages, start, end, tuple(steps))
 
 

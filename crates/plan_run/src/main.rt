@@ -1,25 +1,27 @@
-// The program `plan` on many files: the folders 01, 02 .. of data/, which tools/run_files.py writes.
+// The program `plan` on many files: the folders 001, 002 .. of data/, which tools/run_files.py writes.
 
 // How many folders there are.
-const CASES: u8 = 91;
+const CASES: u8 = 104;
 
 // Plans for the files of one folder, after a line with its number.
-fn run_case(tens: u8, ones: u8) {
-    let mut line = *b"case 00\n";
-    line[5] = tens;
-    line[6] = ones;
+fn run_case(n: u8) {
+    let mut line = *b"case 000\n";
+    let mut chart = *b"000/chart.bin";
+    let mut rules = *b"000/rules.bin";
+    let mut rest = n;
+    for i in 0..3 {
+        let digit = b'0' + rest % 10;
+        rest /= 10;
+        line[7 - i] = digit;
+        chart[2 - i] = digit;
+        rules[2 - i] = digit;
+    }
     io::write_all(libc::STDOUT_FILENO, &line);
-    let mut chart = *b"00/chart.bin";
-    chart[0] = tens;
-    chart[1] = ones;
-    let mut rules = *b"00/rules.bin";
-    rules[0] = tens;
-    rules[1] = ones;
     command::run(&chart, &rules);
 }
 
 fn main() {
     for n in 1..=CASES {
-        run_case(b'0' + n / 10, b'0' + n % 10);
+        run_case(n);
     }
 }
