@@ -44,7 +44,7 @@ enum {
     PLANNER_NO_PLAN = 8, /* no legal plan exists */
     PLANNER_LONG = 9,    /* the file has more than PLANNER_LONGEST_FILE bytes */
     PLANNER_STAGES = 10, /* a step does not lead to a higher stage of the chart */
-    PLANNER_COST = 11    /* a step's cost is beyond 1,000,000 */
+    PLANNER_COST = 11    /* a step's cost, as the file has it, is beyond 1,000,000 */
 };
 
 /* Marks of a file. Where no file is at fault, file and place are 0. Marks from 3 on are coming with the numbers. */
@@ -57,6 +57,10 @@ enum {
 /* The bytes of the longest file that is taken: remarks, fields of a tag from 80 to FF (hexadecimal) after the head, leave
  * room for text beside steps and nodes. */
 #define PLANNER_LONGEST_FILE 32768
+
+/* A step is held for whole ticks: its cost, wherever one is told, is the one in the file rounded up to a multiple of this
+ * many ns. */
+#define PLANNER_TICK 50
 
 /* A cost slice's entry at a pair that is not reached. */
 #define PLANNER_UNREACHED ((uint32_t)4294967295u)
@@ -75,7 +79,7 @@ typedef struct planner_answer {
     size_t number; /* PLANNER_ACCEPTED or the cause, as the call returns it */
     size_t file;   /* the file at fault, 0 where none is */
     size_t place;  /* in it, the byte position of the faulty field's tag; under 9 PLANNER_LONGEST_FILE */
-    size_t cost;   /* the plan's cost in ns */
+    size_t cost;   /* the plan's cost in ns: the costs of its steps, each rounded up to a multiple of PLANNER_TICK */
     size_t length; /* the plan's steps */
     size_t count;  /* sweep: reached pairs; guided search: settled pairs; also under 8 */
 } planner_answer;

@@ -18,7 +18,7 @@ pub struct Answer {
     pub file: usize,
     /// The byte position of the faulty field, or of the first byte too many (9).
     pub place: usize,
-    /// The plan's cost in ns.
+    /// The plan's cost in ns: the costs of its steps, each rounded up to a multiple of [`TICK`](crate::TICK).
     pub cost: usize,
     /// The plan's steps.
     pub length: usize,

@@ -5,12 +5,12 @@
 //! A chart with two ways from stage 0 to stage 2, and the rule that step 0 is not taken:
 //!
 //! ```
-//! // Head: 3 stages, start 0, end 2. Steps from, to, cost: 0 to 2 for 5; 0 to 1 for 4; 1 to 2 for 3.
+//! // Head: 3 stages, start 0, end 2. Steps from, to, ns: 0 to 2 for 5; 0 to 1 for 40; 1 to 2 for 60.
 //! let chart = [
 //!     0x01, 6, 0, 3, 0, 0, 0, 2, 0, //
 //!     0x02, 8, 0, 0, 0, 2, 0, 5, 0, 0, 0, //
-//!     0x02, 8, 0, 0, 0, 1, 0, 4, 0, 0, 0, //
-//!     0x02, 8, 0, 1, 0, 2, 0, 3, 0, 0, 0,
+//!     0x02, 8, 0, 0, 0, 1, 0, 40, 0, 0, 0, //
+//!     0x02, 8, 0, 1, 0, 2, 0, 60, 0, 0, 0,
 //! ];
 //! // Root 2; node 2: where step 0 is taken no (0), else yes (1).
 //! let rules = [
@@ -18,7 +18,8 @@
 //!     0x12, 6, 0, 0, 0, 1, 0, 0, 0,
 //! ];
 //! let plan = planner::plan(&chart, &rules)?;
-//! assert_eq!((plan.cost, &plan.steps[..]), (7, &[1, 2][..]));
+//! // In whole ticks the two steps cost 50 and 100.
+//! assert_eq!((plan.cost, &plan.steps[..]), (150, &[1, 2][..]));
 //!
 //! // A chart that ends inside its last field.
 //! let refusal = planner::plan(&chart[..40], &rules).unwrap_err();
@@ -53,3 +54,7 @@ pub use work::{plan, space_needed, Plan, Work};
 /// The bytes of the longest file that is taken. Remarks, fields of a tag from 80 to FF (hexadecimal)
 /// after the head, leave room for text beside steps and nodes.
 pub const LONGEST_FILE: usize = 32_768;
+
+/// A step is held for whole ticks: its cost, wherever one is told, is the one in the file rounded up
+/// to a multiple of this many ns.
+pub const TICK: u32 = 50;

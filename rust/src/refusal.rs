@@ -50,7 +50,7 @@ pub enum Refusal {
     Long { file: File, place: usize },
     /// 10: a step doesn't lead to a higher stage of the chart.
     Stages { file: File, place: usize },
-    /// 11: a step's cost is beyond 1,000,000.
+    /// 11: a step's cost, as the file has it, is beyond 1,000,000.
     Cost { file: File, place: usize },
     /// A number that this crate has no name for, or one of a file with a mark that it has no name
     /// for: the linked library is newer. The three entries are the answer's own.

@@ -6,7 +6,7 @@ use crate::refusal::Refusal;
 /// A cheapest legal plan.
 #[derive(Clone, Debug, PartialEq, Eq)]
 pub struct Plan {
-    /// In ns.
+    /// In ns: the costs of its steps, each rounded up to a multiple of [`TICK`](crate::TICK).
     pub cost: u32,
     /// The numbers of its steps, in order.
     pub steps: Vec<u16>,

@@ -1,9 +1,9 @@
 //! The wrapper's calls on the shipped example: plans, refusals, lent slices, kept work space.
 
 use planner::lent::{self, Answer, GuidedSlices, Space, SweepSlices, UNREACHED};
-use planner::{plan, refused_field, space_needed, File, Refusal, Work, LONGEST_FILE};
+use planner::{plan, refused_field, space_needed, File, Refusal, Work, LONGEST_FILE, TICK};
 
-/// A chart file: stage count, start, end, then from, to and cost of each step.
+/// A chart file: stage count, start, end, then from, to and cost of each step, before it is rounded.
 fn chart_file(head: [u16; 3], steps: &[(u16, u16, u32)]) -> Vec<u8> {
     let mut file = vec![0x01, 6, 0];
     file.extend(head.iter().flat_map(|value| value.to_le_bytes()));
@@ -37,8 +37,24 @@ fn example() -> (Vec<u8>, Vec<u8>) {
 fn the_plan_of_the_example() {
     let (chart, rules) = example();
     let plan = plan(&chart, &rules).expect("a legal plan");
-    assert_eq!((plan.cost, plan.steps), (170, vec![1, 3, 5]));
+    assert_eq!((plan.cost, plan.steps), (200, vec![1, 3, 5]));
     assert_eq!((plan.settled, plan.reached), (4, 6));
+}
+
+/// The cost of a chart with one step of this cost in the file.
+fn cost_of(value: u32) -> Result<u32, Refusal> {
+    let chart = chart_file([2, 0, 1], &[(0, 1, value)]);
+    plan(&chart, &rules_file(1, &[])).map(|plan| plan.cost)
+}
+
+#[test]
+fn costs_in_whole_ticks() {
+    let found = [0, 1, 49, 50, 51, 999_950, 999_951, 1_000_000].map(cost_of);
+    let ticks = [0, 1, 1, 1, 2, 19_999, 20_000, 20_000];
+    assert_eq!(found, ticks.map(|ticks| Ok(ticks * TICK)));
+    for value in [1_000_001, 1_000_049, u32::MAX - TICK, u32::MAX] {
+        assert_eq!(cost_of(value), Err(Refusal::Cost { file: File::Chart, place: 9 }));
+    }
 }
 
 #[test]
@@ -210,10 +226,10 @@ fn work_that_is_kept() {
     let small = chart_file([1, 0, 0], &[]);
     work.grow_for(&small, &rules_file(1, &[])).expect("sound files");
     let (sweep, guided) = work.both(&chart, &rules);
-    assert_eq!((sweep.cost, guided.cost), (170, 170));
+    assert_eq!((sweep.cost, guided.cost), (200, 200));
     assert_eq!(work.sweep_steps(&sweep), work.guided_steps(&guided));
     assert_eq!(work.settled(&guided), [3, 5, 13, 17]);
-    assert_eq!((work.costs()[3], work.costs()[17], work.costs()[0]), (0, 170, UNREACHED));
+    assert_eq!((work.costs()[3], work.costs()[17], work.costs()[0]), (0, 200, UNREACHED));
     assert_eq!((work.sweep(&chart, &rules), work.guided(&chart, &rules)), (sweep, guided));
 }
 

@@ -1,6 +1,6 @@
 -- Every chart that is accepted keeps the limits.
 -- Assumes nothing.
-use Prim.Native.Nat.{ℕ, _+_, _-_, _≤_, _<_}
+use Prim.Native.Nat.{ℕ, _+_, _-_, _%_, _≤_, _<_}
 use mathlib.Core.Path.{_≡_, refl, sym, subst}
 use mathlib.Core.Bool.{Bool, true, false}
 use mathlib.Core.List.{List, [], _∷_, _++_}
@@ -11,9 +11,10 @@ use native.Mathlib.Omega.{arith}
 use native.Mathlib.Decide.{decLt}
 use borrow.Author.Tests.{eqb-true, eqb-false}
 use Rattle.definitions.specs.Basics.{pick}
-use Rattle.definitions.specs.Fields.{two, part, only, firstField, onField}
+use Rattle.definitions.specs.Fields.{two, four, part, only, firstField, onField}
 use Rattle.definitions.specs.Charts.{Chart, ChartStep, ChartRead, noStep, headFault, stepOf, lastFrom, stepFaultAfter, chartRefused, withSteps, stepGrammar, scanSteps, readChart}
-use Rattle.theory.specs.Limits.{Small, Valid}
+use Rattle.definitions.specs.Ticks.{rounded-whole}
+use Rattle.theory.specs.Limits.{Small, Ticked, Valid}
 use Rattle.definitions.specs.Plans.{graph}
 use Rattle.definitions.specs.declared.Field.{Field}
 use Rattle.definitions.specs.declared.Field.the-variants.{Absent, Faulty, Passed, Whole}
@@ -28,6 +29,7 @@ record StepsFit (stages : ℕ) (l : List ChartStep) : Type 0 where
   pub inside : (e : ℕ) → e < length l → getD l e noStep .to < stages
   pub sorted : (e f : ℕ) → e ≤ f → f < length l → getD l e noStep .from ≤ getD l f noStep .from
   pub cheap : (e : ℕ) → e < length l → getD l e noStep .cost ≤ 1000000
+  pub ticked : (e : ℕ) → e < length l → getD l e noStep .cost % 50 ≡ 0
 
 none-fit : (stages : ℕ) → StepsFit stages []
 none-fit stages = record {
@@ -36,6 +38,7 @@ none-fit stages = record {
   inside = λ e h. absurd (omega arith);
   sorted = λ e f g h. absurd (omega arith);
   cheap = λ e h. absurd (omega arith);
+  ticked = λ e h. absurd (omega arith);
 }
 
 module _ (l : List ChartStep) (x : ChartStep) where
@@ -77,6 +80,7 @@ module _ (stages : ℕ) (l : List ChartStep) (b : List ℕ) (passes : 0 ≡ step
     inside = each-grown l (stepOf b) (λ (x : ChartStep). x .to < stages) (old .inside) (fits .inside);
     sorted = sorted-grown;
     cheap = each-grown l (stepOf b) (λ (x : ChartStep). x .cost ≤ 1000000) (old .cheap) (omega (arith, fits .cheap));
+    ticked = each-grown l (stepOf b) (λ (x : ChartStep). x .cost % 50 ≡ 0) (old .ticked) (rounded-whole (four b 4));
   }
 
 -- the steps that passed keep the limits, also where a later field is refused
@@ -87,7 +91,7 @@ scanned-fit s stages at =
 
 -- a chart within its limits
 abbrev pub Within : Chart → Type 0
-Within c = Valid (graph c) × Small c
+Within c = Valid (graph c) × Small c × Ticked (graph c)
 
 chart-valid : (b : List ℕ) (l : List ChartStep) → HeadFits b → StepsFit (two b 0) l → Within (record { stages = two b 0; start = two b 2; end = two b 4; steps = l })
 chart-valid b l h f = (
@@ -103,6 +107,7 @@ chart-valid b l h f = (
     cheap = λ e i. omega (arith, f .cheap e i, f .forward e i);
   },
   f .cheap,
+  f .ticked,
 )
 
 -- by the test of the head's body

@@ -1,4 +1,4 @@
--- What steps cost (REFERENCE 2.3): computed from values of files, mistakes refuted, and the law that fixes it.
+-- What steps cost (REFERENCE 2.2): computed from values of files, mistakes refuted, and the law that fixes it.
 -- Assumes nothing.
 use Prim.Native.Nat.{ℕ, _%_, _≤_}
 use mathlib.Core.Path.{_≡_, refl}

@@ -14,7 +14,7 @@ use Rattle.definitions.specs.Diagrams.{Diagram}
 use Rattle.definitions.specs.Plans.{graph}
 use Rattle.definitions.specs.Answers.{Load, ready, refused, load, spaceFits}
 use Rattle.theory.specs.Basics.{both, either, same-or-not, true-not-false}
-use Rattle.theory.specs.Limits.{Valid}
+use Rattle.theory.specs.Limits.{Ticked, Valid}
 use Rattle.chart.specs.Accepted.{chart-accepted}
 use Rattle.checks.specs.Outcome.{chart-refuses, rules-refuse, space-refuses, all-ready, refused-not-ready, ready-files}
 use Rattle.demands.specs.Demands.{Call, rulesRead, Files, need, Space, Passes}
@@ -116,8 +116,12 @@ module _ (chart rules : List ℕ) (x : Call) where
           rw (t .0, t .1) a
 
 -- an accepted chart is within its limits
-pub valid : (chart rules : List ℕ) (c : Chart) (d : Diagram) → Files chart rules c d → Valid (graph c)
-valid chart rules c d f = rw (← (f .chart-held)) (chart-accepted chart (f .chart-passes) .0)
+module _ (chart rules : List ℕ) (c : Chart) (d : Diagram) (f : Files chart rules c d) where
+  pub valid : Valid (graph c)
+  valid = rw (← (f .chart-held)) (chart-accepted chart (f .chart-passes) .0)
+
+  pub ticked : Ticked (graph c)
+  ticked = rw (← (f .chart-held)) (chart-accepted chart (f .chart-passes) .2)
 
 -- what is said of the chart and the diagram that the files hold goes over to the same ones under other names
 pub held-alike : (chart rules : List ℕ) (c c′ : Chart) (d d′ : Diagram) → Files chart rules c d → Files chart rules c′ d′ → (P : Chart → Diagram → Type 0) → P c d → P c′ d′

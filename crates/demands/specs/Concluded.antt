@@ -1,19 +1,20 @@
 -- What a caller of both searches concludes, by the clauses of the demands that follow from the others and that `Converse` has no need of: `Agree`,
 -- that a plan is given where one is legal, and that 8 comes where none is.
 -- Assumes nothing.
-use Prim.Native.Nat.{ℕ, _≤_}
+use Prim.Native.Nat.{ℕ, _%_, _≤_}
 use mathlib.Core.Path.{_≡_, sym, _∙_, ap}
 use mathlib.Core.List.{List}
 use mathlib.Core.Logic.{_⊎_, inl, inr, _↔_}
 use native.Mathlib.Omega.{arith}
 use Rattle.definitions.specs.Charts.{Chart}
 use Rattle.definitions.specs.Diagrams.{Diagram}
-use Rattle.definitions.specs.Plans.{Legal}
+use Rattle.definitions.specs.Plans.{graph, Legal}
 use Rattle.definitions.specs.Promises.{SweepSlices, GuidedSlices}
 use Rattle.definitions.specs.declared.Answer.{Answer}
 use Rattle.theory.specs.Basics.{either, same-or-not}
+use Rattle.theory.specs.Ways.{way-ticked}
 use Rattle.demands.specs.Demands.{Call, sweepCall, guidedCall, Passes, Refusal, NoPlan, Demand2, Cheapest, Searched, Agree, Demands}
-use Rattle.demands.specs.Checked.{held-alike}
+use Rattle.demands.specs.Checked.{ticked, held-alike}
 
 -- two answers that differ in the length of the plan and the count alone, and the second counts no more
 pub record Alike (r q : Answer) : Type 0 where
@@ -51,6 +52,12 @@ module _ (chart rules : List ℕ) where
     λ z. let g = two .given z in (g .0, g .1, g .2, g .3 .steps, g .3 .legal),
     λ t. cheap (t .0) (t .1) (t .2) (t .3) (t .4) .0,
   )
+
+  -- what a plan costs is whole ticks
+  pub whole-ticks : (x : Call) → Demand2 chart rules x → x .answer .number ≡ 0 → x .answer .cost % 50 ≡ 0
+  whole-ticks x two z =
+      let g = two .given z in
+      ap (λ (k : ℕ). k % 50) (g .3 .cost) ∙ way-ticked (graph (g .0)) (ticked chart rules (g .0) (g .1) (g .2 .files)) (g .3 .steps) (g .0 .start) (g .3 .legal .0 .0)
 
   -- where one call is 8, each that passes all checks is
   pub eight-alike : (x y : Call) → Demand2 chart rules x → Demand2 chart rules y → (c : Chart) (d : Diagram) → Passes chart rules y c d

@@ -1,6 +1,7 @@
 -- The limits of both files as statements (REFERENCE 2.4). They hold of every chart and diagram that the readers accept.
 -- Assumes nothing.
-use Prim.Native.Nat.{ℕ, _-_, _*_, _≤_, _<_}
+use Prim.Native.Nat.{ℕ, _-_, _*_, _%_, _≤_, _<_}
+use mathlib.Core.Path.{_≡_}
 use lib.ListN.{length}
 use Rattle.definitions.specs.Charts.{Chart}
 use Rattle.definitions.specs.Diagrams.{Diagram, size, inner}
@@ -26,6 +27,10 @@ Valid = ValidOf (λ from to cost. cost ≤ 2000000 * (to - from))
 -- of a chart: each step costs at most 1,000,000
 abbrev pub Small : Chart → Type 0
 Small c = (e : ℕ) → e < graph c .count → graph c .cost e ≤ 1000000
+
+-- of the graph: each step costs whole ticks
+abbrev pub Ticked : Graph → Type 0
+Ticked g = (e : ℕ) → e < g .count → g .cost e % 50 ≡ 0
 
 -- of a diagram's nodes: children have lower numbers and, if inner, larger steps. Past the nodes it holds of `noNode`
 pub record Ordered (d : Diagram) : Type 0 where

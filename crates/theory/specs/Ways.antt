@@ -1,7 +1,7 @@
 -- Laws of the ways of a valid graph: their steps rise, they have fewer steps than there are stages and cost at most 510,000,000; the least cost over the ways
 -- that pass a test is at most the cost of each of them, and is the cost of one.
 -- Assumes nothing.
-use Prim.Native.Nat.{ℕ, zero, suc, _+_, _-_, _*_, _≤_, _<_}
+use Prim.Native.Nat.{ℕ, zero, suc, _+_, _-_, _*_, _%_, _≤_, _<_}
 use mathlib.Core.Path.{_≡_, refl}
 use mathlib.Core.Bool.{Bool, true, _&&_}
 use mathlib.Core.List.{List, [], _∷_, _++_, List·Memᴰ, List·Memᴰ·head, List·Memᴰ·tail, List·Memᴰ·not-nil, List·Memᴰ·cases-cons, Memᴰ·map, Memᴰ·of-map}
@@ -13,7 +13,7 @@ use borrow.Author.Tests.{ltb-true, eqb-true, lt-ltb, eq-eqb}
 use Rattle.definitions.specs.Basics.{keep, upto}
 use Rattle.definitions.specs.Ways.{Graph, IsWay, isWay, endOf, wayCost, leaving, waysIn, ways, leastWay}
 use Rattle.definitions.specs.Pairs.{Automaton, stands}
-use Rattle.theory.specs.Limits.{Valid}
+use Rattle.theory.specs.Limits.{Ticked, Valid}
 use Rattle.theory.specs.Least.{IsLeast, least-of}
 use Rattle.theory.specs.Basics.{both, either, lt-or-le, AtMost, keep-in, in-keep, each-in, in-each, run-in, in-run, least-lower, least-in}
 
@@ -58,6 +58,11 @@ module _ (g : Graph) (v : Valid g) where
 
   pub way-bounded : (w : List ℕ) (a : ℕ) → a < g .stages → IsWay g a w → wayCost g w ≤ 510000000
   way-bounded w a h i = omega (arith, way-cheap w a i, way-climbs w a i, end-inside w a h i, v .few-stages)
+
+-- where each step costs whole ticks, each way does
+pub way-ticked : (g : Graph) → Ticked g → (w : List ℕ) (a : ℕ) → IsWay g a w → wayCost g w % 50 ≡ 0
+way-ticked g t [] a i = refl
+way-ticked g t (e ∷ w) a i = omega (arith, t e (i .0), way-ticked g t w (g .to e) (i .2))
 
 -- ---- the test and the statement agree
 

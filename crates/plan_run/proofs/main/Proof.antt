@@ -22,6 +22,9 @@ add-run-case c = search needs
 add-run-case-2 : tie.Need-add-run-case-2 Inv-loop μ-loop
 add-run-case-2 c = search needs
 
+add-run-case-3 : tie.Need-add-run-case-3 Inv-loop μ-loop
+add-run-case-3 c = search needs
+
 run-case-requires : tie.Need-run-case-requires Inv-loop μ-loop
 run-case-requires c κs = search needs
 
@@ -46,6 +49,7 @@ main-spec =
     loop-holds
     add-run-case
     add-run-case-2
+    add-run-case-3
     run-case-requires
     add-n
     loop-less
