@@ -121,6 +121,12 @@ pub fn step_places(chart: &[u8]) -> Vec<usize> {
     fields(chart).into_iter().skip(1).filter(is_step).map(|(from, _)| from).collect()
 }
 
+/// The costs of these steps as the file has them.
+pub fn file_costs(chart: &[u8]) -> Vec<u32> {
+    let bodies = step_places(chart).into_iter().map(|place| &chart[place + HEADER..place + WHOLE]);
+    bodies.map(|body| step_of(body).cost).collect()
+}
+
 /// Gives a step that was sound one to three faults.
 fn spoil_values(random: &mut Random, chart: &mut [u8], places: &[usize], at: usize) {
     let stages = two_bytes(chart, HEADER);

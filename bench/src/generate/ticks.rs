@@ -2,7 +2,7 @@
 //! sums are equal and so which pairs are settled.
 
 use super::corners::{most_reached, Size};
-use super::costs::{near_ticks, of_some_ticks, SOUND};
+use super::costs::SOUND;
 use super::diagrams::random_diagram;
 use super::rules::{diagram_of, Rule};
 use super::Random;
@@ -20,8 +20,10 @@ pub fn systematic() -> Vec<Problem> {
 /// A problem of two routes, or one of equal sums.
 pub fn any(random: &mut Random) -> Problem {
     if random.percent(60) {
-        let routes = [(); 2].map(|()| drawn_costs(random));
-        return two_routes([&routes[0], &routes[1]], random.percent(50));
+        let (small, large) = (random.between(0, 400), random.between(0, MAX_COST as usize));
+        let total = random.pick(&[small, small, small, large]);
+        let costs = [(); 2].map(|()| drawn_costs(random, total));
+        return two_routes([&costs[0], &costs[1]], random.percent(50));
     }
     let (layers, width) = (random.between(0, 4), random.between(1, 4));
     let span = random.pick(&SPANS);
@@ -30,17 +32,11 @@ pub fn any(random: &mut Random) -> Problem {
     Problem { chart, diagram }
 }
 
-/// Up to five costs of a few ticks.
-fn drawn_costs(random: &mut Random) -> Vec<u32> {
-    let ticks = random.between(0, 3);
-    let mut cost = || match random.below(3) {
-        0 => near_ticks(random, ticks),
-        1 => of_some_ticks(random, 0, 4),
-        _ => random.below(3 * TICK as usize) as u32,
-    };
-    let first = cost();
-    let links = 1 + first as usize % 5;
-    std::iter::once(first).chain((1..links).map(|_| cost())).collect()
+/// Up to six costs that come to about a total.
+fn drawn_costs(random: &mut Random, total: usize) -> Vec<u32> {
+    let links = random.between(1, 6);
+    let mut cost = || (total / links + random.below(30)) as u32;
+    (0..links).map(|_| cost().min(MAX_COST)).collect()
 }
 
 const YES: Diagram = Diagram { root: 1, nodes: Vec::new() };
@@ -58,18 +54,29 @@ fn step(from: usize, to: usize, cost: u32) -> Step {
     Step { from: from as u16, to: to as u16, cost }
 }
 
-/// Two routes of equal links each that cost about the same, rounded or not.
+/// Two routes that cost about the same, rounded or not.
 fn close_routes() -> Vec<Problem> {
-    let costs = [&[17, 26, 34, 75], &SOUND[..]].concat();
-    let links = |count: usize| costs.iter().map(move |cost| vec![*cost; count]);
-    let routes: Vec<Vec<u32>> = (1..=3).flat_map(links).collect();
+    let routes = routes();
     let mut problems = Vec::new();
     for (at, first) in routes.iter().enumerate() {
         for second in routes[..at].iter().filter(|second| are_close(first, second)) {
-            problems.extend([false, true].map(|ruled| two_routes([first, second], ruled)));
+            problems.extend([false, true].map(|is_ruled| two_routes([first, second], is_ruled)));
         }
     }
     problems
+}
+
+/// Up to three links of the same cost, and such with a last one that costs less.
+fn routes() -> Vec<Vec<u32>> {
+    let mut costs = [&[17, 26, 34, 75], &SOUND[..]].concat();
+    costs.sort_unstable();
+    let mut routes = Vec::new();
+    for links in 1..=3 {
+        routes.extend(costs.iter().map(|cost| vec![*cost; links]));
+        let uneven = costs.windows(4).filter(|_| links > 1);
+        routes.extend(uneven.map(|costs| [vec![costs[3]; links - 1], vec![costs[0]]].concat()));
+    }
+    routes
 }
 
 /// Whether two routes cost the same to less than a tick, as the file has it, or to a tick, rounded.
