@@ -138,7 +138,7 @@ fn beside(problem: &Problem, pair: usize) -> impl Iterator<Item = usize> {
     numbers.into_iter().chain(short).filter(move |number| *number != pair)
 }
 
-/// One least cost at another place.
+/// One least cost at another place, where that has another one.
 fn elsewhere_in_cost(judged: &Judged, problem: &Problem, wanted: &Wanted) {
     let before = sweep_slices(problem, 0);
     let mut after = before.clone();
@@ -148,6 +148,9 @@ fn elsewhere_in_cost(judged: &Judged, problem: &Problem, wanted: &Wanted) {
     assert_eq!(check::sweep(judged, &before, &after, answer), Ok(()));
     for (pair, _) in wanted.cost.iter().rev().take(10) {
         for other in beside(problem, *pair).filter(|other| *other < problem.pairs()) {
+            if after.cost[*pair] == after.cost[other] {
+                continue;
+            }
             after.cost.swap(*pair, other);
             assert!(check::sweep(judged, &before, &after, answer).is_err(), "{pair} at {other}");
             after.cost.swap(*pair, other);
