@@ -184,7 +184,7 @@ const BELOW_1000: OfStep = |step| up_if(step.cost < 1_000, step.cost);
 const FROM_1000: OfStep = |step| up_if(step.cost >= 1_000, step.cost);
 const BUT_999951: OfStep = |step| up_if(step.cost != MAX_COST - TICK + 1, step.cost);
 const BUT_TO_LIMIT: OfStep = |step| up_if(up(step.cost) < MAX_COST, step.cost);
-const BY_RECIPROCAL: OfStep = |step| ((step.cost + TICK - 1) * 1_311 >> 16) * TICK;
+const BY_RECIPROCAL: OfStep = |step| (((step.cost + TICK - 1) * 1_311) >> 16) * TICK;
 const TICKS_OF_A_BYTE: OfStep = |step| up(step.cost) / TICK % 256 * TICK;
 const LOW_BITS: OfStep = |step| (step.cost & !0xffff) + up(step.cost & 0xffff);
 /// The plan is the cheapest as the file has it; what it costs is right.
