@@ -1,5 +1,5 @@
-//! The cases of the differential test: first the corners of the limits, among them those of rows, then
-//! every systematic damage, then random ones. A case is fixed by the seed and its number.
+//! The cases of the differential test: first the corners of the limits, among them those of rows and of
+//! ticks, then every systematic damage, then random ones. A case is fixed by the seed and its number.
 
 use std::ops::Range;
 
@@ -14,7 +14,7 @@ use crate::generate::load::load;
 use crate::generate::long::{self, near_longest};
 use crate::generate::mutate::mutated;
 use crate::generate::remarks::{self, with_remarks};
-use crate::generate::{rows, steps, Random};
+use crate::generate::{rows, steps, ticks, Random};
 
 /// Two files, and the seed from which the lent slices and their content are drawn.
 #[derive(Clone, Debug)]
@@ -38,6 +38,7 @@ pub struct Cases {
     corners: Vec<Files>,
     /// Each makes two cases: slices of just the length needed, and longer ones.
     rows: Vec<Files>,
+    ticks: Vec<Files>,
     systematic: Vec<Files>,
 }
 
@@ -58,12 +59,18 @@ impl Cases {
             seed,
             corners: corners::SHAPES.iter().map(corner).collect(),
             rows: rows::systematic().iter().map(written).collect(),
+            ticks: ticks::systematic().iter().map(written).collect(),
             systematic: files,
         }
     }
 
     /// How many cases are in the corners; they come first.
     pub fn corners(&self) -> usize {
+        self.first_of_ticks() + self.ticks.len()
+    }
+
+    /// The first of those in which rounding decides; they end the corners.
+    pub fn first_of_ticks(&self) -> usize {
         self.corners.len() + 2 * self.rows.len()
     }
 
@@ -87,6 +94,10 @@ impl Cases {
         if let Some((chart, rules)) = self.rows.get(in_rows / 2).cloned() {
             let dirt = enough(&mut random, in_rows % 2 == 0);
             return Case { kind: "rows", chart, rules, dirt };
+        }
+        let in_ticks = number - self.first_of_ticks();
+        if let Some((chart, rules)) = self.ticks.get(in_ticks).cloned() {
+            return Case { kind: "ticks", chart, rules, dirt: random.word() | 1 };
         }
         let (kind, (chart, rules)) = match self.systematic.get(number - self.corners()) {
             Some(files) => ("systematic damage", files.clone()),
@@ -159,6 +170,7 @@ fn plain_files(random: &mut Random) -> (&'static str, Files) {
         330..=399 => ("many ways", many_ways(random)),
         400..=449 => ("parallel", sized(random, 3, 30, 30)),
         450..=499 => ("bad steps", bad_steps(random)),
+        500..=549 => ("ticks", written(&ticks::any(random))),
         _ => ("small", sized(random, 8, 14, 12)),
     }
 }

@@ -178,7 +178,7 @@ fn number_rule(number: u32) -> &'static str {
         8 => "3.1, 8: no plan is legal",
         9 => "3.1, 9: the file is longer than 32,768 bytes",
         10 => "3.1, 10: a step's from is not below its to, or its to not below the stage count",
-        11 => "3.1, 11: a step's cost is above 1,000,000",
+        11 => "3.1, 11: a step's cost in the file is above 1,000,000",
         _ => "3.1: no such number",
     }
 }

@@ -3,8 +3,11 @@
 use crate::cases::Case;
 use crate::files::{
     Chart, Diagram, Problem, Refusal, CHART_FILE, LONGEST_FILE, MAX_COST, MAX_NODES, MAX_STAGES,
+    TICK,
 };
+use crate::generate::costs::FIRST_TO_WRAP;
 use crate::generate::remarks::count_before;
+use crate::generate::steps::file_costs;
 use crate::reference::{Facts, Judged};
 use crate::steps::{StepAtFault, DEAR, ENDS, FALLS, SURPLUS};
 
@@ -57,6 +60,64 @@ pub struct Figures {
     pub fault_behind_remark: bool,
     /// The field at fault, where it is a step.
     pub step: Option<StepAtFault>,
+    pub rounding: Rounding,
+}
+
+/// What rounding changes, where searches run.
+#[derive(Clone, Copy, Debug, Default, PartialEq, Eq)]
+pub struct Rounding {
+    /// Some step costs more than its file says.
+    pub cost: bool,
+    /// Some step costs 1,000,000 and less in its file.
+    pub cost_to_limit: bool,
+    /// The plan doesn't cost what the file's sum is when that is rounded.
+    pub sum: bool,
+    /// No cheapest plan has as many steps as one by the file's costs.
+    pub plan: bool,
+    /// Equal sums leave the guided count open; by the file's costs it is fixed.
+    pub tie: bool,
+    /// By the file's costs the guided count is another in any case.
+    pub count: bool,
+}
+
+/// In larger problems only the costs are looked at.
+const ROUNDED_PAIRS: usize = 4_096;
+
+impl Rounding {
+    fn of(chart: &[u8], facts: &Facts) -> Rounding {
+        let Problem { chart: read, diagram } = &facts.problem;
+        let costs = file_costs(chart);
+        let changed = read.steps.iter().zip(&costs).filter(|(step, cost)| step.cost != **cost);
+        let found = Rounding {
+            cost: changed.clone().count() > 0,
+            cost_to_limit: changed.clone().any(|(step, _)| step.cost == MAX_COST),
+            ..Rounding::default()
+        };
+        if !found.cost || facts.problem.pairs() > ROUNDED_PAIRS {
+            return found;
+        }
+        let chart = read.with_costs(|number, _| costs[number]);
+        let in_file = Problem { chart, diagram: diagram.clone() };
+        found.beside(facts, &Facts::by_dynamic_programming(&in_file))
+    }
+
+    /// With what the facts differ in from those by the file's costs.
+    fn beside(self, facts: &Facts, in_file: &Facts) -> Rounding {
+        let (counts, others) = (facts.settled_range(), in_file.settled_range());
+        let plans = facts.cheapest.zip(in_file.cheapest);
+        Rounding {
+            sum: plans.is_some_and(|(plan, other)| plan.cost != other.cost.next_multiple_of(TICK)),
+            plan: plans.is_some_and(|(plan, other)| are_apart(plan.lengths, other.lengths)),
+            tie: counts.0 < counts.1 && others.0 == others.1,
+            count: are_apart(counts, others),
+            ..self
+        }
+    }
+}
+
+/// Whether two ranges have nothing in common.
+fn are_apart(a: (u32, u32), b: (u32, u32)) -> bool {
+    a.1 < b.0 || b.1 < a.0
 }
 
 impl Figures {
@@ -64,7 +125,9 @@ impl Figures {
     pub fn of(case: &Case, judged: &Judged, enough: bool) -> Figures {
         let Case { chart, rules, .. } = case;
         let figures = match judged {
-            Ok(facts) if enough => Figures::of_searches(facts),
+            Ok(facts) if enough => {
+                Figures { rounding: Rounding::of(chart, facts), ..Figures::of_searches(facts) }
+            }
             Ok(facts) => Figures::of_files(facts),
             Err(fault) => return Figures::of_refusal(case, fault),
         };
@@ -227,7 +290,7 @@ impl Corner {
 }
 
 /// Most of the largest ones are what the limits allow.
-pub const CORNERS: [Corner; 56] = [
+pub const CORNERS: [Corner; 64] = [
     Corner::largest("plan cost", 255_000_000, |f| f.plan_cost),
     Corner::largest("plan length", 255, |f| f.plan_length),
     Corner::largest("sum of a reached pair", 765_000_000, |f| f.sum),
@@ -306,4 +369,16 @@ pub const CORNERS: [Corner; 56] = [
     }),
     Corner::count("a wrong length and bad values", 100, |f| f.step_is(3, |_| true).into()),
     Corner::count("a cut body and bad values", 100, |f| f.step_is(1, |_| true).into()),
+    Corner::count("11 for 1,000,049", 100, |f| f.step_is(11, |s| s.step.cost == 1_000_049).into()),
+    Corner::count("11 for 4,294,967,247", 100, |f| {
+        f.step_is(11, |s| s.step.cost == FIRST_TO_WRAP).into()
+    }),
+    Corner::count("with costs rounded up", 40_000, |f| f.rounding.cost.into()),
+    Corner::count("with costs rounded up to 1,000,000", 5_000, |f| f.rounding.cost_to_limit.into()),
+    Corner::count("with a plan that is not the file's sum rounded", 8_000, |f| {
+        f.rounding.sum.into()
+    }),
+    Corner::count("with a longer or shorter plan by rounding", 300, |f| f.rounding.plan.into()),
+    Corner::count("with ties by rounding", 2_500, |f| f.rounding.tie.into()),
+    Corner::count("with another guided count by rounding", 350, |f| f.rounding.count.into()),
 ];

@@ -2,7 +2,10 @@
 
 pub const MAX_STAGES: u16 = 256;
 pub const MAX_STEPS: usize = 1_024;
+/// The greatest cost that a file may have.
 pub const MAX_COST: u32 = 1_000_000;
+/// The sequencer's tick: the reader rounds each cost up to whole ones.
+pub const TICK: u32 = 50;
 pub const MAX_NODES: usize = 510;
 
 /// The most bytes that a file may have.
@@ -35,7 +38,15 @@ pub const FIRST_REMARK: u8 = 0x80;
 pub struct Step {
     pub from: u16,
     pub to: u16,
+    /// As the file has it where the step is to be written; rounded where it was read.
     pub cost: u32,
+}
+
+impl Step {
+    /// With its cost in whole ticks; that of the file is within its limit.
+    fn rounded(self) -> Step {
+        Step { cost: self.cost.div_ceil(TICK) * TICK, ..self }
+    }
 }
 
 /// A weighted acyclic graph with a start and an end.
@@ -45,6 +56,20 @@ pub struct Chart {
     pub start: u16,
     pub end: u16,
     pub steps: Vec<Step>,
+}
+
+impl Chart {
+    /// What its file is read as.
+    pub fn rounded(&self) -> Chart {
+        self.with_costs(|_, step| step.rounded().cost)
+    }
+
+    /// The same with other costs, by the number of each step and the step.
+    pub fn with_costs(&self, cost: impl Fn(usize, Step) -> u32) -> Chart {
+        let steps = self.steps.iter().enumerate();
+        let steps = steps.map(|(at, step)| Step { cost: cost(at, *step), ..*step }).collect();
+        Chart { steps, ..*self }
+    }
 }
 
 /// An inner node of the diagram.
@@ -83,6 +108,11 @@ pub struct Problem {
 }
 
 impl Problem {
+    /// What its files are read as.
+    pub fn rounded(&self) -> Problem {
+        Problem { chart: self.chart.rounded(), diagram: self.diagram.clone() }
+    }
+
     /// Stage count times N: what every work slice must hold.
     pub fn pairs(&self) -> usize {
         usize::from(self.chart.stages) * self.diagram.references()
@@ -133,7 +163,7 @@ pub fn read_chart(bytes: &[u8]) -> Result<Chart, Refusal> {
         if let Some(number) = step_fault(&chart, step) {
             return Err(Refusal::at(number, CHART_FILE, place));
         }
-        chart.steps.push(step);
+        chart.steps.push(step.rounded());
     }
     Ok(chart)
 }
@@ -237,7 +267,8 @@ fn head_within_limits(chart: &Chart) -> bool {
         && chart.end < chart.stages
 }
 
-/// The first fault in the values of a step behind those of the chart, in the order of the tests.
+/// The first fault in the values of a step behind those of the chart, in the order of the tests. The
+/// cost is judged as the file has it.
 fn step_fault(chart: &Chart, step: Step) -> Option<u32> {
     if chart.steps.len() >= MAX_STEPS {
         return Some(5);
@@ -271,7 +302,7 @@ fn four_bytes(bytes: &[u8], at: usize) -> u32 {
     u32::from_le_bytes([bytes[at], bytes[at + 1], bytes[at + 2], bytes[at + 3]])
 }
 
-/// The values in a step's body.
+/// The values in a step's body, the cost as it stands there.
 pub fn step_of(body: &[u8]) -> Step {
     Step { from: two_bytes(body, 0), to: two_bytes(body, 2), cost: four_bytes(body, 4) }
 }

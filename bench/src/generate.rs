@@ -3,6 +3,7 @@
 pub mod broken;
 pub mod charts;
 pub mod corners;
+pub mod costs;
 pub mod diagrams;
 pub mod load;
 pub mod long;
@@ -12,5 +13,6 @@ pub mod remarks;
 pub mod rows;
 pub mod rules;
 pub mod steps;
+pub mod ticks;
 
 pub use random::Random;

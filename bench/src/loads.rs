@@ -17,13 +17,20 @@ pub struct Load {
     pub name: String,
     pub group: Group,
     pub chart: Vec<u8>,
+    /// The chart with every cost in whole ticks already, for libraries that do not round.
+    pub rounded: Vec<u8>,
     pub rules: Vec<u8>,
 }
 
 impl Load {
     fn new(name: impl Into<String>, chart: &Chart, diagram: &Diagram) -> Load {
-        let (chart, rules) = (write_chart(chart), write_diagram(diagram));
-        Load { name: name.into(), group: Group::Other, chart, rules }
+        Load {
+            name: name.into(),
+            group: Group::Other,
+            chart: write_chart(chart),
+            rounded: write_chart(&chart.rounded()),
+            rules: write_diagram(diagram),
+        }
     }
 
     fn of(self, group: Group) -> Load {
@@ -105,10 +112,14 @@ pub fn remarks() -> Vec<Load> {
     let Problem { chart, diagram } = example_problem();
     let remarks = tagged(0x80, &[]).repeat(10_000);
     let behind = |head: Vec<u8>, file: Vec<u8>| [&head, &remarks, &file[head.len()..]].concat();
-    let name = "example, 10,000 remarks".into();
-    let chart = behind(chart_head_field(&chart), write_chart(&chart));
-    let rules = behind(diagram_head_field(&diagram), write_diagram(&diagram));
-    vec![Load { name, group: Group::Remarks, chart, rules }]
+    let [head, rules_head] = [chart_head_field(&chart), diagram_head_field(&diagram)];
+    let plain = Load::new("example, 10,000 remarks", &chart, &diagram).of(Group::Remarks);
+    vec![Load {
+        chart: behind(head.clone(), plain.chart),
+        rounded: behind(head, plain.rounded),
+        rules: behind(rules_head, plain.rules),
+        ..plain
+    }]
 }
 
 /// A generated chart of so many stages.

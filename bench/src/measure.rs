@@ -99,8 +99,8 @@ impl Buffers {
     }
 
     /// The count; none where an implementation has no such call.
-    fn call(&mut self, planner: &dyn Planner, call: Call, load: &Load) -> Option<u32> {
-        let (chart, rules) = (black_box(&load.chart[..]), black_box(&load.rules[..]));
+    fn call(&mut self, planner: &dyn Planner, call: Call, files: Files) -> Option<u32> {
+        let (chart, rules) = (black_box(files.0), black_box(files.1));
         match call {
             Call::Sweep => Some(black_box(planner.sweep(chart, rules, &mut self.sweep)).count),
             Call::Guided => Some(black_box(planner.guided(chart, rules, &mut self.guided)).count),
@@ -109,10 +109,10 @@ impl Buffers {
     }
 
     /// Nanoseconds of so many calls.
-    fn timed(&mut self, planner: &dyn Planner, call: Call, load: &Load, repeats: u32) -> f64 {
+    fn timed(&mut self, planner: &dyn Planner, call: Call, files: Files, repeats: u32) -> f64 {
         let begun = processor_ns();
         for _ in 0..repeats {
-            self.call(planner, call, load);
+            self.call(planner, call, files);
         }
         processor_ns() - begun
     }
@@ -137,10 +137,11 @@ impl Contender {
         load: &Load,
         buffers: &mut Buffers,
     ) -> Option<Contender> {
-        let count = buffers.call(planner, call, load)?;
+        let files = files_for(planner, load);
+        let count = buffers.call(planner, call, files)?;
         let mut repeats = 1;
         loop {
-            let took = buffers.timed(planner, call, load, repeats);
+            let took = buffers.timed(planner, call, files, repeats);
             if took >= SAMPLE_NS / 10.0 {
                 let repeats = ((f64::from(repeats) * SAMPLE_NS / took) as u32).max(1);
                 let (name, least) = (planner.name(), f64::INFINITY);
@@ -155,8 +156,9 @@ impl Contender {
     }
 
     fn sample(&mut self, planner: &dyn Planner, load: &Load, buffers: &mut Buffers) {
-        buffers.call(planner, self.call, load);
-        let took = buffers.timed(planner, self.call, load, self.repeats);
+        let files = files_for(planner, load);
+        buffers.call(planner, self.call, files);
+        let took = buffers.timed(planner, self.call, files, self.repeats);
         self.least = self.least.min(took / f64::from(self.repeats));
     }
 
@@ -173,6 +175,16 @@ impl Contender {
 
 /// Copies of an earlier library.
 const EARLIER: [&str; 2] = ["before", "control"];
+
+/// A chart file and a diagram file.
+type Files<'a> = (&'a [u8], &'a [u8]);
+
+/// What an implementation is given of a load. An earlier library may not round costs: it has a chart
+/// with rounded ones, so that it does the same work.
+fn files_for<'a>(planner: &dyn Planner, load: &'a Load) -> Files<'a> {
+    let is_earlier = EARLIER.contains(&planner.name());
+    (if is_earlier { &load.rounded } else { &load.chart }, &load.rules)
+}
 
 /// Whether an implementation is checked and timed on a load: all are, but for an earlier library
 /// that refuses files with remarks.
@@ -214,12 +226,13 @@ pub fn check(load: &Load, planners: &[Box<dyn Planner>]) -> Result<(), String> {
     let buffers = Buffers::of(load)?;
     for planner in planners.iter().filter(|planner| takes_load(&***planner, load)) {
         let wrong = |text| format!("{}: {}: {text}", load.name, planner.name());
+        let (chart, rules) = files_for(&**planner, load);
         let Buffers { mut sweep, mut guided } = buffers.clone();
-        let answer = planner.sweep(&load.chart, &load.rules, &mut sweep);
+        let answer = planner.sweep(chart, rules, &mut sweep);
         check::sweep(&judged, &buffers.sweep, &sweep, answer).map_err(wrong)?;
-        let answer = planner.guided(&load.chart, &load.rules, &mut guided);
+        let answer = planner.guided(chart, rules, &mut guided);
         check::guided(&judged, &buffers.guided, &guided, answer).map_err(wrong)?;
-        if let Some(space) = planner.space_needed(&load.chart, &load.rules) {
+        if let Some(space) = planner.space_needed(chart, rules) {
             check::space(&judged, space).map_err(wrong)?;
         }
     }
@@ -229,6 +242,8 @@ pub fn check(load: &Load, planners: &[Box<dyn Planner>]) -> Result<(), String> {
 #[cfg(test)]
 mod tests {
     use super::{check, measure};
+    use crate::files::{MAX_COST, TICK};
+    use crate::generate::steps::file_costs;
     use crate::loads::{remarks, standard, Load};
     use crate::planner::{Answer, GuidedSlices, Planner, Space, SweepSlices};
     use crate::same::Same;
@@ -278,5 +293,32 @@ mod tests {
         }
         assert!(checked(load, "library").is_err());
         assert_eq!(timed(plain, "before"), ["before", "same"]);
+    }
+    /// A library of the time before ticks; it is wrong where a cost is to be rounded.
+    struct Unrounded(&'static str);
+
+    impl Planner for Unrounded {
+        fn name(&self) -> &'static str {
+            self.0
+        }
+
+        fn sweep(&self, chart: &[u8], rules: &[u8], lent: &mut SweepSlices) -> Answer {
+            let answer = Same.sweep(chart, rules, lent);
+            let is_whole = file_costs(chart).iter().all(|cost| cost % TICK == 0);
+            Answer { cost: if is_whole { answer.cost } else { MAX_COST + 1 }, ..answer }
+        }
+
+        fn guided(&self, chart: &[u8], rules: &[u8], lent: &mut GuidedSlices) -> Answer {
+            Same.guided(chart, rules, lent)
+        }
+    }
+
+    #[test]
+    fn an_earlier_library_is_given_rounded_costs() {
+        for load in standard().iter().step_by(9).chain(&remarks()) {
+            let checked = |name| check(load, &[Box::new(Unrounded(name)) as Box<dyn Planner>]);
+            assert_eq!((checked("before"), checked("control")), (Ok(()), Ok(())));
+            assert!(checked("library").is_err(), "{}", load.name);
+        }
     }
 }

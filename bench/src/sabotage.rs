@@ -3,6 +3,7 @@
 mod readings;
 mod rows;
 mod steps;
+mod ticks;
 
 use std::borrow::Cow;
 
@@ -10,6 +11,7 @@ use crate::files::{read_chart, LONGEST_FILE};
 use crate::planner::{self, Answer, GuidedSlices, Planner, Space, SweepSlices};
 use crate::steps::{StepAtFault, StepFaults};
 use rows::Rows;
+use ticks::Ticks;
 
 /// One way to spoil a planner.
 pub struct Sabotage {
@@ -26,6 +28,8 @@ enum Spoil {
     Space(fn(&mut Space)),
     /// The length of a refused field at a place.
     Field(fn(&mut usize, usize)),
+    /// The bytes shown of it, as far as they are lent.
+    Shown(fn(&mut [u8])),
     /// A touch of both files, before each search.
     Touch(fn(&[u8], &[u8])),
     /// What every call reads as the chart, unless that is too long.
@@ -40,6 +44,10 @@ enum Spoil {
     SweepRows(Rows),
     /// Where a guided search does.
     GuidedRows(Rows),
+    /// What a sweep by itself takes as the costs of steps.
+    SweepTicks(Ticks),
+    /// What a guided search does.
+    GuidedTicks(Ticks),
 }
 
 /// Whether a step's values have some fault.
@@ -68,7 +76,7 @@ const fn new(name: &'static str, spoil: Spoil) -> Sabotage {
 
 /// Every sabotage.
 pub fn all() -> impl Iterator<Item = &'static Sabotage> {
-    searches().chain(readings())
+    searches().chain(ticks()).chain(readings())
 }
 
 /// Results spoiled in one corner, and pairs in wrong places.
@@ -76,9 +84,14 @@ pub fn searches() -> impl Iterator<Item = &'static Sabotage> {
     CORNERS.iter().chain(&rows::ROWS)
 }
 
+/// Wrong costs of steps in sound files.
+pub fn ticks() -> impl Iterator<Item = &'static Sabotage> {
+    ticks::TICKS.iter()
+}
+
 /// The wrong readings of remarks, of files that are too long and of a step's values.
 pub fn readings() -> impl Iterator<Item = &'static Sabotage> {
-    readings::READINGS.iter().chain(&steps::STEPS)
+    readings::READINGS.iter().chain(&steps::STEPS).chain(&ticks::LIMITS)
 }
 
 static CORNERS: [Sabotage; 24] = [
@@ -222,18 +235,20 @@ impl Spoiled {
         tests.iter().find(|(test, _)| test(&step.faults)).map_or(number, |(_, number)| *number)
     }
 
-    /// A search that looks for pairs in wrong places; none where this is no such sabotage.
-    fn sweep_rows(&self, chart: &[u8], rules: &[u8], lent: &mut SweepSlices) -> Option<Answer> {
+    /// A sweep that stands in for the planner's; none where this is no such sabotage.
+    fn other_sweep(&self, chart: &[u8], rules: &[u8], lent: &mut SweepSlices) -> Option<Answer> {
         match &self.sabotage.spoil {
             Spoil::SweepRows(rows) => rows.sweep(chart, rules, lent),
+            Spoil::SweepTicks(ticks) => ticks.sweep(chart, rules, lent),
             _ => None,
         }
     }
 
-    /// The same of a guided one.
-    fn guided_rows(&self, chart: &[u8], rules: &[u8], lent: &mut GuidedSlices) -> Option<Answer> {
+    /// The same of a guided search.
+    fn other_guided(&self, chart: &[u8], rules: &[u8], lent: &mut GuidedSlices) -> Option<Answer> {
         match &self.sabotage.spoil {
             Spoil::GuidedRows(rows) => rows.guided(chart, rules, lent),
+            Spoil::GuidedTicks(ticks) => ticks.guided(chart, rules, lent),
             _ => None,
         }
     }
@@ -267,7 +282,7 @@ impl Planner for Spoiled {
     fn sweep(&self, chart: &[u8], rules: &[u8], lent: &mut SweepSlices) -> Answer {
         self.touch(chart, rules);
         let (chart, rules) = self.read(chart, rules);
-        if let Some(answer) = self.sweep_rows(&chart, &rules, lent) {
+        if let Some(answer) = self.other_sweep(&chart, &rules, lent) {
             return answer;
         }
         let answer = self.planner.sweep(&chart, &rules, lent);
@@ -277,7 +292,7 @@ impl Planner for Spoiled {
     fn guided(&self, chart: &[u8], rules: &[u8], lent: &mut GuidedSlices) -> Answer {
         self.touch(chart, rules);
         let (chart, rules) = self.read(chart, rules);
-        if let Some(answer) = self.guided_rows(&chart, &rules, lent) {
+        if let Some(answer) = self.other_guided(&chart, &rules, lent) {
             return answer;
         }
         let answer = self.planner.guided(&chart, &rules, lent);
@@ -316,9 +331,22 @@ impl Planner for Spoiled {
         field: &mut [u8],
     ) -> Option<usize> {
         let mut length = self.planner.refused_field(chart, rules, file, place, field)?;
-        if let Spoil::Field(spoil) = self.sabotage.spoil {
-            spoil(&mut length, place);
+        match self.sabotage.spoil {
+            Spoil::Field(spoil) => spoil(&mut length, place),
+            Spoil::Shown(spoil) => {
+                let shown = length.min(field.len());
+                spoil(&mut field[..shown]);
+            }
+            _ => {}
         }
         Some(length)
     }
+}
+
+/// Whether a case shows a sabotage.
+#[cfg(test)]
+fn shows(case: &crate::cases::Case, sabotage: &'static Sabotage) -> bool {
+    let planner = Spoiled { planner: Box::new(crate::same::Same), sabotage };
+    let planners: [Box<dyn Planner>; 1] = [Box::new(planner)];
+    crate::compare::run(case, &planners).is_err()
 }

@@ -45,11 +45,13 @@ fn accepted(answer: &Answer) -> bool {
     answer.number == 0
 }
 
-const SWEEP: [(&str, Falsify<SweepSlices>); 17] = [
+const SWEEP: [(&str, Falsify<SweepSlices>); 20] = [
     ("count one more", |_, a, _| changed_to(&mut a.count, 1)),
     ("count one less", |_, a, _| changed_to(&mut a.count, u32::MAX)),
     ("cost one more", |_, a, _| changed_to(&mut a.cost, 1)),
     ("cost one less", |_, a, _| changed_to(&mut a.cost, u32::MAX)),
+    ("cost a tick more", |_, a, _| changed_to(&mut a.cost, 50)),
+    ("cost a tick less", |_, a, _| changed_to(&mut a.cost, u32::MAX - 49)),
     ("length one more", |_, a, _| changed_to(&mut a.length, 1)),
     ("length one less", |_, a, _| changed_to(&mut a.length, u32::MAX)),
     ("file set", |_, a, _| changed_to(&mut a.file, 1)),
@@ -72,6 +74,10 @@ const SWEEP: [(&str, Falsify<SweepSlices>); 17] = [
         was
     }),
     ("a cost entry", |f, _, s| changed(&mut s.cost[f.start_pair()])),
+    ("the last reached pair's cost a tick more", |f, _, s| {
+        let last = f.least.iter().rposition(Option::is_some);
+        last.is_some_and(|pair| changed_to(&mut s.cost[pair], 50))
+    }),
     ("a cost entry of node 0", |_, _, s| {
         s.cost[0] = 0;
         true
@@ -90,10 +96,12 @@ fn changed_to(field: &mut u32, add: u32) -> bool {
     true
 }
 
-const GUIDED: [(&str, Falsify<GuidedSlices>); 24] = [
+const GUIDED: [(&str, Falsify<GuidedSlices>); 26] = [
     ("count one more", |_, a, _| changed_to(&mut a.count, 1)),
     ("count one less", |_, a, _| changed_to(&mut a.count, u32::MAX)),
     ("cost one more", |_, a, _| changed_to(&mut a.cost, 1)),
+    ("cost a tick more", |_, a, _| changed_to(&mut a.cost, 50)),
+    ("cost a tick less", |_, a, _| changed_to(&mut a.cost, u32::MAX - 49)),
     ("length one more", |_, a, _| changed_to(&mut a.length, 1)),
     ("length one less", |_, a, _| changed_to(&mut a.length, u32::MAX)),
     ("file set", |_, a, _| changed_to(&mut a.file, 1)),

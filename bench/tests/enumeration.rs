@@ -14,7 +14,7 @@ use planner_bench::reference::Facts;
 fn small(random: &mut Random, stages: usize, steps: usize, nodes: usize) -> Problem {
     let chart = random_chart(random, stages, steps);
     let diagram = random_diagram(random, &chart, nodes);
-    Problem { chart, diagram }
+    Problem { chart, diagram }.rounded()
 }
 
 /// A problem with many equal sums.
@@ -22,13 +22,19 @@ fn tied(random: &mut Random) -> Problem {
     let shape = Shape {
         stages: random.between(2, 6),
         steps: random.between(2, 10),
-        costs: random.pick(&[Costs::Zero, Costs::Equal, Costs::Few, Costs::MostlyZero]),
+        costs: random.pick(&[
+            Costs::Zero,
+            Costs::Equal,
+            Costs::Few,
+            Costs::MostlyZero,
+            Costs::Alike,
+        ]),
         spans: random.pick(&[Spans::Next, Spans::Short, Spans::Any]),
         ends: Ends::Outermost,
     };
     let chart = shape.chart(random);
     let diagram = random_diagram(random, &chart, 8);
-    Problem { chart, diagram }
+    Problem { chart, diagram }.rounded()
 }
 
 #[test]
@@ -151,7 +157,7 @@ impl AllRuns<'_> {
 fn every_count_in_the_range_is_possible_and_no_other() {
     let mut random = Random::new(4);
     let (mut compared, mut wide) = (0, 0);
-    while compared < 6_000 {
+    while compared < 8_000 {
         let facts = Facts::by_dynamic_programming(&tied(&mut random));
         let Some(counts) = AllRuns::of(&facts) else { continue };
         let (fewest, most) = facts.settled_range();

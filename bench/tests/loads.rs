@@ -37,7 +37,7 @@ fn small_charts_are_small() {
 #[test]
 fn remarks_are_a_group_of_their_own() {
     let [load] = &remarks()[..] else { panic!("one load") };
-    assert_eq!(read_both(&load.chart, &load.rules), Ok(example_problem()));
+    assert_eq!(read_both(&load.chart, &load.rules), Ok(example_problem().rounded()));
     assert_eq!((load.chart.len(), load.rules.len()), (30_075, 30_023));
     let mut others = standard().into_iter().chain(growth());
     assert!(load.group == Group::Remarks && others.all(|load| load.group != Group::Remarks));

@@ -1,17 +1,26 @@
 //! The shipped example, and the marked cases (a) to (j).
 
 use planner_bench::cases::example_problem;
-use planner_bench::files::{write_chart, write_diagram, Chart, Diagram, Node, Problem, Step};
+use planner_bench::files::{
+    read_both, write_chart, write_diagram, Chart, Diagram, Node, Problem, Step,
+};
 use planner_bench::lent::Lent;
 use planner_bench::planner::{self, Answer, GuidedSlices, SweepSlices};
 use planner_bench::reference::rules::verdict;
 use planner_bench::reference::ways::{cost_of, set_of};
 use planner_bench::reference::{cost_slice, Facts, UNREACHED};
 
+/// What the files of a problem are read as.
+fn read(problem: &Problem) -> Problem {
+    let files = (write_chart(&problem.chart), write_diagram(&problem.diagram));
+    read_both(&files.0, &files.1).expect("sound files")
+}
+
 /// The facts, by both methods.
 fn facts(problem: &Problem) -> Facts {
-    let facts = Facts::by_dynamic_programming(problem);
-    assert_eq!(Some(&facts), Facts::by_enumeration(problem, 1_000).as_ref());
+    let problem = read(problem);
+    let facts = Facts::by_dynamic_programming(&problem);
+    assert_eq!(Some(&facts), Facts::by_enumeration(&problem, 1_000).as_ref());
     facts
 }
 
@@ -26,6 +35,7 @@ fn constant(root: u16) -> Diagram {
 }
 
 fn legal_cost(problem: &Problem, steps: &[u16]) -> (u32, bool) {
+    let problem = read(problem);
     let present = set_of(&problem.chart, steps);
     (cost_of(&problem.chart, steps), verdict(&problem.diagram, &present))
 }
@@ -33,23 +43,10 @@ fn legal_cost(problem: &Problem, steps: &[u16]) -> (u32, bool) {
 /// Answers of both searches of every implementation, with the plans.
 fn answers(problem: &Problem) -> Vec<(Answer, Vec<u16>)> {
     let (chart, rules) = (write_chart(&problem.chart), write_diagram(&problem.diagram));
-    let work = Lent::from(vec![7; problem.pairs()]);
+    let work = || Lent::from(vec![7; problem.pairs()]);
     let plan = Lent::from(vec![9_999; problem.longest_plan()]);
-    let sweep = SweepSlices {
-        cost: work.clone(),
-        via: work.clone(),
-        nodes: work.clone(),
-        plan: plan.clone(),
-    };
-    let guided = GuidedSlices {
-        keys: work.clone(),
-        via: work.clone(),
-        heap: work.clone(),
-        pos: work.clone(),
-        stack: work.clone(),
-        log: work,
-        plan,
-    };
+    let sweep = SweepSlices::with(work, plan.clone());
+    let guided = GuidedSlices::with(work, plan);
     let mut found = Vec::new();
     for planner in planner::all() {
         let (mut sweep, mut guided) = (sweep.clone(), guided.clone());
@@ -70,12 +67,12 @@ fn assert_answers(problem: &Problem, sweep: Answer, guided: Answer, plan: &[u16]
 }
 
 #[test]
-fn a_the_cheapest_legal_plan_costs_170() {
+fn a_the_cheapest_legal_plan_costs_200() {
     let problem = example_problem();
     let facts = facts(&problem);
-    assert_eq!(facts.cheapest.map(|cheapest| cheapest.cost), Some(170));
-    let sweep = Answer::accepted(170, 3, 6);
-    assert_answers(&problem, sweep, Answer::accepted(170, 3, 4), &[1, 3, 5]);
+    assert_eq!(facts.cheapest.map(|cheapest| cheapest.cost), Some(200));
+    let sweep = Answer::accepted(200, 3, 6);
+    assert_answers(&problem, sweep, Answer::accepted(200, 3, 4), &[1, 3, 5]);
     assert_eq!(facts.settled_range(), (4, 4));
 }
 
@@ -86,7 +83,7 @@ fn b_the_reached_pairs() {
     assert_eq!(reached, [3, 5, 6, 9, 13, 17]);
     assert_eq!(facts.reached(), 6);
     let costs = cost_slice(&facts);
-    assert_eq!((costs[3], costs[5], costs[6], costs[17]), (0, 90, 40, 170));
+    assert_eq!((costs[3], costs[5], costs[6], costs[17]), (0, 100, 50, 200));
     assert_eq!(costs[4], UNREACHED);
 }
 
@@ -94,7 +91,7 @@ fn b_the_reached_pairs() {
 fn c_the_estimates() {
     let facts = facts(&example_problem());
     let stages: Vec<u32> = facts.chart_estimate.iter().flatten().copied().collect();
-    assert_eq!(stages, [120, 80, 70, 50, 0]);
+    assert_eq!(stages, [150, 100, 100, 50, 0]);
     assert_eq!(facts.chart_estimate.len(), 256);
     assert!(facts.chart_estimate[5..].iter().all(Option::is_none));
     assert_eq!(facts.diagram_estimate, [None, Some(0), Some(200), Some(0)]);
@@ -104,14 +101,14 @@ fn c_the_estimates() {
 fn d_the_sums() {
     let facts = facts(&example_problem());
     let sums = [3, 5, 13, 17, 6, 9].map(|pair| facts.sum(pair));
-    assert_eq!(sums, [120, 170, 170, 170, 240, 310].map(Some));
+    assert_eq!(sums, [150, 200, 200, 200, 250, 350].map(Some));
 }
 
 #[test]
 fn e_and_f_one_plan_is_legal_and_one_is_not() {
     let problem = example_problem();
-    assert_eq!(legal_cost(&problem, &[0, 3, 5]), (120, false));
-    assert_eq!(legal_cost(&problem, &[0, 2, 4, 5]), (310, true));
+    assert_eq!(legal_cost(&problem, &[0, 3, 5]), (150, false));
+    assert_eq!(legal_cost(&problem, &[0, 2, 4, 5]), (350, true));
 }
 
 #[test]
@@ -136,7 +133,7 @@ fn i_a_goal_pair_that_is_not_at_node_1() {
     let facts = facts(&problem);
     let goals: Vec<usize> = (0..9).filter(|pair| facts.is_goal(*pair)).collect();
     assert_eq!(goals, [8]);
-    let answer = Answer::accepted(5, 1, 2);
+    let answer = Answer::accepted(50, 1, 2);
     assert_answers(&problem, answer, answer, &[0]);
 }
 

@@ -2,7 +2,8 @@
 
 use planner_bench::cases::Cases;
 use planner_bench::compare::run;
-use planner_bench::files::{Chart, Diagram, Problem};
+use planner_bench::files::{Chart, Diagram, Problem, TICK};
+use planner_bench::generate::steps::file_costs;
 use planner_bench::planner::{Answer, GuidedSlices, Planner, SweepSlices};
 use planner_bench::reference::rules::{advance, finish};
 use planner_bench::reference::{judge, too_short, UNREACHED};
@@ -16,6 +17,8 @@ enum Mistake {
     TraceStopsEarly,
     TraceWithoutPlan,
     OneWayPerStage,
+    CostsOfTheFile,
+    SumsRounded,
 }
 
 /// A plain sweep with one mistake; its guided search is sound.
@@ -27,7 +30,7 @@ impl Planner for Mistaken {
     }
 
     fn sweep(&self, chart: &[u8], rules: &[u8], lent: &mut SweepSlices) -> Answer {
-        let problem = match judge(chart, rules) {
+        let mut problem = match judge(chart, rules) {
             Err(fault) => {
                 return Answer::refused(fault.number, fault.file, fault.place);
             }
@@ -36,7 +39,15 @@ impl Planner for Mistaken {
             }
             Ok(facts) => facts.problem,
         };
-        self.search(&problem, lent)
+        if matches!(self.0, Mistake::CostsOfTheFile | Mistake::SumsRounded) {
+            let costs = file_costs(chart);
+            problem.chart = problem.chart.with_costs(|number, _| costs[number]);
+        }
+        let answer = self.search(&problem, lent);
+        if self.0 == Mistake::SumsRounded {
+            return rounded(&problem, lent, answer);
+        }
+        answer
     }
 
     fn guided(&self, chart: &[u8], rules: &[u8], lent: &mut GuidedSlices) -> Answer {
@@ -126,6 +137,13 @@ impl Mistaken {
     }
 }
 
+/// Sums rounded at the end.
+fn rounded(problem: &Problem, lent: &mut SweepSlices, answer: Answer) -> Answer {
+    let costs = lent.cost[..problem.pairs()].iter_mut();
+    costs.filter(|cost| **cost != UNREACHED).for_each(|cost| *cost = cost.next_multiple_of(TICK));
+    Answer { cost: answer.cost.next_multiple_of(TICK), ..answer }
+}
+
 /// How many random cases pass before the first difference, up to a limit.
 fn passed_cases(mistake: Mistake, limit: usize) -> usize {
     let planners: Vec<Box<dyn Planner>> = vec![Box::new(Mistaken(mistake))];
@@ -143,6 +161,8 @@ fn each_named_mistake_is_found_within_some_hundred_cases() {
         Mistake::TraceStopsEarly,
         Mistake::TraceWithoutPlan,
         Mistake::OneWayPerStage,
+        Mistake::CostsOfTheFile,
+        Mistake::SumsRounded,
     ] {
         assert!(passed_cases(mistake, 300) < 300);
     }

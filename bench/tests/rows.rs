@@ -1,171 +1,23 @@
 //! Where pairs stand: at stage × N + node in the cost slice, and by that number in the log. The charts
-//! are small or sparse, and all numbers are worked out by hand. No sums are equal but along a way, so
-//! that there is one log.
+//! are small or sparse, and all numbers are worked out by hand, costs and sums in ticks of 50 ns. No sums
+//! are equal but along a way, so that there is one log.
 
-use planner_bench::check;
-use planner_bench::files::{write_chart, write_diagram, Chart, Diagram, Node, Problem, Step};
-use planner_bench::lent::Lent;
-use planner_bench::planner::{self, Answer, GuidedSlices, Planner, SweepSlices};
-use planner_bench::reference::{cost_slice, Facts, Judged, UNREACHED};
+mod by_hand;
 
-/// What slices hold before a call: nothing that a result has.
-const DIRT: u32 = 77_777;
-const PLAN_DIRT: u16 = 7_777;
+use by_hand::{diagram, problem, writes, Wanted};
+use planner_bench::files::{Problem, Step};
 
-/// What both searches must write.
-struct Wanted<'a> {
-    /// Pair and least cost of each reached pair; all other entries are 4,294,967,295.
-    cost: &'a [(usize, u32)],
-    log: &'a [u32],
-    /// None under 8.
-    plan: Option<&'a [u16]>,
-}
-
+/// From, to and ticks of each step. In the file the costs are rounded up to them.
 fn steps(steps: &[(u16, u16, u32)]) -> Vec<Step> {
-    steps.iter().map(|(from, to, cost)| Step { from: *from, to: *to, cost: *cost }).collect()
+    let steps = steps.iter().zip(0..);
+    let in_file =
+        |((from, to, ticks), at): (&(u16, u16, u32), u32)| (*from, *to, 50 * ticks - at % 50);
+    by_hand::steps(&steps.map(in_file).collect::<Vec<_>>())
 }
 
-/// Nodes from 2 on: step, lo, hi.
-fn diagram(root: u16, nodes: &[(u16, u16, u16)]) -> Diagram {
-    let nodes = nodes.iter().map(|(step, lo, hi)| Node { step: *step, lo: *lo, hi: *hi });
-    Diagram { root, nodes: nodes.collect() }
-}
-
-fn problem(stages: u16, ends: (u16, u16), steps: Vec<Step>, diagram: Diagram) -> Problem {
-    Problem { chart: Chart { stages, start: ends.0, end: ends.1, steps }, diagram }
-}
-
-fn plan_cost(problem: &Problem, plan: &[u16]) -> u32 {
-    plan.iter().map(|step| problem.chart.steps[usize::from(*step)].cost).sum()
-}
-
-impl Wanted<'_> {
-    fn answer(&self, problem: &Problem, count: usize) -> Answer {
-        match self.plan {
-            None => Answer::no_plan(count),
-            Some(plan) => Answer::accepted(plan_cost(problem, plan), plan.len(), count),
-        }
-    }
-
-    /// A cost slice of so many entries more than are needed.
-    fn cost_slice(&self, problem: &Problem, more: usize) -> Vec<u32> {
-        let mut cost = vec![UNREACHED; problem.pairs()];
-        self.cost.iter().for_each(|(pair, least)| cost[*pair] = *least);
-        cost.resize(problem.pairs() + more, DIRT);
-        cost
-    }
-
-    fn log_slice(&self, problem: &Problem, more: usize) -> Vec<u32> {
-        let mut log = self.log.to_vec();
-        log.resize(problem.pairs() + more, DIRT);
-        log
-    }
-
-    fn plan_slice(&self, problem: &Problem, more: usize) -> Vec<u16> {
-        let mut plan = self.plan.unwrap_or_default().to_vec();
-        plan.resize(problem.longest_plan() + more, PLAN_DIRT);
-        plan
-    }
-}
-
-/// The reference and every implementation write just this, into slices of the length needed and into
-/// longer ones; and the checks let nothing pass that stands elsewhere.
-fn writes(problem: &Problem, wanted: &Wanted) {
-    let facts = Facts::by_dynamic_programming(problem);
-    assert_eq!(cost_slice(&facts), wanted.cost_slice(problem, 0));
-    let settled = wanted.log.len() as u32;
-    assert_eq!(facts.settled_range(), (settled, settled));
-    for planner in planner::all() {
-        for more in [0, 1, 5] {
-            sweeps(planner.as_ref(), problem, wanted, more);
-            guides(planner.as_ref(), problem, wanted, more);
-        }
-    }
-    let judged = Ok(facts);
-    elsewhere_in_cost(&judged, problem, wanted);
-    elsewhere_in_log(&judged, problem, wanted);
-}
-
-fn work(problem: &Problem, more: usize) -> Lent<u32> {
-    vec![DIRT; problem.pairs() + more].into()
-}
-
-fn plan(problem: &Problem, more: usize) -> Lent<u16> {
-    vec![PLAN_DIRT; problem.longest_plan() + more].into()
-}
-
-fn sweep_slices(problem: &Problem, more: usize) -> SweepSlices {
-    SweepSlices::with(|| work(problem, more), plan(problem, more))
-}
-
-fn guided_slices(problem: &Problem, more: usize) -> GuidedSlices {
-    GuidedSlices::with(|| work(problem, more), plan(problem, more))
-}
-
-fn sweeps(planner: &dyn Planner, problem: &Problem, wanted: &Wanted, more: usize) {
-    let mut lent = sweep_slices(problem, more);
-    let files = (write_chart(&problem.chart), write_diagram(&problem.diagram));
-    let answer = planner.sweep(&files.0, &files.1, &mut lent);
-    assert_eq!(answer, wanted.answer(problem, wanted.cost.len()), "{}", planner.name());
-    assert!(lent.cost[..] == wanted.cost_slice(problem, more), "{}", planner.name());
-    assert_eq!(lent.plan[..], wanted.plan_slice(problem, more), "{}", planner.name());
-    let free = lent.free().map(|(_, slice)| slice[problem.pairs()..].to_vec());
-    assert!(free.concat().iter().all(|entry| *entry == DIRT), "{}", planner.name());
-}
-
-fn guides(planner: &dyn Planner, problem: &Problem, wanted: &Wanted, more: usize) {
-    let mut lent = guided_slices(problem, more);
-    let files = (write_chart(&problem.chart), write_diagram(&problem.diagram));
-    let answer = planner.guided(&files.0, &files.1, &mut lent);
-    assert_eq!(answer, wanted.answer(problem, wanted.log.len()), "{}", planner.name());
-    assert_eq!(lent.log[..wanted.log.len()], *wanted.log, "{}", planner.name());
-    assert!(lent.log[..] == wanted.log_slice(problem, more), "{}", planner.name());
-    assert_eq!(lent.plan[..], wanted.plan_slice(problem, more), "{}", planner.name());
-    let free = lent.free().map(|(_, slice)| slice[problem.pairs()..].to_vec());
-    assert!(free.concat().iter().all(|entry| *entry == DIRT), "{}", planner.name());
-}
-
-/// Numbers beside a pair's own: a node, a row, half a number.
-fn beside(problem: &Problem, pair: usize) -> impl Iterator<Item = usize> {
-    let width = problem.diagram.references();
-    let numbers = [pair + 1, pair.wrapping_sub(1), pair + width, pair.wrapping_sub(width)];
-    let short = [pair & 0xffff, pair & 0x7fff, pair & 0xff];
-    numbers.into_iter().chain(short).filter(move |number| *number != pair)
-}
-
-/// One least cost at another place.
-fn elsewhere_in_cost(judged: &Judged, problem: &Problem, wanted: &Wanted) {
-    let before = sweep_slices(problem, 0);
-    let mut after = before.clone();
-    after.cost = wanted.cost_slice(problem, 0).into();
-    after.plan = wanted.plan_slice(problem, 0).into();
-    let answer = wanted.answer(problem, wanted.cost.len());
-    assert_eq!(check::sweep(judged, &before, &after, answer), Ok(()));
-    for (pair, _) in wanted.cost.iter().rev().take(10) {
-        for other in beside(problem, *pair).filter(|other| *other < problem.pairs()) {
-            after.cost.swap(*pair, other);
-            assert!(check::sweep(judged, &before, &after, answer).is_err(), "{pair} at {other}");
-            after.cost.swap(*pair, other);
-        }
-    }
-}
-
-/// Another number in the log.
-fn elsewhere_in_log(judged: &Judged, problem: &Problem, wanted: &Wanted) {
-    let before = guided_slices(problem, 0);
-    let mut after = before.clone();
-    after.log = wanted.log_slice(problem, 0).into();
-    after.plan = wanted.plan_slice(problem, 0).into();
-    let answer = wanted.answer(problem, wanted.log.len());
-    assert_eq!(check::guided(judged, &before, &after, answer), Ok(()));
-    for (at, pair) in wanted.log.iter().enumerate().rev().take(10) {
-        for other in beside(problem, *pair as usize) {
-            after.log[at] = other as u32;
-            let found = check::guided(judged, &before, &after, answer);
-            assert!(found.is_err(), "log[{at}] {other} for {pair}");
-        }
-        after.log[at] = *pair;
-    }
+/// Pairs with their costs in nanoseconds, by those in ticks.
+fn of_ticks(pairs: &[(usize, u32)]) -> Vec<(usize, u32)> {
+    pairs.iter().map(|(pair, ticks)| (*pair, 50 * ticks)).collect()
 }
 
 /// N is 3: rows start at 0, 3, 6, 9. From stage 1 at node 2: pair 5, cost 0. By step 1 to stage 2,
@@ -175,7 +27,7 @@ fn elsewhere_in_log(judged: &Judged, problem: &Problem, wanted: &Wanted) {
 fn four_stages_of_three() {
     let steps = steps(&[(0, 1, 9), (1, 2, 5), (1, 2, 7), (2, 3, 1), (2, 3, 4)]);
     let problem = problem(4, (1, 3), steps, diagram(2, &[(3, 1, 0)]));
-    let cost = [(5, 0), (8, 5), (10, 9)];
+    let cost = of_ticks(&[(5, 0), (8, 5), (10, 9)]);
     writes(&problem, &Wanted { cost: &cost, log: &[5, 8, 10], plan: Some(&[1, 4]) });
 }
 
@@ -187,7 +39,7 @@ fn four_stages_of_three() {
 fn rows_that_are_passed_over_are_empty() {
     let steps = steps(&[(0, 2, 10), (0, 5, 1), (2, 4, 20), (2, 5, 2), (4, 5, 3)]);
     let problem = problem(6, (0, 4), steps, diagram(3, &[(3, 1, 0), (0, 0, 2)]));
-    let cost = [(3, 0), (10, 10), (18, 30), (21, 33)];
+    let cost = of_ticks(&[(3, 0), (10, 10), (18, 30), (21, 33)]);
     writes(&problem, &Wanted { cost: &cost, log: &[3, 10, 18], plan: Some(&[0, 2]) });
 }
 
@@ -205,7 +57,7 @@ fn two_links() -> Vec<Step> {
 fn every_inner_node_of_a_row() {
     let rules = diagram(4, &[(4, 0, 1), (4, 1, 0), (1, 3, 2)]);
     let problem = problem(3, (0, 2), two_links(), rules);
-    let cost = [(4, 0), (7, 2), (8, 4), (9, 1), (11, 18), (12, 10), (13, 9)];
+    let cost = of_ticks(&[(4, 0), (7, 2), (8, 4), (9, 1), (11, 18), (12, 10), (13, 9)]);
     writes(&problem, &Wanted { cost: &cost, log: &[4, 9, 13], plan: Some(&[0, 3]) });
 }
 
@@ -215,7 +67,7 @@ fn every_inner_node_of_a_row() {
 #[test]
 fn without_a_plan() {
     let problem = problem(3, (0, 2), two_links(), diagram(3, &[(4, 0, 1), (3, 0, 2)]));
-    let cost = [(3, 0), (7, 1), (10, 9)];
+    let cost = of_ticks(&[(3, 0), (7, 1), (10, 9)]);
     writes(&problem, &Wanted { cost: &cost, log: &[3, 7, 10], plan: None });
 }
 
@@ -223,13 +75,14 @@ fn without_a_plan() {
 /// 1 leads from each stage to the next.
 #[test]
 fn a_way_through_256_rows() {
-    let links: Vec<Step> = (0..255).map(|from| Step { from, to: from + 1, cost: 1 }).collect();
+    let links: Vec<(u16, u16, u32)> = (0..255).map(|from| (from, from + 1, 1)).collect();
     let ways: [(u16, u16); 6] = [(0, 255), (0, 254), (0, 128), (1, 255), (128, 255), (254, 255)];
     for (start, end) in ways {
-        let problem = problem(256, (start, end), links.clone(), diagram(1, &[]));
+        let problem = problem(256, (start, end), steps(&links), diagram(1, &[]));
         let reached = start..256;
         let cost: Vec<(usize, u32)> =
             reached.map(|stage| (2 * usize::from(stage) + 1, u32::from(stage - start))).collect();
+        let cost = of_ticks(&cost);
         let log: Vec<u32> = (start..=end).map(|stage| 2 * u32::from(stage) + 1).collect();
         let plan: Vec<u16> = (start..end).collect();
         writes(&problem, &Wanted { cost: &cost, log: &log, plan: Some(&plan) });
@@ -239,7 +92,7 @@ fn a_way_through_256_rows() {
 /// Pair 511 alone: stage 255 at node 1. It is the goal, or the end lies before it.
 #[test]
 fn the_start_in_the_last_row() {
-    let cost = [(511, 0)];
+    let cost = of_ticks(&[(511, 0)]);
     let here = problem(256, (255, 255), steps(&[(0, 255, 1)]), diagram(1, &[]));
     writes(&here, &Wanted { cost: &cost, log: &[511], plan: Some(&[]) });
     let back = problem(256, (255, 0), steps(&[(0, 255, 1)]), diagram(1, &[]));
@@ -250,11 +103,11 @@ fn the_start_in_the_last_row() {
 /// asks about the last step, which leaves stage 127; nothing leads there.
 #[test]
 fn a_row_across_65536() {
-    let mut all = steps(&[(0, 128, 7)]);
-    all.extend(vec![Step { from: 127, to: 128, cost: 1 }; 509]);
+    let mut all = vec![(0, 128, 7)];
+    all.extend(vec![(127, 128, 1); 509]);
     let nodes: Vec<(u16, u16, u16)> = (2..=510).map(|node| (node - 1, 1, 0)).collect();
-    let problem = problem(129, (0, 128), all, diagram(510, &nodes));
-    let cost = [(510, 0), (65_918, 7)];
+    let problem = problem(129, (0, 128), steps(&all), diagram(510, &nodes));
+    let cost = of_ticks(&[(510, 0), (65_918, 7)]);
     writes(&problem, &Wanted { cost: &cost, log: &[510, 65_918], plan: Some(&[0]) });
 }
 
@@ -262,7 +115,7 @@ fn a_row_across_65536() {
 /// asks about step 4: then step 7 must come (node 2), else step 6 is judged by node 510. The nodes
 /// from 2 to 509 want one of the steps 7 to 514 each, which leave stage 254; nothing leads there.
 fn full_size(judges_step_6: (u16, u16)) -> Problem {
-    let mut all = steps(&[
+    let mut all = vec![
         (0, 127, 1),
         (0, 128, 3),
         (127, 128, 1),
@@ -270,13 +123,13 @@ fn full_size(judges_step_6: (u16, u16)) -> Problem {
         (128, 255, 20),
         (128, 255, 30),
         (128, 255, 40),
-    ]);
-    all.extend(vec![Step { from: 254, to: 255, cost: 5 }; 508]);
+    ];
+    all.extend(vec![(254, 255, 5); 508]);
     let mut nodes: Vec<(u16, u16, u16)> = (2..=509).map(|node| (node + 5, 0, 1)).collect();
     let (lo, hi) = judges_step_6;
     nodes.push((6, lo, hi));
     nodes.push((4, 510, 2));
-    problem(256, (0, 255), all, diagram(511, &nodes))
+    problem(256, (0, 255), steps(&all), diagram(511, &nodes))
 }
 
 /// Step 6 must not come. The ways stand at node 511 at stage 127 (pair 65,535, cost 1), at 128 (pair
@@ -285,7 +138,14 @@ fn full_size(judges_step_6: (u16, u16)) -> Problem {
 /// of stages 0, 127, 128, 255: 12, 11, 10, 0, of node 511: 0. So the sums up to 131,071 are 12.
 #[test]
 fn up_to_pair_131071() {
-    let cost = [(511, 0), (65_535, 1), (66_047, 2), (131_071, 12), (130_562, 22), (131_070, 32)];
+    let cost = of_ticks(&[
+        (511, 0),
+        (65_535, 1),
+        (66_047, 2),
+        (131_071, 12),
+        (130_562, 22),
+        (131_070, 32),
+    ]);
     let log = [511, 65_535, 66_047, 131_071];
     let wanted = Wanted { cost: &cost, log: &log, plan: Some(&[0, 2, 3]) };
     writes(&full_size((1, 0)), &wanted);
@@ -296,7 +156,7 @@ fn up_to_pair_131071() {
 /// 131,070: 32 + 40, 130,561: 42.
 #[test]
 fn several_pairs_of_the_last_row_are_settled() {
-    let cost = [
+    let cost = of_ticks(&[
         (511, 0),
         (65_535, 1),
         (66_047, 2),
@@ -304,7 +164,7 @@ fn several_pairs_of_the_last_row_are_settled() {
         (130_562, 22),
         (131_070, 32),
         (130_561, 42),
-    ];
+    ]);
     let log = [511, 65_535, 66_047, 130_562, 131_071, 130_561];
     let wanted = Wanted { cost: &cost, log: &log, plan: Some(&[0, 2, 6]) };
     writes(&full_size((0, 1)), &wanted);

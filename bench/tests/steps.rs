@@ -18,7 +18,8 @@ const PAST_NUMBERS: u32 = 12;
 type Values = (u16, u16, u32);
 
 /// Behind a step from 1 to 2 in a chart of four stages.
-const SOUND: [Values; 4] = [(1, 2, 0), (1, 3, 1_000_000), (2, 3, 999_999), (1, 2, 5)];
+const SOUND: [Values; 6] =
+    [(1, 2, 0), (1, 3, 1_000_000), (2, 3, 999_999), (1, 2, 999_951), (1, 2, 999_950), (1, 2, 5)];
 /// 10 alone: from not below to, to not below the stage count, or both.
 const TEN: [Values; 18] = [
     (1, 1, 5),
@@ -43,25 +44,49 @@ const TEN: [Values; 18] = [
 /// A from below that of the step before alone.
 const FALLING: [Values; 3] = [(0, 1, 5), (0, 2, 1_000_000), (0, 3, 0)];
 /// 11 alone.
-const ELEVEN: [Values; 7] = [
+const ELEVEN: [Values; 13] = [
     (1, 2, 1_000_001),
+    (1, 2, 1_000_049),
+    (1, 3, 1_000_050),
+    (2, 3, 1_000_051),
     (1, 2, 1_048_576),
     (1, 3, 16_777_216),
     (2, 3, 16_777_221),
     (2, 3, 2_147_483_647),
     (1, 2, 2_147_483_648),
+    (1, 3, 4_294_967_246),
+    (1, 2, 4_294_967_247),
+    (2, 3, 4_294_967_248),
     (1, 3, 4_294_967_295),
 ];
 /// 10 and a falling from.
 const TEN_FALLING: [Values; 4] = [(0, 0, 5), (0, 4, 5), (0, 256, 5), (0, 65_535, 5)];
 /// 10 and 11.
-const TEN_ELEVEN: [Values; 4] =
-    [(1, 1, 1_000_001), (2, 1, u32::MAX), (1, 4, 1_000_001), (1, 65_535, 1 << 31)];
+const TEN_ELEVEN: [Values; 6] = [
+    (1, 1, 1_000_001),
+    (2, 1, u32::MAX),
+    (1, 4, 1_000_001),
+    (1, 65_535, 1 << 31),
+    (2, 2, 1_000_049),
+    (1, 4, 4_294_967_247),
+];
 /// A falling from and 11.
-const FALLING_ELEVEN: [Values; 3] = [(0, 1, 1_000_001), (0, 3, u32::MAX), (0, 2, 16_777_216)];
+const FALLING_ELEVEN: [Values; 5] = [
+    (0, 1, 1_000_001),
+    (0, 3, u32::MAX),
+    (0, 2, 16_777_216),
+    (0, 1, 1_000_049),
+    (0, 2, 4_294_967_247),
+];
 /// All three.
-const ALL: [Values; 4] =
-    [(0, 0, 1_000_001), (0, 4, u32::MAX), (0, 65_535, 16_777_216), (0, 65_535, 1 << 31)];
+const ALL: [Values; 6] = [
+    (0, 0, 1_000_001),
+    (0, 4, u32::MAX),
+    (0, 65_535, 16_777_216),
+    (0, 65_535, 1 << 31),
+    (0, 0, 1_000_049),
+    (0, 4, 4_294_967_247),
+];
 
 /// Every bad step with its number: 10 comes before a falling from, and that before 11.
 fn bad_steps() -> Vec<(Values, u32)> {

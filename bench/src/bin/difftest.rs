@@ -209,14 +209,15 @@ fn replay(folder: &Path, planners: &[Box<dyn Planner>]) -> ExitCode {
     }
 }
 
-/// Runs this program with each sabotage, since some of them end it. Wrong readings show in files that
-/// come behind the corners.
+/// Runs this program with each sabotage, since some of them end it. Wrong costs show where rounding
+/// decides, wrong readings in files that come behind the corners.
 fn sabotage_all() -> ExitCode {
-    let corners = Cases::new(FIXED_SEED).corners();
+    let cases = Cases::new(FIXED_SEED);
     let searches = sabotage::searches().map(|sabotage| (sabotage, 0));
-    let readings = sabotage::readings().map(|sabotage| (sabotage, corners));
+    let ticks = sabotage::ticks().map(|sabotage| (sabotage, cases.first_of_ticks()));
+    let readings = sabotage::readings().map(|sabotage| (sabotage, cases.corners()));
     let mut missed = 0;
-    for (sabotage, first) in searches.chain(readings) {
+    for (sabotage, first) in searches.chain(ticks).chain(readings) {
         match caught(sabotage.name, first) {
             Ok(line) => println!("{}: {line}", sabotage.name),
             Err(text) => {

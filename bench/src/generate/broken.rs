@@ -1,6 +1,6 @@
 //! Broken files: every cut, every limit, every order of faults, and random damage.
 
-use super::Random;
+use super::{costs, Random};
 use crate::files::{
     chart_head_field, diagram_head_field, node_field, step_field, write_chart, write_diagram,
     Chart, Diagram, Node, Problem, Step, HEADER, MAX_NODES, MAX_STEPS,
@@ -100,18 +100,6 @@ fn spoiled_lengths(field: &[u8]) -> Fields {
 
 /// Each value of a field set to each number near a limit; a step's cost to those near its own.
 fn spoiled_values(field: &[u8], numbers: &[u16]) -> Fields {
-    const COSTS: [u32; 10] = [
-        0,
-        1,
-        999_999,
-        1_000_000,
-        1_000_001,
-        0x0100_0000,
-        0x0110_0000,
-        0x7fff_ffff,
-        0x8000_0000,
-        0xffff_ffff,
-    ];
     let is_step = field[0] == 0x02;
     let two_byte_end = if is_step { HEADER + 4 } else { field.len() };
     let mut spoiled: Fields = (HEADER..two_byte_end)
@@ -120,8 +108,8 @@ fn spoiled_values(field: &[u8], numbers: &[u16]) -> Fields {
         .map(|(at, number)| with_bytes(field, at, &number.to_le_bytes()))
         .collect();
     if is_step {
-        let costs = COSTS.iter().map(|cost| with_bytes(field, HEADER + 4, &cost.to_le_bytes()));
-        spoiled.extend(costs);
+        let costs = costs::SOUND.iter().chain(&costs::DEAR);
+        spoiled.extend(costs.map(|cost| with_bytes(field, HEADER + 4, &cost.to_le_bytes())));
     }
     spoiled
 }

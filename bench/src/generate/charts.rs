@@ -1,5 +1,6 @@
 //! Random charts within the limits.
 
+use super::costs::{near_ticks, of_some_ticks, of_ticks, MOST_TICKS, SOUND};
 use super::Random;
 use crate::files::{Chart, Step, MAX_COST};
 
@@ -8,15 +9,19 @@ use crate::files::{Chart, Step, MAX_COST};
 pub enum Costs {
     Zero,
     Equal,
-    /// 0 to 3: many ties.
+    /// 0 to 3 ticks: many ties.
     Few,
     MostlyZero,
     /// Anything up to the limit.
     Wide,
-    /// The smallest and the largest ones.
+    /// The smallest and the largest ones, and those beside them.
     Limits,
-    /// The largest one everywhere.
+    /// Rounded, the largest one everywhere.
     Largest,
+    /// Different ones, rounded all the same.
+    Alike,
+    /// Few ticks, a nanosecond more and less.
+    NearTicks,
 }
 
 /// How far the steps go.
@@ -58,7 +63,7 @@ impl Shape {
             steps: random.between(0, steps),
             costs: random.pick(&[
                 Zero, Equal, Few, Few, Few, MostlyZero, MostlyZero, Wide, Wide, Wide, Limits,
-                Largest,
+                Largest, Alike, NearTicks, NearTicks,
             ]),
             spans: random.pick(&[Spans::Next, Spans::Next, Spans::Short, Spans::Any, Spans::Hubs]),
             ends: match random.below(20) {
@@ -127,12 +132,17 @@ impl Shape {
         match self.costs {
             Costs::Zero => 0,
             Costs::Equal => equal,
-            Costs::Few => random.between(0, 3) as u32,
+            Costs::Few => of_some_ticks(random, 0, 3),
             Costs::MostlyZero if random.percent(70) => 0,
-            Costs::MostlyZero => random.between(1, 20) as u32,
+            Costs::MostlyZero => of_some_ticks(random, 1, 20),
             Costs::Wide => random.between(0, MAX_COST as usize) as u32,
-            Costs::Limits => random.pick(&[0, 1, MAX_COST - 1, MAX_COST]),
-            Costs::Largest => MAX_COST,
+            Costs::Limits => random.pick(&SOUND),
+            Costs::Largest => of_ticks(random, MOST_TICKS),
+            Costs::Alike => of_ticks(random, equal as usize),
+            Costs::NearTicks => {
+                let ticks = random.between(0, 6);
+                near_ticks(random, ticks)
+            }
         }
     }
 }

@@ -1,6 +1,7 @@
 //! Charts and diagrams in the corners of the limits: dearest plans, largest sums, most reached and
 //! settled pairs, longest rows of nodes.
 
+use super::costs::{of_some_ticks, of_ticks, MOST_TICKS};
 use super::diagrams::random_diagram;
 use super::Random;
 use crate::files::{
@@ -56,7 +57,7 @@ pub fn any(random: &mut Random) -> Problem {
 
 const YES: u16 = 1;
 
-/// Steps from each stage to the next at the largest cost: the plan takes one of each stage.
+/// Steps from each stage to the next, rounded all at the largest cost: the plan takes one of each stage.
 pub fn dearest_plan(random: &mut Random, size: Size) -> Problem {
     Problem { chart: dear_chart(random, size), diagram: Diagram { root: YES, nodes: Vec::new() } }
 }
@@ -70,7 +71,7 @@ fn dear_and_ruled(random: &mut Random, size: Size) -> Problem {
 
 fn dear_chart(random: &mut Random, size: Size) -> Chart {
     let more = random.below(MAX_STEPS + 2 - size.stages);
-    linked(random, size, more, |_| MAX_COST)
+    linked(random, size, more, |random| of_ticks(random, MOST_TICKS))
 }
 
 /// A step from each stage to the next, and that many more such steps.
@@ -132,7 +133,7 @@ fn all_from(nodes: &mut Vec<Node>, first: usize, past: usize) -> u16 {
 }
 
 /// Every leaf stands at every stage, and says yes.
-fn most_reached(random: &mut Random, size: Size) -> Problem {
+pub fn most_reached(random: &mut Random, size: Size) -> Problem {
     fan(random, size, Fan { leaves_say: YES, ..FAN })
 }
 
@@ -190,7 +191,7 @@ fn fan(random: &mut Random, size: Size, fan: Fan) -> Problem {
 
 fn fan_chart(random: &mut Random, size: Size, parallel: usize, fan: Fan) -> Chart {
     let last = size.last();
-    // No way but the direct one costs a million.
+    // No way but the direct one costs a million, rounded or not.
     let most = 900_000 / size.stages;
     let first = if fan.star { 9 } else { most };
     let mut cost = |most: usize| random.between(0, most) as u32;
@@ -233,7 +234,7 @@ fn row(random: &mut Random, size: Size) -> Problem {
 /// As many steps as there may be, to the next stage, of few different costs.
 fn full_chart(random: &mut Random, size: Size) -> Chart {
     let more = MAX_STEPS + 1 - size.stages;
-    linked(random, size, more, |random| random.between(0, 9) as u32)
+    linked(random, size, more, |random| of_some_ticks(random, 0, 9))
 }
 
 /// One node for each of the rising steps; the child that doesn't continue the row is a constant or

@@ -3,15 +3,13 @@
 //! with faults in their values.
 
 use super::broken::TAGS;
-use super::{remarks, steps, Random};
+use super::{costs, remarks, steps, Random};
 use crate::files::{two_bytes, HEADER};
 
 /// Numbers that limits speak of, and their neighbours.
 const NUMBERS: [u16; 20] = [
     0, 1, 2, 3, 4, 6, 8, 9, 254, 255, 256, 257, 509, 511, 512, 1_023, 1_024, 0x4240, 0x7fff, 0xffff,
 ];
-const COSTS: [u32; 8] =
-    [0, 1, 999_999, 1_000_000, 1_000_001, 0x0100_0000, 0x8000_0000, 0xffff_ffff];
 const LENGTHS: [u16; 10] = [0, 1, 2, 5, 6, 7, 8, 10, 256 + 8, 0xffff];
 
 /// A file with one to four mutations; `other` is a file to take fields from.
@@ -70,7 +68,8 @@ fn change_number(random: &mut Random, bytes: &mut [u8]) {
     }
     let at = HEADER + 2 * random.below((body.len() - HEADER) / 2);
     if at == HEADER + 4 && body.len() == HEADER + 8 {
-        body[at..].copy_from_slice(&random.pick(&COSTS).to_le_bytes());
+        let costs = random.pick(&[&costs::SOUND[..], &costs::DEAR]);
+        body[at..].copy_from_slice(&random.pick(costs).to_le_bytes());
         return;
     }
     let known = two_bytes(body, at);

@@ -3,7 +3,7 @@
 
 use std::ops::Range;
 
-use crate::files::{Chart, Diagram, Node, Problem, Step};
+use crate::files::{Chart, Diagram, Node, Problem, Step, TICK};
 
 /// Stage counts above 1, and numbers N of node references.
 const STAGES: [u16; 5] = [2, 3, 128, 255, 256];
@@ -85,14 +85,14 @@ impl Route {
         Problem { chart, diagram: self.diagram(references) }
     }
 
-    /// No two steps have the same cost.
+    /// No two steps have the same cost when it is rounded.
     fn steps(&self) -> Vec<Step> {
         let mut steps = Vec::new();
         for (link, ends) in self.stops.windows(2).enumerate() {
             let parallel = if link == self.fan { FAN } else { 1 };
             for at in 0..parallel {
                 let to = if self.stray && at == FAN - 1 { ends[0] + 1 } else { ends[1] };
-                steps.push(Step { from: ends[0], to, cost: 10 + 3 * steps.len() as u32 });
+                steps.push(Step { from: ends[0], to, cost: cost(steps.len() as u32) });
             }
         }
         steps
@@ -110,6 +110,11 @@ impl Route {
         nodes.push(Node { step: first + 1, lo, hi: references - 2 });
         Diagram { root: references - 1, nodes }
     }
+}
+
+/// The cost of a step: three ticks more than the one before has, and less than a tick to round up.
+fn cost(step: u32) -> u32 {
+    TICK * (10 + 3 * step) - step % TICK
 }
 
 /// So many nodes over these steps, no two alike and none with equal children.

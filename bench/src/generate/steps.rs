@@ -2,6 +2,7 @@
 //! field itself, and with other fields at fault behind them.
 
 use super::broken::{Fields, Files};
+use super::costs::DEAR;
 use super::mutate::fields;
 use super::Random;
 use crate::files::{
@@ -9,8 +10,6 @@ use crate::files::{
     HEADER, LONGEST_FILE, MAX_COST, MAX_STEPS, STEP,
 };
 
-/// Costs beyond the limit; most would pass if some of their bytes or a sign were left out.
-const DEAR: [u32; 6] = [MAX_COST + 1, 1 << 20, 1 << 24, (1 << 31) - 1, 1 << 31, u32::MAX];
 const WRONG_LENGTHS: [u16; 6] = [0, 7, 9, 10, 256 + 8, u16::MAX];
 /// Bytes of a step field.
 pub const WHOLE: usize = HEADER + STEP.length;
@@ -24,7 +23,7 @@ const BEFORE: Step = Step { from: 2, to: 3, cost: 5 };
 pub fn systematic() -> Vec<Files> {
     let froms = [0, 1, 2, 3, 4, 5, 256, 258, 65_535];
     let tos = [0, 1, 2, 3, 4, 5, 6, 259, 65_535];
-    let costs = [5, MAX_COST, DEAR[0], DEAR[1], DEAR[2], DEAR[4], DEAR[5]];
+    let costs = [&[5, MAX_COST], &DEAR[..]].concat();
     let all = each_step(&froms, &tos, &costs);
     let pairs = each_step(&[1, 2, 3], &[0, 1, 2, 3, 5, 65_535], &[5, MAX_COST, DEAR[0], u32::MAX]);
     let few = each_step(&[1, 2], &[1, 3, 5], &[5, DEAR[0]]);
@@ -120,6 +119,12 @@ pub fn step_places(chart: &[u8]) -> Vec<usize> {
     let is_step =
         |(from, to): &(usize, usize)| to - from == WHOLE && chart[*from..].starts_with(&header);
     fields(chart).into_iter().skip(1).filter(is_step).map(|(from, _)| from).collect()
+}
+
+/// The costs of these steps as the file has them.
+pub fn file_costs(chart: &[u8]) -> Vec<u32> {
+    let bodies = step_places(chart).into_iter().map(|place| &chart[place + HEADER..place + WHOLE]);
+    bodies.map(|body| step_of(body).cost).collect()
 }
 
 /// Gives a step that was sound one to three faults.

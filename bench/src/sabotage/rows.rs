@@ -58,7 +58,7 @@ pub(super) struct Rows {
     cleared: fn(Size) -> usize,
 }
 
-const SOUND: Rows = Rows {
+pub(super) const SOUND: Rows = Rows {
     place: Size::pair,
     back: None,
     logged: None,
@@ -220,7 +220,17 @@ impl Rows {
         lent: &mut SweepSlices,
     ) -> Option<Answer> {
         let problem = accepted(chart, rules, &lent.work_lengths(), lent.plan.len())?;
-        Some(Search::new(self, &problem).sweep(&mut lent.cost, &mut lent.plan))
+        Some(self.sweep_over(&problem, &mut lent.cost, &mut lent.plan))
+    }
+
+    /// A sweep over a problem, in slices that are enough.
+    pub(super) fn sweep_over(
+        &self,
+        problem: &Problem,
+        cost: &mut [u32],
+        plan: &mut [u16],
+    ) -> Answer {
+        Search::new(self, problem).sweep(cost, plan)
     }
 
     /// None where the files or the slices are refused.
@@ -231,11 +241,24 @@ impl Rows {
         lent: &mut GuidedSlices,
     ) -> Option<Answer> {
         let problem = accepted(chart, rules, &lent.work_lengths(), lent.plan.len())?;
-        Some(Guided::new(Search::new(self, &problem)).run(&mut lent.log, &mut lent.plan))
+        let estimates = Facts::by_dynamic_programming(&problem);
+        Some(self.guided_over(&problem, estimates, &mut lent.log, &mut lent.plan))
+    }
+
+    /// A guided search over a problem, in slices that are enough, by the estimates among some facts.
+    pub(super) fn guided_over(
+        &self,
+        problem: &Problem,
+        estimates: Facts,
+        log: &mut [u32],
+        plan: &mut [u16],
+    ) -> Answer {
+        Guided::new(Search::new(self, problem), estimates).run(log, plan)
     }
 }
 
-fn accepted(chart: &[u8], rules: &[u8], work: &[usize], plan: usize) -> Option<Problem> {
+/// The problem of files and slices that pass.
+pub(super) fn accepted(chart: &[u8], rules: &[u8], work: &[usize], plan: usize) -> Option<Problem> {
     read_both(chart, rules).ok().filter(|problem| !too_short(problem, work, plan))
 }
 
@@ -334,7 +357,7 @@ impl<'a> Search<'a> {
 
 struct Guided<'a> {
     search: Search<'a>,
-    facts: Facts,
+    estimates: Facts,
     /// By place: the least cost so far.
     cost: Vec<u32>,
     settled: Vec<bool>,
@@ -343,11 +366,11 @@ struct Guided<'a> {
 }
 
 impl<'a> Guided<'a> {
-    fn new(search: Search<'a>) -> Guided<'a> {
+    fn new(search: Search<'a>, estimates: Facts) -> Guided<'a> {
         let pairs = search.size.pairs();
         Guided {
-            facts: Facts::by_dynamic_programming(search.problem),
             search,
+            estimates,
             cost: vec![UNREACHED; pairs],
             settled: vec![false; pairs],
             open: BTreeSet::new(),
@@ -388,7 +411,7 @@ impl<'a> Guided<'a> {
 
     fn open(&mut self, stage: u16, node: u16, cost: u32, via: Option<(usize, usize)>) {
         let right = self.search.size.pair(stage.into(), node.into());
-        let Some(rest) = self.facts.estimate(right) else { return };
+        let Some(rest) = self.estimates.estimate(right) else { return };
         let pair = self.search.at(stage, node.into());
         if !self.settled[pair] && cost < self.cost[pair] {
             self.cost[pair] = cost;
@@ -400,12 +423,9 @@ impl<'a> Guided<'a> {
 
 #[cfg(test)]
 mod tests {
-    use super::super::Spoiled;
+    use super::super::shows;
     use super::*;
     use crate::cases::{Case, Cases};
-    use crate::compare::run;
-    use crate::planner::Planner;
-    use crate::same::Same;
 
     static SOUND_SWEEP: Sabotage = in_sweep("none", SOUND);
     static SOUND_GUIDED: Sabotage = in_guided("none", SOUND);
@@ -415,13 +435,6 @@ mod tests {
         let cases = Cases::new(31);
         let corners = (0..cases.corners()).rev().map(|number| cases.case(number));
         corners.filter(|case| case.kind == "rows").collect()
-    }
-
-    /// Whether a case shows a sabotage.
-    fn shows(case: &Case, sabotage: &'static Sabotage) -> bool {
-        let planner = Spoiled { planner: Box::new(Same), sabotage };
-        let planners: [Box<dyn Planner>; 1] = [Box::new(planner)];
-        run(case, &planners).is_err()
     }
 
     #[test]

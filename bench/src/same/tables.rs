@@ -7,6 +7,8 @@ const STEPS: usize = 1_024;
 const NODES: usize = 512;
 const STAGES: usize = 256;
 const MAX_COST: u32 = 1_000_000;
+/// Costs are rounded up to multiples of this.
+const TICK: u32 = 50;
 
 /// The most bytes of a file.
 const LONGEST: usize = 32_768;
@@ -125,7 +127,7 @@ impl Tables {
             return Err(11);
         }
         self.ends[at] = u32::from(to) << STAGE_BITS | u32::from(from);
-        self.cost[at] = cost;
+        self.cost[at] = cost.next_multiple_of(TICK);
         Ok(from)
     }
 
