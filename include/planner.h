@@ -58,8 +58,8 @@ enum {
  * room for text beside steps and nodes. */
 #define PLANNER_LONGEST_FILE 32768
 
-/* A step is held for whole ticks: its cost, wherever one is told, is the one in the file rounded up to a multiple of this
- * many ns. */
+/* The ns of a tick. A step takes whole ticks: wherever a cost is told, it is the number in the file rounded up to a
+ * multiple of this. */
 #define PLANNER_TICK 50
 
 /* A cost slice's entry at a pair that is not reached. */

@@ -142,6 +142,12 @@ class Planned:
             n = self.inner(n)[1]
         return n
 
+    def is_goal(self, pair):
+        return pair[0] == self.chart.end and self.finish(pair[1]) == 1
+
+    def ends_at(self, way):
+        return self.chart.steps[way[-1]][1] if way else self.chart.start
+
     def stands(self, way):
         n = self.diagram.root
         for e in way:
@@ -191,7 +197,7 @@ class Planned:
     def settled(self, cost, least):
         """How many pairs the guided search settles: those with a sum below the cost, and the pairs on the way to the goal pair."""
         possible = self.possible(cost, least)
-        [goal] = [p for p in possible if p[0] == self.chart.end and self.finish(p[1]) == 1]
+        [goal] = [p for p in possible if self.is_goal(p)]
         chain = [goal]
         while chain[-1] != (self.chart.start, self.diagram.root):
             [previous] = self.before(chain[-1], least)
@@ -204,16 +210,20 @@ class Planned:
         return [way for stage, way in self.ways() if self.legal(stage, way)]
 
     def allows(self, lines):
-        """Lines for a case in which the plan is free: a cheapest plan, and a settled count between what it needs and what may be settled."""
+        """Whether these are lines for a case in which the plan or the settled count is free: of a cheapest plan, and of a count between what
+        must be settled, the goal pair at the end included, and what may be."""
         plans = self.plans()
         cost, plan = int(lines[0].split()[1]), tuple(int(line.split()[1]) for line in lines[1:-1])
         _, settled, _, reached = lines[-1].split()
         cheapest = [way for way in plans if self.cost(way) == min(map(self.cost, plans))]
         least = self.reached()
         possible = self.possible(cost, least)
-        fewest = len({p for p in possible if possible[p] < cost} | {(self.chart.end, self.stands(plan))})
-        return (len(cheapest) > 1 and plan in cheapest and cost == self.cost(plan) and int(reached) == len(least)
-                and max(fewest, len(plan) + 1) <= int(settled) <= len(possible))
+        on_the_way = {(self.ends_at(plan[:k]), self.stands(plan[:k])) for k in range(len(plan))}
+        fewest = len({p for p in possible if possible[p] < cost} | on_the_way) + 1
+        most = len([p for p in possible if not self.is_goal(p)]) + 1
+        told = [f"cost {cost}"] + [f"step {e}" for e in plan] + [f"settled {settled} reached {reached}"]
+        return (lines == told and plan in cheapest and cost == self.cost(plan) and int(reached) == len(least)
+                and fewest <= int(settled) <= most and (len(cheapest) > 1 or fewest < most))
 
     def lines(self):
         assert self.chart.stages * self.size <= MOST_PAIRS
@@ -278,7 +288,7 @@ def all_of(conditions):
 
 
 FULL, TOO_WIDE = forked_chart(128), forked_chart(129)
-LAST = (2, 11, 20, 29, 38, 41)  # in a layered chart 5 × 3 the last step of each stage that it leads to
+LAST = (2, 11, 20, 29, 38, 41)  # in a layered chart 5 × 3 the plan that leaves each stage by its last step
 
 
 def dearer(chart):
@@ -329,8 +339,8 @@ CASES = [
     ("257 stages", head(257, 0, 4), RULES, "refused 4 file 1 place 0"),
     ("the start is no stage", head(5, 5, 4), RULES, "refused 4 file 1 place 0"),
     ("the end is no stage", head(5, 0, 5), RULES, "refused 4 file 1 place 0"),
-    ("cost 1,000,001", *bad_chart(STEP_0 + step(0, 1, 1000001), "refused 11 file 1 place 20")),
-    ("cost 1,000,000 passes", Chart(2, 0, 1, ((0, 1, 1000000),)), ANYTHING),
+    ("value 1,000,001", *bad_chart(STEP_0 + step(0, 1, 1000001), "refused 11 file 1 place 20")),
+    ("value 1,000,000 passes", Chart(2, 0, 1, ((0, 1, 1000000),)), ANYTHING),
     ("a step to its own stage", *bad_chart(step(1, 1, 40), "refused 10 file 1 place 9")),
     ("a step past the stages", *bad_chart(step(0, 5, 40), "refused 10 file 1 place 9")),
     ("a step from an earlier stage", *bad_chart(step(1, 2, 40) + step(0, 1, 40), "refused 5 file 1 place 20")),
@@ -377,16 +387,16 @@ CASES = [
     ("a chart of 40,000 bytes, no stages", head(0, 0, 0) + bytes(39991), RULES, "refused 9 file 1 place 32768"),
     ("32,768 bytes of 0", bytes(LONGEST_FILE), RULES, "refused 2 file 1 place 0"),
     ("a faulty chart before a diagram of 40,000 bytes", head(5, 0, 4) + remark(tag=0x7F), bytes(40000), "refused 2 file 1 place 9"),
-    ("cost 16,777,216", *bad_chart(step(0, 1, 16777216), "refused 11 file 1 place 9")),
-    ("cost 4,294,967,295", *bad_chart(step(0, 1, 4294967295), "refused 11 file 1 place 9")),
+    ("value 16,777,216", *bad_chart(step(0, 1, 16777216), "refused 11 file 1 place 9")),
+    ("value 4,294,967,295", *bad_chart(step(0, 1, 4294967295), "refused 11 file 1 place 9")),
     ("a step to an earlier stage", *bad_chart(step(2, 1, 40), "refused 10 file 1 place 9")),
     ("a step's own stages before the step before it", *bad_chart(step(2, 3, 40) + step(1, 1, 40), "refused 10 file 1 place 20")),
     ("a step past the stages from an earlier stage", *bad_chart(step(2, 3, 40) + step(1, 5, 40), "refused 10 file 1 place 20")),
-    ("a step's own stages before its cost", *bad_chart(STEP_0 + step(1, 1, 1000001), "refused 10 file 1 place 20")),
-    ("a step's stages against the count before its cost", *bad_chart(STEP_0 + step(1, 5, 1000001), "refused 10 file 1 place 20")),
-    ("the step before it before its cost", *bad_chart(step(2, 3, 40) + step(1, 2, 1000001), "refused 5 file 1 place 20")),
+    ("a step's own stages before its value", *bad_chart(STEP_0 + step(1, 1, 1000001), "refused 10 file 1 place 20")),
+    ("a step's stages against the count before its value", *bad_chart(STEP_0 + step(1, 5, 1000001), "refused 10 file 1 place 20")),
+    ("the step before it before its value", *bad_chart(step(2, 3, 40) + step(1, 2, 1000001), "refused 5 file 1 place 20")),
     ("the 1,025th step before its stages", *bad_chart(STEP_0 * 1024 + step(1, 1, 40), "refused 5 file 1 place 11273")),
-    ("the 1,025th step before its cost", *bad_chart(STEP_0 * 1024 + step(0, 1, 1000001), "refused 5 file 1 place 11273")),
+    ("the 1,025th step before its value", *bad_chart(STEP_0 * 1024 + step(0, 1, 1000001), "refused 5 file 1 place 11273")),
     ("the 1,025th step of 9 bytes", *bad_chart(STEP_0 * 1024 + field(0x02, bytes(9)), "refused 3 file 1 place 11273")),
     ("the 1,025th step is cut", *bad_chart(STEP_0 * 1024 + step(1, 1, 40)[:-1], "refused 1 file 1 place 11273")),
     ("the 1,024th step to its own stage", *bad_chart(STEP_0 * 1023 + step(1, 1, 40), "refused 10 file 1 place 11262")),
@@ -398,7 +408,7 @@ CASES = [
     ("values 1 to 42 that all cost 50", layered_chart(5, 3), ANYTHING, ["cost 300"] + [f"step {e}" for e in LAST] + ["settled 7 reached 17"]),
 ]
 
-# what docs/REFERENCE.md says of its example, by the case's title
+# lines worked out by hand, by the case's title
 STATED = {
     "the example's chart": EXAMPLE_LINES,
     "one stage, no steps, root 1": ["cost 0", "settled 1 reached 1"],
@@ -412,6 +422,8 @@ STATED = {
     "value 51": ["cost 100", "step 0", "settled 2 reached 2"],
     "value 999,950": ["cost 999950", "step 0", "settled 2 reached 2"],
     "value 999,951": ["cost 1000000", "step 0", "settled 2 reached 2"],
+    "value 999,999": ["cost 1000000", "step 0", "settled 2 reached 2"],
+    "value 1,000,000 passes": ["cost 1000000", "step 0", "settled 2 reached 2"],
     "values sum up otherwise than costs": ["cost 100", "step 1", "settled 2 reached 4"],
     "the same where the long step is ruled out": ["cost 150", "step 0", "step 2", "step 3", "settled 4 reached 4"],
 }

@@ -121,13 +121,10 @@ class Searched(Planned):
         for stage in range(chart.start, chart.stages):
             for pair in [p for p in self.least if p[0] == stage]:
                 self.relax(pair)
-        ends = {p: c for p, c in self.least.items() if self.goal(p)}
+        ends = {p: c for p, c in self.least.items() if self.is_goal(p)}
         self.best = min(ends.values(), default=None)
         self.plans = sum(self.least_ways[p] for p, c in ends.items() if c == self.best)
         self.compare_with_all_ways()
-
-    def goal(self, pair):
-        return pair[0] == self.chart.end and self.finish(pair[1]) == 1
 
     def follow(self, pair):
         """The pairs that follow from a pair by one step, with the step."""
@@ -160,7 +157,7 @@ class Searched(Planned):
         """The steps of the one cheapest plan, from its end."""
         if self.plans != 1:
             raise Faulty("the plan is free")
-        [pair] = [p for p, c in self.least.items() if self.goal(p) and c == self.best]
+        [pair] = [p for p, c in self.least.items() if self.is_goal(p) and c == self.best]
         steps = []
         while pair != (self.chart.start, self.diagram.root):
             [(pair, step)] = [(p, e) for p in self.least for e, after in self.follow(p)
@@ -185,7 +182,7 @@ class Searched(Planned):
             cost = opened.pop(pair)
             assert cost == self.least[pair]
             settled.append(pair)
-            if self.goal(pair):
+            if self.is_goal(pair):
                 break
             for e, after in self.follow(pair):
                 if after not in settled and self.estimate(after) is not None:

@@ -55,6 +55,6 @@ pub use work::{plan, space_needed, Plan, Work};
 /// after the head, leave room for text beside steps and nodes.
 pub const LONGEST_FILE: usize = 32_768;
 
-/// A step is held for whole ticks: its cost, wherever one is told, is the one in the file rounded up
-/// to a multiple of this many ns.
+/// The ns of a tick. A step takes whole ticks: wherever a cost is told, it is the number in the file
+/// rounded up to a multiple of this.
 pub const TICK: u32 = 50;

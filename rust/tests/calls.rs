@@ -3,14 +3,14 @@
 use planner::lent::{self, Answer, GuidedSlices, Space, SweepSlices, UNREACHED};
 use planner::{plan, refused_field, space_needed, File, Refusal, Work, LONGEST_FILE, TICK};
 
-/// A chart file: stage count, start, end, then from, to and cost of each step, before it is rounded.
+/// A chart file: stage count, start, end, then from, to and value of each step.
 fn chart_file(head: [u16; 3], steps: &[(u16, u16, u32)]) -> Vec<u8> {
     let mut file = vec![0x01, 6, 0];
     file.extend(head.iter().flat_map(|value| value.to_le_bytes()));
-    for (from, to, cost) in steps {
+    for (from, to, value) in steps {
         file.extend([0x02, 8, 0]);
         file.extend([*from, *to].iter().flat_map(|value| value.to_le_bytes()));
-        file.extend(cost.to_le_bytes());
+        file.extend(value.to_le_bytes());
     }
     file
 }
@@ -41,7 +41,7 @@ fn the_plan_of_the_example() {
     assert_eq!((plan.settled, plan.reached), (4, 6));
 }
 
-/// The cost of a chart with one step of this cost in the file.
+/// The cost of a chart with one step of this value.
 fn cost_of(value: u32) -> Result<u32, Refusal> {
     let chart = chart_file([2, 0, 1], &[(0, 1, value)]);
     plan(&chart, &rules_file(1, &[])).map(|plan| plan.cost)
@@ -55,6 +55,18 @@ fn costs_in_whole_ticks() {
     for value in [1_000_001, 1_000_049, u32::MAX - TICK, u32::MAX] {
         assert_eq!(cost_of(value), Err(Refusal::Cost { file: File::Chart, place: 9 }));
     }
+}
+
+#[test]
+fn the_header_has_the_same_numbers() {
+    let header = include_str!("../../include/planner.h");
+    let number = |name: &str| {
+        let line =
+            header.lines().find_map(|line| line.strip_prefix("#define ")?.strip_prefix(name));
+        line.and_then(|number| number.trim().parse().ok())
+    };
+    assert_eq!(number("PLANNER_TICK "), Some(TICK as usize));
+    assert_eq!(number("PLANNER_LONGEST_FILE "), Some(LONGEST_FILE));
 }
 
 #[test]

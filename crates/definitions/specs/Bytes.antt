@@ -37,7 +37,7 @@ stepBytes x = field 2 (bodyOfStep x)
 abbrev pub chartBytes : Chart → List ℕ
 chartBytes c = headBytes (c .stages) (c .start) (c .end) ++ each stepBytes (c .steps)
 
--- and read back as its cost
+-- a step, and a chart, as they are read back: what was written as the value is rounded to the cost
 abbrev pub roundedStep : ChartStep → ChartStep
 roundedStep x = record { from = x .from; to = x .to; cost = rounded (x .cost) }
 

@@ -46,7 +46,7 @@ stepFaults =
     -- none, at each limit
     (judged 1023 (st 2 4 1000000), 0)
     ∷ (judged 0 (st 2 3 0), 0)
-    -- one: the 1,025th; its own stages; the stage count; the step before it; its cost
+    -- one: the 1,025th; its own stages; the stage count; the step before it; its value
     ∷ (judged 1024 (st 2 4 1000000), 5)
     ∷ (judged 1025 (st 2 3 7), 5)
     ∷ (judged 1 (st 3 3 7), 10)
@@ -65,14 +65,14 @@ stepFaults =
     ∷ (judged 1024 (st 2 5 7), 5)
     ∷ (judged 1024 (st 1 2 7), 5)
     ∷ (judged 1024 (st 2 3 1000001), 5)
-    -- its own stages with the stage count, the step before it, its cost
+    -- its own stages with the stage count, the step before it, its value
     ∷ (judged 1 (st 6 5 7), 10)
     ∷ (judged 1 (st 1 1 7), 10)
     ∷ (judged 1 (st 3 3 1000001), 10)
-    -- the stage count with the step before it, its cost
+    -- the stage count with the step before it, its value
     ∷ (judged 1 (st 1 5 7), 10)
     ∷ (judged 1 (st 2 5 1000001), 10)
-    -- the step before it with its cost
+    -- the step before it with its value
     ∷ (judged 1 (st 1 2 1000001), 5)
     -- three and four
     ∷ (judged 1 (st 1 1 1000001), 10)
@@ -84,8 +84,8 @@ pub step-faults-hold : map (λ x. x .0) stepFaults ≡ map (λ x. x .1) stepFaul
 unfolding stepFaults pick stepFault
 step-faults-hold = refl
 
--- mistakes: its stages after the step before it, 10 and 11 exchanged, the cost before its stages and before the step before it, 5 for a cost and for its stages,
--- the 1,025th after its stages and after its cost
+-- mistakes: its stages after the step before it, 10 and 11 exchanged, the value before its stages and before the step before it, 5 for a value and for its stages,
+-- the 1,025th after its stages and after its value
 pub stepMistakes : List (ℕ × ℕ)
 stepMistakes =
     (judged 1 (st 1 1 7), 5)

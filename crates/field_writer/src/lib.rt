@@ -41,12 +41,12 @@ pub fn write_chart_head(out: &mut [u8], at: usize, stages: u16, start: Stage, en
 }
 
 // A step of a chart.
-pub fn write_step(out: &mut [u8], at: usize, from: Stage, to: Stage, cost: u32) -> usize
+pub fn write_step(out: &mut [u8], at: usize, from: Stage, to: Stage, value: u32) -> usize
     requires { ⌜ at + 11 ≤ length (now out) ⌝ }
-    ensures { λ r. ⌜ Appended (now (out .entry)) at (stepBytes (st (from .0) (to .0) cost)) (now (out .exit)) r ⌝ }
+    ensures { λ r. ⌜ Appended (now (out .entry)) at (stepBytes (st (from .0) (to .0) value)) (now (out .exit)) r ⌝ }
 {
     let at = write_start(out, at, 2, 8, from.0, to.0);
-    write_u32(out, at, cost)
+    write_u32(out, at, value)
 }
 
 // A diagram's head.

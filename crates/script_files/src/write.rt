@@ -108,13 +108,13 @@ fn times(a: u64, b: u64) -> u64
 }
 
 // The i-th step of a rule: it leaves stage i / b, at most 254, and goes c + d × (i mod b) further, at most to stage 255;
-// it costs e + f × i, modulo 1,000,001.
+// its value is e + f × i, modulo 1,000,001.
 fn put_ith_step(buf: &mut [u8], at: usize, c: Command, i: u64) -> usize {
     let d = divisor(c.b);
     let from = lesser(i / d, 254);
     let to = lesser(from + cut(c.c) + times(c.d, i % d), 255);
-    let cost = (cut(c.e) + times(c.f, i)) % 1000001;
-    put_field(buf, at, c.letter, from, to, cost)
+    let value = (cut(c.e) + times(c.f, i)) % 1000001;
+    put_field(buf, at, c.letter, from, to, value)
 }
 
 // The i-th node of a rule: it has step 1023 - c × (i / b), lo is d nodes before it, and hi e + f × (i mod b) nodes.
