@@ -343,10 +343,29 @@ impl Planner for Spoiled {
     }
 }
 
-/// Whether a case shows a sabotage.
+/// Which of some sabotages cases show.
 #[cfg(test)]
-fn shows(case: &crate::cases::Case, sabotage: &'static Sabotage) -> bool {
-    let planner = Spoiled { planner: Box::new(crate::same::Same), sabotage };
-    let planners: [Box<dyn Planner>; 1] = [Box::new(planner)];
-    crate::compare::run(case, &planners).is_err()
+mod shown {
+    use super::{Planner, Sabotage, Spoiled};
+    use crate::cases::Case;
+
+    fn shows(case: &Case, sabotage: &'static Sabotage) -> bool {
+        let planner = Spoiled { planner: Box::new(crate::same::Same), sabotage };
+        let planners: [Box<dyn Planner>; 1] = [Box::new(planner)];
+        crate::compare::run(case, &planners).is_err()
+    }
+
+    /// No case shows one of these, which spoil nothing.
+    pub fn none(cases: &[Case], sound: &'static [Sabotage]) {
+        for case in cases {
+            assert!(!sound.iter().any(|sabotage| shows(case, sabotage)), "{case:?}");
+        }
+    }
+
+    /// Some case shows each.
+    pub fn all(cases: &[Case], sabotages: &'static [Sabotage]) {
+        let missed = sabotages.iter().filter(|it| !cases.iter().any(|case| shows(case, it)));
+        let missed: Vec<&str> = missed.map(|sabotage| sabotage.name).collect();
+        assert!(missed.is_empty(), "{missed:?}");
+    }
 }

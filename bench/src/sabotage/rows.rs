@@ -423,12 +423,11 @@ impl<'a> Guided<'a> {
 
 #[cfg(test)]
 mod tests {
-    use super::super::shows;
+    use super::super::shown;
     use super::*;
     use crate::cases::{Case, Cases};
 
-    static SOUND_SWEEP: Sabotage = in_sweep("none", SOUND);
-    static SOUND_GUIDED: Sabotage = in_guided("none", SOUND);
+    static NO_SABOTAGE: [Sabotage; 2] = [in_sweep("none", SOUND), in_guided("none", SOUND)];
 
     /// The cases of rows, the largest first; the other corners left out.
     fn cases() -> Vec<Case> {
@@ -439,16 +438,11 @@ mod tests {
 
     #[test]
     fn the_right_places_spoil_nothing() {
-        for case in cases() {
-            assert!(!shows(&case, &SOUND_SWEEP) && !shows(&case, &SOUND_GUIDED), "{case:?}");
-        }
+        shown::none(&cases(), &NO_SABOTAGE);
     }
 
     #[test]
     fn the_cases_of_rows_alone_show_every_wrong_place() {
-        let cases = cases();
-        for sabotage in &ROWS {
-            assert!(cases.iter().any(|case| shows(case, sabotage)), "{}", sabotage.name);
-        }
+        shown::all(&cases(), &ROWS);
     }
 }

@@ -206,18 +206,18 @@ fn touch<T: Copy + std::ops::Not<Output = T>>(answer: &Answer, number: u32, slic
 
 #[cfg(test)]
 mod tests {
-    use super::super::shows;
+    use super::super::shown;
     use super::*;
     use crate::cases::Case;
     use crate::generate::steps::systematic;
 
-    static SOUND: Sabotage = judged("none", &[(SURPLUS, 5), (ENDS, 10), (FALLS, 5), (DEAR, 11)]);
+    static NO_SABOTAGE: [Sabotage; 1] =
+        [judged("none", &[(SURPLUS, 5), (ENDS, 10), (FALLS, 5), (DEAR, 11)])];
 
     #[test]
     fn the_right_order_of_the_tests_spoils_nothing() {
-        for (chart, rules) in systematic() {
-            let case = Case { kind: "test", chart, rules, dirt: 1 };
-            assert!(!shows(&case, &SOUND), "{case:?}");
-        }
+        let files = systematic().into_iter();
+        let cases = files.map(|(chart, rules)| Case { kind: "test", chart, rules, dirt: 1 });
+        shown::none(&cases.collect::<Vec<_>>(), &NO_SABOTAGE);
     }
 }

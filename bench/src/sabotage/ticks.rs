@@ -327,12 +327,11 @@ fn round_shown(field: &mut [u8]) {
 
 #[cfg(test)]
 mod tests {
-    use super::super::shows;
+    use super::super::shown;
     use super::*;
     use crate::cases::{Case, Cases};
 
-    static SOUND_SWEEP: Sabotage = in_sweep("none", SOUND);
-    static SOUND_GUIDED: Sabotage = in_guided("none", SOUND);
+    static NO_SABOTAGE: [Sabotage; 2] = [in_sweep("none", SOUND), in_guided("none", SOUND)];
 
     fn cases() -> Vec<Case> {
         let cases = Cases::new(32);
@@ -341,17 +340,11 @@ mod tests {
 
     #[test]
     fn the_right_costs_spoil_nothing() {
-        for case in cases() {
-            assert!(!shows(&case, &SOUND_SWEEP) && !shows(&case, &SOUND_GUIDED), "{case:?}");
-        }
+        shown::none(&cases(), &NO_SABOTAGE);
     }
 
     #[test]
     fn the_cases_of_ticks_alone_show_every_wrong_cost() {
-        let cases = cases();
-        let is_missed =
-            |sabotage: &&'static Sabotage| !cases.iter().any(|case| shows(case, sabotage));
-        let missed: Vec<&str> = TICKS.iter().filter(is_missed).map(|missed| missed.name).collect();
-        assert!(missed.is_empty(), "{missed:?}");
+        shown::all(&cases(), &TICKS);
     }
 }
