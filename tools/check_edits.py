@@ -1,6 +1,6 @@
 #!/usr/bin/env python3
-"""Checks the must-fail edits in a second, before the gate tries them: every old text stands exactly once in its file, and
-after the gate, that each was refused because a fact fails.
+"""Checks the must-fail edits in a second, before the gate tries them: every old text stands exactly once in its file and ends no
+comment early, and after the gate, that each was refused because a fact fails.
 
     tools/check_edits.py             the texts
     tools/check_edits.py --refused   what the last gate left under target/must-fail
@@ -36,6 +36,8 @@ def faults(edit, crate):
             if not old or text.count(old) != 1:
                 yield f"the old text stands {text.count(old) if old else 0} times in {file.relative_to(ROOT)}: {old}"
                 return
+            if "//" in old and not text.split(old)[1].startswith("\n"):
+                yield f"the old text ends within a comment of {file.relative_to(ROOT)}, of which a part would stay: {old}"
             texts[file] = text.replace(old, line[4:].removeprefix(" "))
             if texts[file] == text:
                 yield f"nothing changes in {file.relative_to(ROOT)}: {old}"
@@ -44,11 +46,14 @@ def faults(edit, crate):
 
 
 def unfit(edit, crate):
-    """Whether the last gate's check of an edit says that its proof file does not fit."""
+    """Whether the last gate's check of an edit says that the edited program is none, or that its proof file does not fit."""
     log = ROOT / "target/must-fail" / crate.name / edit.stem / ".log"
-    if not log.is_file():
+    said = log.read_text(errors="replace") if log.is_file() else ""
+    if not said:
         yield "the gate has not tried it"
-    elif "has no `Need-" in log.read_text(errors="replace"):
+    elif "logic=not-proved" not in said:
+        yield "it did not reach the prover"
+    elif "has no `Need-" in said:
         yield "refused only because its proof file does not fit the code"
 
 

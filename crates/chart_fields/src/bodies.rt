@@ -49,7 +49,8 @@ pub fn head_of(b: &[u8]) -> HeadBody
     }
 }
 
-// What is wrong with a step's body after `count` steps, the last of which leaves the stage `last`; 0: nothing.
+// What is wrong with a step's body after `count` steps, the last of which leaves the stage `last`; 0: nothing. The value is
+// judged as the file has it, before it is rounded.
 pub fn step_fault(b: &[u8], stages: u16, last: u16, count: usize) -> u8
     requires { ⌜ length (now b) ≡ 8 ⌝ }
     ensures { λ r. ⌜ r ≡ stepFault stages last count (now (b .entry)) ⌝ }
@@ -70,7 +71,7 @@ pub fn step_fault(b: &[u8], stages: u16, last: u16, count: usize) -> u8
         return 5; // out of order
     }
     if 1000000 < value {
-        return 11; // too dear, before it is rounded
+        return 11; // too dear
     }
     0
 }
