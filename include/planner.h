@@ -27,8 +27,9 @@
 extern "C" {
 #endif
 
-/* Numbers of an answer: accepted, or the cause of the refusal. The chart is looked at before the diagram, each for its
- * length and then from its front; then the space; then whether there is a plan.
+/* Numbers of an answer: accepted, or the cause of the refusal. The chart is looked at before the diagram, and that before
+ * a second one, each for its length and then from its front; then the space; then whether there is a plan or, for a file
+ * that is written, how many nodes it has and whether the buffer has room for it.
  *
  * More numbers are coming: every number but PLANNER_ACCEPTED is a refusal, and a switch over them needs a default
  * branch. */
@@ -40,18 +41,20 @@ enum {
     PLANNER_HEAD = 4,    /* the chart's head breaks a limit */
     PLANNER_STEP = 5,    /* there is a 1,025th step; a step leaves a stage below that of the step before */
     PLANNER_NODE = 6,    /* an inner node breaks a limit; there is a 511th; the root is no node */
-    PLANNER_SPACE = 7,   /* a work slice or the plan slice is too short */
+    PLANNER_SPACE = 7,   /* a work slice, the plan slice or the file buffer is too short */
     PLANNER_NO_PLAN = 8, /* no legal plan exists */
     PLANNER_LONG = 9,    /* the file has more than PLANNER_LONGEST_FILE bytes */
     PLANNER_STAGES = 10, /* a step does not lead to a higher stage of the chart */
-    PLANNER_COST = 11    /* a step's cost, as the file has it, is beyond 1,000,000 */
+    PLANNER_COST = 11,   /* a step's cost, as the file has it, is beyond 1,000,000 */
+    PLANNER_LARGE = 12   /* the reduced diagram has more than 510 inner nodes */
 };
 
-/* Marks of a file. Where no file is at fault, file and place are 0. Marks from 3 on are coming with the numbers. */
+/* Marks of a file. Where no file is at fault, file and place are 0. */
 enum {
     PLANNER_FILE_NONE = 0,
     PLANNER_FILE_CHART = 1,
-    PLANNER_FILE_RULES = 2
+    PLANNER_FILE_RULES = 2,
+    PLANNER_FILE_MORE_RULES = 3 /* the second diagram of planner_conjoin */
 };
 
 /* The bytes of the longest file that is taken: remarks, fields of a tag from 80 to FF (hexadecimal) after the head, leave
@@ -69,6 +72,10 @@ enum {
 #define PLANNER_MOST_WORK 131072
 #define PLANNER_MOST_PLAN 255
 
+/* Enough for the conjunction of any two diagrams: 512 x 512 pairs of nodes, and the bytes of a file of 510 inner nodes. */
+#define PLANNER_MOST_PAIRS 262144
+#define PLANNER_MOST_FILE 4595
+
 /* Bytes of stack that are enough for any call. docs/PERFORMANCE.md has the measured peaks. */
 #define PLANNER_STACK 32768
 
@@ -80,7 +87,7 @@ typedef struct planner_answer {
     size_t file;   /* the file at fault, 0 where none is */
     size_t place;  /* in it, the byte position of the faulty field's tag; under 9 PLANNER_LONGEST_FILE */
     size_t cost;   /* the plan's cost in ns: the costs of its steps, each rounded up to a multiple of PLANNER_TICK */
-    size_t length; /* the plan's steps */
+    size_t length; /* the plan's steps; of a file that is written, its bytes */
     size_t count;  /* sweep: reached pairs; guided search: settled pairs; also under 8 */
 } planner_answer;
 
@@ -176,13 +183,39 @@ uint32_t planner_both(const uint8_t *chart, size_t chart_len,
                       planner_answer *sweep, planner_answer *guided);
 
 /*
+ * The conjunction of two diagrams over one chart, `rules` (file 2) and `more` (file 3): a reduced diagram that says yes
+ * exactly to the sets of steps to which both say yes. Its file is written to the front of `file`: the head and the inner
+ * nodes, none with lo equal to hi, no two alike, each arrived at from the root, and each behind its children, those of lo
+ * first. Planning with that file gives the plans that both files allow.
+ *
+ * Lent, with the least length; a shorter slice gives 7:
+ *   work   N of rules x N of more, where N is the number of inner nodes plus 2; PLANNER_MOST_PAIRS is always enough
+ *   file   answer.length, 5 bytes and 9 for each inner node; PLANNER_MOST_FILE is always enough. Judged last of all, after 12
+ *
+ * All six entries of *answer are written; the number is returned. Accepted: length is the file's bytes, cost and count
+ * are 0. What the slices hold then:
+ *   number        0                                  12, and 7 for `file`   any other
+ *   work          first N x N entries: free          as under 0             as it was
+ *   file          first answer.length bytes: the     as it was              as it was
+ *                 diagram's file
+ * All further entries stay as they were.
+ */
+uint32_t planner_conjoin(const uint8_t *chart, size_t chart_len,
+                         const uint8_t *rules, size_t rules_len,
+                         const uint8_t *more, size_t more_len,
+                         uint32_t *work, size_t work_len,
+                         uint8_t *file, size_t file_len,
+                         planner_answer *answer);
+
+/*
  * The bytes of the field at a place of a file (PLANNER_FILE_CHART or PLANNER_FILE_RULES): its header and its body, or
  * what the file has of them. The place need not be a field's start. A place at or past the file's end, or another file
  * mark, gives an empty field.
  *
  * Returns the field's whole length and copies its bytes to the front of `field` as far as they fit; further entries of
  * `field` stay as they were. With field_len 0 the call only tells the length. The field is a part of the file: it
- * begins at chart + place or rules + place.
+ * begins at chart + place or rules + place. For a field of planner_conjoin's file 3 hand that file in as `rules`, with
+ * PLANNER_FILE_RULES.
  */
 size_t planner_refused_field(const uint8_t *chart, size_t chart_len,
                              const uint8_t *rules, size_t rules_len,

@@ -14,13 +14,13 @@ pub const UNREACHED: u32 = u32::MAX;
 pub struct Answer {
     /// 0 accepted, any other number refused.
     pub number: usize,
-    /// The mark of the file at fault: 1 the chart, 2 the diagram; 0 where neither is.
+    /// The mark of the file at fault: 1 the chart, 2 the diagram, 3 a second diagram; 0 where none is.
     pub file: usize,
     /// The byte position of the faulty field, or of the first byte too many (9).
     pub place: usize,
     /// The plan's cost in ns: the costs of its steps, each rounded up to a multiple of [`TICK`](crate::TICK).
     pub cost: usize,
-    /// The plan's steps.
+    /// The plan's steps; of a file that is written, its bytes.
     pub length: usize,
     /// Reached pairs of a sweep, settled pairs of a guided search; under 8 too.
     pub count: usize,
@@ -70,6 +70,15 @@ pub struct GuidedSlices<'a> {
     pub log: &'a mut [u32],
     /// The plan's step numbers; a result.
     pub plan: &'a mut [u16],
+}
+
+/// The slices lent to a conjunction.
+#[derive(Debug)]
+pub struct ConjoinSlices<'a> {
+    /// Left free: an entry for each pair of nodes.
+    pub work: &'a mut [u32],
+    /// The reduced diagram's file; a result.
+    pub file: &'a mut [u8],
 }
 
 /// Reads both files and tells how long the slices must be. Returns the number, never 7 or 8.
@@ -174,6 +183,34 @@ pub fn both(
             plan.len(),
             answers.0,
             answers.1,
+        )
+    }
+}
+
+/// The conjunction of the diagrams `rules` (file 2) and `more` (file 3) over one chart, reduced and
+/// written as a diagram file. Returns the number.
+pub fn conjoin(
+    chart: &[u8],
+    rules: &[u8],
+    more: &[u8],
+    lent: ConjoinSlices,
+    answer: &mut Answer,
+) -> u32 {
+    let ConjoinSlices { work, file } = lent;
+    // SAFETY: as for the sweep.
+    unsafe {
+        raw::planner_conjoin(
+            chart.as_ptr(),
+            chart.len(),
+            rules.as_ptr(),
+            rules.len(),
+            more.as_ptr(),
+            more.len(),
+            work.as_mut_ptr(),
+            work.len(),
+            file.as_mut_ptr(),
+            file.len(),
+            answer,
         )
     }
 }

@@ -80,6 +80,20 @@ extern "C" {
         guided: *mut Answer,
     ) -> u32;
 
+    pub fn planner_conjoin(
+        chart: *const u8,
+        chart_len: usize,
+        rules: *const u8,
+        rules_len: usize,
+        more: *const u8,
+        more_len: usize,
+        work: *mut u32,
+        work_len: usize,
+        file: *mut u8,
+        file_len: usize,
+        answer: *mut Answer,
+    ) -> u32;
+
     pub fn planner_refused_field(
         chart: *const u8,
         chart_len: usize,

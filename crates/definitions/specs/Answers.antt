@@ -1,10 +1,11 @@
--- What every search checks first, in order, and what it answers (REFERENCE 3.1 to 3.3, 11).
+-- What the calls check first, in order, and what they answer (REFERENCE 2.5, 3.1 to 3.3, 11, 15).
 -- Assumes nothing.
 use Prim.Native.Nat.{ℕ, _*_, _-_}
+use mathlib.Core.Path.{_≡_}
 use mathlib.Core.Bool.{Bool, not, _&&_}
-use mathlib.Core.List.{List}
-use lib.Dec.{leb, eqb}
-use lib.ListN.{length}
+use mathlib.Core.List.{List, _++_}
+use lib.Dec.{leb, ltb, eqb}
+use lib.ListN.{length, drop}
 use Rattle.definitions.specs.Basics.{pick, every}
 use Rattle.definitions.specs.Charts.{Chart, readChart}
 use Rattle.definitions.specs.Diagrams.{Diagram, size, readDiagram}
@@ -51,3 +52,44 @@ refusal number file place count = record { number = number; file = file; place =
 -- an accepted answer has number, file and place 0
 abbrev pub accepted : ℕ → ℕ → ℕ → Answer
 accepted cost steps count = record { number = 0; file = 0; place = 0; cost = cost; length = steps; count = count }
+
+-- ---- two diagrams over one chart
+
+-- the chart, both diagrams and the space pass, or a refusal: its number, file and place
+pub data LoadTwo : Type 0 where
+  readyTwo : Chart → Diagram → Diagram → LoadTwo
+  refusedTwo : ℕ → ℕ → ℕ → LoadTwo
+
+-- how many entries the work slice needs: one for each pair of references
+abbrev pub pairNeed : Diagram → Diagram → ℕ
+pairNeed d e = size d * size e
+
+-- after the chart and the diagram the second diagram (file 3), over the same chart
+abbrev pub withMore : List ℕ → Load → LoadTwo
+withMore more (refused number file place) = refusedTwo number file place
+withMore more (ready c d) =
+    let e = readDiagram more (length (c .steps)) in
+    pick (not (eqb (e .number) 0)) (refusedTwo (e .number) 3 (e .place)) (readyTwo c d (e .diagram))
+
+-- then the space (7)
+abbrev pub withPairSpace : ℕ → LoadTwo → LoadTwo
+withPairSpace work (refusedTwo number file place) = refusedTwo number file place
+withPairSpace work (readyTwo c d e) = pick (leb (pairNeed d e) work) (readyTwo c d e) (refusedTwo 7 0 0)
+
+unfoldable pub loadTwo : List ℕ → List ℕ → List ℕ → ℕ → LoadTwo
+loadTwo chart rules more work = withPairSpace work (withMore more (readFiles chart rules))
+
+-- ---- a file in a lent buffer, after every other check
+
+-- cost and count are 0 and the length is the file's bytes; a buffer of fewer is 7
+unfoldable pub fileAnswer : ℕ → ℕ → Answer
+fileAnswer bytes room = pick (ltb room bytes) (refusal 7 0 0 0) (accepted 0 bytes 0)
+
+-- the file stands at the buffer's front, and the rest stays; a buffer that is too short stays as it was
+unfoldable pub fileBuffer : List ℕ → List ℕ → List ℕ
+fileBuffer file out = pick (ltb (length out) (length file)) out (file ++ drop (length file) out)
+
+-- the buffer before and after (out′), and the answer
+pub record Filed (file out out′ : List ℕ) (r : Answer) : Type 0 where
+  pub answer : r ≡ fileAnswer (length file) (length out)
+  pub buffer : out′ ≡ fileBuffer file out

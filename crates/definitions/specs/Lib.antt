@@ -6,6 +6,7 @@ pub mod Bytes
 pub mod Ways
 pub mod Pairs
 pub mod Plans
+pub mod Reductions
 pub mod Answers
 pub mod Promises
 pub mod Examples

@@ -1,4 +1,4 @@
--- What the searches promise (REFERENCE 7 to 10): their answer, and every lent slice after the call (plan′, log′ ..) by what it was before it (plan, log ..).
+-- What the calls promise (REFERENCE 7 to 10, 15): their answer, and every lent slice after the call (plan′, log′ ..) by what it was before it (plan, log ..).
 -- Left free are which of several cheapest plans is given, and so its length; the order of equal sums in the log and, through that alone, which pairs with a sum
 -- equal to the plan's cost stand in it and so its count; and the entries that `Scratch` names.
 -- Assumes nothing.
@@ -7,15 +7,17 @@ use mathlib.Core.Path.{_≡_}
 use mathlib.Core.Bool.{Bool}
 use mathlib.Core.List.{List, [], _∷_, _++_, map, List·Memᴰ}
 use mathlib.Core.Option.{Option, none, some}
-use lib.Dec.{eqb}
+use lib.Dec.{ltb, eqb}
 use lib.ListN.{length, getD, take, drop}
-use Rattle.definitions.specs.Basics.{NONE, upto}
+use Rattle.definitions.specs.Basics.{NONE, pick, upto}
 use Rattle.definitions.specs.Charts.{Chart}
 use Rattle.definitions.specs.Diagrams.{Diagram}
 use Rattle.definitions.specs.Ways.{Graph, wayCost}
 use Rattle.definitions.specs.Pairs.{Automaton, Estimate, pair, pairs, stageOf, nodeOf, leastCost, goal, sum, reachedPairs}
 use Rattle.definitions.specs.Plans.{graph, automaton, Legal, cheapest, estimate}
-use Rattle.definitions.specs.Answers.{Load, ready, refused, load, workNeed, refusal, accepted}
+use Rattle.definitions.specs.Answers.{Load, ready, refused, load, workNeed, refusal, accepted, LoadTwo, readyTwo, refusedTwo, loadTwo, pairNeed, fileAnswer, fileBuffer}
+use Rattle.definitions.specs.Bytes.{diagramBytes}
+use Rattle.definitions.specs.Reductions.{conjunction}
 use Rattle.definitions.specs.declared.Answer.{Answer}
 
 -- ---- the plan slice, for both searches
@@ -178,3 +180,32 @@ pub record GuidedPromise (o : Load) (before after : GuidedSlices) (r : Answer) :
 
 abbrev pub GuidedCall : List ℕ → List ℕ → GuidedSlices → GuidedSlices → Answer → Type 0
 GuidedCall chart rules before after r = GuidedPromise (guidedLoad chart rules before) before after r
+
+-- ---- the conjunction of two diagram files over one chart, written as a file
+
+-- 12 where the reduced diagram has more than 510 inner nodes, and then the buffer stays; else its file is written
+unfoldable pub writtenAnswer : Diagram → ℕ → Answer
+writtenAnswer made room = pick (ltb 510 (length (made .nodes))) (refusal 12 0 0 0) (fileAnswer (length (diagramBytes made)) room)
+
+unfoldable pub writtenBuffer : Diagram → List ℕ → List ℕ
+writtenBuffer made file = pick (ltb 510 (length (made .nodes))) file (fileBuffer (diagramBytes made) file)
+
+-- the slices that the call is lent
+pub record ConjoinSlices : Type 0 where
+  pub work : List ℕ
+  pub file : List ℕ
+
+abbrev pub conjoinSlices : List ℕ → List ℕ → ConjoinSlices
+conjoinSlices work file = record { work = work; file = file }
+
+-- by what the checks give. A refused call leaves both slices; else the file is that of the conjunction, and of the work slice the entries past those needed stay
+-- and the first are left free
+abbrev pub ConjoinPromise : LoadTwo → ConjoinSlices → ConjoinSlices → Answer → Type 0
+ConjoinPromise (refusedTwo number file place) before after r = (r ≡ refusal number file place 0) × (after .file ≡ before .file) × (after .work ≡ before .work)
+ConjoinPromise (readyTwo c d e) before after r =
+    (r ≡ writtenAnswer (conjunction (length (c .steps)) d e) (length (before .file)))
+    × (after .file ≡ writtenBuffer (conjunction (length (c .steps)) d e) (before .file))
+    × (length (after .work) ≡ length (before .work)) × (drop (pairNeed d e) (after .work) ≡ drop (pairNeed d e) (before .work))
+
+abbrev pub ConjoinCall : List ℕ → List ℕ → List ℕ → ConjoinSlices → ConjoinSlices → Answer → Type 0
+ConjoinCall chart rules more before after r = ConjoinPromise (loadTwo chart rules more (length (before .work))) before after r

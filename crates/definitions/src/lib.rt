@@ -46,17 +46,17 @@ pub enum Field {
     },
 }
 
-// What a search answers.
+// What a call answers.
 pub struct Answer {
     // 0, or the refusal's number.
     pub number: u32,
-    // The file at fault: 1 the chart, 2 the diagram, 0 neither.
+    // The file at fault: 1 the chart, 2 the diagram, 3 a second diagram, 0 none.
     pub file: u32,
     // The byte position of the faulty field's tag; of a file that is too long, that of its first byte too many.
     pub place: usize,
     // What the plan costs, in nanoseconds.
     pub cost: u32,
-    // How many steps the plan has.
+    // How many steps the plan has, or how many bytes the file that was written.
     pub length: usize,
     // The pairs reached (sweep) or settled (guided search).
     pub count: usize,

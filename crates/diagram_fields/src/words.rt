@@ -37,7 +37,7 @@ pub fn lo_of(w: u32) -> u16
 }
 
 // The hi in such a number.
-fn hi_of(w: u32) -> u16
+pub fn hi_of(w: u32) -> u16
     ensures { λ r. ⌜ r ≡ hiOf w ⌝ }
 {
     (w / 512 % 512) as u16

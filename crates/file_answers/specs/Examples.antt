@@ -3,9 +3,8 @@
 use Prim.Native.Nat.{ℕ}
 use mathlib.Core.Path.{_≡_, refl}
 use mathlib.Core.List.{List, [], _∷_}
-use Rattle.definitions.specs.Answers.{refusal, accepted}
+use Rattle.definitions.specs.Answers.{refusal, accepted, fileAnswer, fileBuffer}
 use Rattle.definitions.specs.Basics.{pick}
-use Rattle.file_answers.specs.Files.{fileAnswer, fileBuffer}
 
 -- a file of three bytes in a buffer of four, of three and of two
 buffers : List (List ℕ)

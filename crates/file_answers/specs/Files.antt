@@ -1,32 +1,17 @@
--- What a call answers that writes a file into a lent buffer, after every other check, and what the buffer then holds.
+-- Laws of a file in a lent buffer (`Filed` in `definitions`): what is answered and what the buffer then holds, where it is too short and where it is not.
 -- Assumes nothing.
 use Prim.Native.Nat.{ℕ, _≤_, _<_}
 use mathlib.Core.Path.{_≡_, sym, _∙_, ap, ap₂}
 use mathlib.Core.List.{List, _++_}
 use native.Mathlib.Omega.{arith}
-use lib.Dec.{ltb}
 use lib.ListN.{length, take, drop}
 use lib.Seq.{take-append-seam}
 use borrow.Author.Tests.{lt-ltb, le-ltb}
-use Rattle.definitions.specs.Answers.{refusal, accepted}
-use Rattle.definitions.specs.Basics.{pick}
+use Rattle.definitions.specs.Answers.{refusal, accepted, fileAnswer, fileBuffer, Filed}
 use Rattle.definitions.specs.declared.Answer.{Answer}
 use Rattle.theory.specs.Basics.{pick-true, pick-false, either, lt-or-le}
 use Rattle.buffer.specs.Appending.{Appended}
 use Rattle.buffer.specs.Appends.{append-front}
-
--- the length is the file's bytes; a buffer of fewer is 7
-unfoldable pub fileAnswer : ℕ → ℕ → Answer
-fileAnswer bytes room = pick (ltb room bytes) (refusal 7 0 0 0) (accepted 0 bytes 0)
-
--- the file stands at the buffer's front, and the rest stays; a buffer that is too short stays as it was
-unfoldable pub fileBuffer : List ℕ → List ℕ → List ℕ
-fileBuffer file out = pick (ltb (length out) (length file)) out (file ++ drop (length file) out)
-
--- the buffer before and after (out′), and the answer
-pub record Filed (file out out′ : List ℕ) (r : Answer) : Type 0 where
-  pub answer : r ≡ fileAnswer (length file) (length out)
-  pub buffer : out′ ≡ fileBuffer file out
 
 module _ (bytes room : ℕ) where
   pub answer-short : room < bytes → refusal 7 0 0 0 ≡ fileAnswer bytes room

@@ -1,6 +1,6 @@
 // What a call answers that writes a file into a lent buffer, after every other check.
 ghost use mathlib.Core.Path.{_≡_};
-ghost use Rattle.file_answers.specs.Files.{fileAnswer};
+ghost use Rattle.definitions.specs.Answers.{fileAnswer};
 use checks::accepted;
 use checks::refusal;
 use definitions::Answer;

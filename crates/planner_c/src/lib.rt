@@ -5,7 +5,7 @@ ghost use Prim.Native.Nat.{min};
 ghost use lib.ListN.{length};
 ghost use Rattle.definitions.specs.Fields.{refusedField};
 ghost use Rattle.definitions.specs.Answers.{readFiles};
-ghost use Rattle.definitions.specs.Promises.{sweepSlices, SweepCall, guidedSlices, GuidedCall};
+ghost use Rattle.definitions.specs.Promises.{sweepSlices, SweepCall, guidedSlices, GuidedCall, conjoinSlices, ConjoinCall};
 ghost use Rattle.space.specs.Space.{spaceNeeded};
 ghost use Rattle.planner.specs.Both.{BothCall};
 ghost use Rattle.buffer.specs.Appending.{Appended};
@@ -126,6 +126,26 @@ pub extern "C" fn planner_both(
         plan,
     );
     store_both(answers.sweep, answers.guided, sweep_answer, guided_answer)
+}
+
+// The conjunction of two diagrams over one chart, written as a diagram file to the front of `file`.
+#[no_mangle]
+pub extern "C" fn planner_conjoin(
+    chart: &[u8],
+    rules: &[u8],
+    more: &[u8],
+    work: &mut [u32],
+    file: &mut [u8],
+    answer: &mut [usize; 6],
+) -> u32
+    ensures { λ r. ⌜
+        (let before = conjoinSlices (now (work .entry)) (now (file .entry)) in
+        let after = conjoinSlices (now (work .exit)) (now (file .exit)) in
+        Given (ConjoinCall (now (chart .entry)) (now (rules .entry)) (now (more .entry)) before after) (now (answer .exit)) r)
+        ⌝ }
+{
+    let joined = conjoin::conjoin(chart, rules, more, work, file);
+    store(joined, answer)
 }
 
 // The bytes of the field at a place of the chart (file 1) or of the diagram (file 2), copied to the front of `field` as

@@ -16,9 +16,9 @@ use convert::lesser;
 use convert::wide;
 use definitions::Answer;
 use definitions::Shape;
+use entries::clear;
 use rows::fill_row_starts;
 use sweep_ends::begin;
-use sweep_ends::clear;
 use sweep_rows::relax_rows;
 
 // The least cost of every pair, from any content of the slices.

@@ -7,4 +7,3 @@ pub use goals::Best;
 pub use goals::cheapest_goal;
 pub use goals::total_count;
 pub use start::begin;
-pub use start::clear;

@@ -1,26 +1,12 @@
 // The tables before the first row: no pair is reached but that of start and root.
 ghost use mathlib.Core.Path.{_≡_};
-ghost use mathlib.Core.List.{List, _++_};
-ghost use Prim.Native.Nat.{ℕ, _+_, _≤_, _<_};
-ghost use lib.ListN.{length, drop, replicate};
-ghost use Rattle.definitions.specs.Basics.{NONE};
+ghost use mathlib.Core.List.{List};
+ghost use Prim.Native.Nat.{ℕ, _+_, _<_};
+ghost use lib.ListN.{length};
 ghost use Rattle.sweep_model.specs.Model.{rows};
 ghost use Rattle.sweep_ends.specs.Begin.{begunAt};
-use definitions::NONE;
 use definitions::Node;
 use definitions::Stage;
-
-// The first `pairs` costs become NONE.
-pub fn clear(costs: &mut [u32], pairs: usize)
-    requires { ⌜ pairs ≤ length (now costs) ⌝ }
-    ensures { λ _. ⌜ now (costs .exit) ≡ replicate pairs NONE ++ drop pairs (now (costs .entry)) ⌝ }
-{
-    let mut i: usize = 0;
-    while i < pairs {
-        costs[i] = NONE;
-        i += 1;
-    }
-}
 
 // The pair of the start, whose row starts at `base`, and the root costs 0; a root that is 0 is not reached.
 pub fn begin(

@@ -1,4 +1,4 @@
--- `sweep_ends::clear` meets its contract.
+-- `entries::clear` meets its contract.
 use Prim.Native.Nat.{ℕ, _-_, _≤_}
 use mathlib.Core.Path.{_≡_, refl, _∙_, ap}
 use mathlib.Core.List.{_++_}
@@ -7,23 +7,23 @@ use borrow.Author.Needs.{needs}
 use lib.ListN.{length, drop, replicate, set}
 use borrow.Author.Fill.{fill-none, fill-more}
 use Rattle.definitions.specs.Basics.{NONE}
-use Rattle.sweep_ends.proofs.start.clear.Statement.{statement}
-use Rattle.sweep_ends.proofs.start.clear.Tie as tie
+use Rattle.entries.proofs.clear.Statement.{statement}
+use Rattle.entries.proofs.clear.Tie as tie
 
 abbrev Inv-loop : tie.InvT-loop
-Inv-loop costs₀ pairs i₀ costs i = (i ≤ pairs) × (costs ≡ replicate i NONE ++ drop i costs₀) × (length costs ≡ length costs₀)
+Inv-loop entries₀ count i₀ entries i = (i ≤ count) × (entries ≡ replicate i NONE ++ drop i entries₀) × (length entries ≡ length entries₀)
 
 abbrev μ-loop : tie.MeasureT-loop
-μ-loop costs₀ pairs i₀ costs i = pairs - i
+μ-loop entries₀ count i₀ entries i = count - i
 
 loop-holds : tie.Need-loop-holds Inv-loop μ-loop
-loop-holds c = (search needs, fill-none (c .args .costs .now) NONE, refl)
+loop-holds c = (search needs, fill-none (c .args .entries .now) NONE, refl)
 
-mul-costs : tie.Need-mul-costs Inv-loop μ-loop
-mul-costs c = search needs
+mul-entries : tie.Need-mul-entries Inv-loop μ-loop
+mul-entries c = search needs
 
-slice-write-costs : tie.Need-slice-write-costs Inv-loop μ-loop
-slice-write-costs c = search needs
+slice-write-entries : tie.Need-slice-write-entries Inv-loop μ-loop
+slice-write-entries c = search needs
 
 add-i : tie.Need-add-i Inv-loop μ-loop
 add-i c = search needs
@@ -35,7 +35,7 @@ loop-again : tie.Need-loop-again Inv-loop μ-loop
 loop-again c =
     let head : tie.At-loop Inv-loop μ-loop = search in
     let start : tie.Start Inv-loop μ-loop = search in
-    (search needs, ap (λ l. set l (head .loop .i) NONE) (head .loop .inv .1) ∙ fill-more (head .loop .i) NONE (start .args .costs .now) (omega (arith, start .pre)), search needs)
+    (search needs, ap (λ l. set l (head .loop .i) NONE) (head .loop .inv .1) ∙ fill-more (head .loop .i) NONE (start .args .entries .now) (omega (arith, start .pre)), search needs)
 
 same-length : tie.Need-same-length Inv-loop μ-loop
 same-length c = search needs
@@ -44,8 +44,8 @@ returns : tie.Need-returns Inv-loop μ-loop
 returns c =
     let head : tie.At-loop Inv-loop μ-loop = search in
     let start : tie.Start Inv-loop μ-loop = search in
-    let e : head .loop .i ≡ start .args .pairs = omega (arith, head .loop .inv .0) in
-    head .loop .inv .1 ∙ ap (λ (k : ℕ). replicate k NONE ++ drop k (start .args .costs .now)) e
+    let e : head .loop .i ≡ start .args .count = omega (arith, head .loop .inv .0) in
+    head .loop .inv .1 ∙ ap (λ (k : ℕ). replicate k NONE ++ drop k (start .args .entries .now)) e
 
 pub clear-spec : {M : Type 1} → statement M
 clear-spec =
@@ -54,8 +54,8 @@ clear-spec =
     Inv-loop
     μ-loop
     loop-holds
-    mul-costs
-    slice-write-costs
+    mul-entries
+    slice-write-entries
     add-i
     loop-less
     loop-again

@@ -1,0 +1,83 @@
+-- The promise of a call that conjoins two files follows from what a caller concludes of it (`Conjoined`), so the two say the same, and a clause of either that is
+-- lost or weakened is found here or in `Conjoined`.
+-- Assumes nothing.
+use Prim.Native.Nat.{ℕ, _≤_}
+use mathlib.Core.Path.{_≡_, sym, _∙_, subst}
+use mathlib.Core.List.{List}
+use mathlib.Core.Logic.{_↔_}
+use native.Mathlib.Omega.{arith}
+use lib.ListN.{length}
+use borrow.Author.Tests.{lt-ltb, le-ltb}
+use Rattle.definitions.specs.Charts.{readChart}
+use Rattle.definitions.specs.Answers.{LoadTwo, readyTwo, refusedTwo, loadTwo, refusal, accepted, fileAnswer, fileBuffer}
+use Rattle.definitions.specs.Bytes.{diagramBytes}
+use Rattle.definitions.specs.Promises.{writtenAnswer, writtenBuffer, ConjoinSlices, ConjoinPromise, ConjoinCall}
+use Rattle.definitions.specs.declared.Answer.{Answer}
+use Rattle.theory.specs.Basics.{pick-true, pick-false, either, lt-or-le, same-or-not}
+use Rattle.conjunctions.specs.Loads.{rulesRead, chart-refuses-two, rules-refuse-two, more-refuses, pairs-refused, ready-two}
+use Rattle.conjunctions.specs.Conjoined.{Refusal, Written, Files, need, made, Conjoined, conjoined}
+
+-- an answer is fixed by its parts
+is-refusal : (n f p : ℕ) (r : Answer) → Refusal n f p r → r ≡ refusal n f p 0
+is-refusal n f p r t =
+    λ i. record { number = t .number i; file = t .file i; place = t .place i; cost = t .cost i; length = t .length i; count = t .count i }
+
+is-accepted : (s out out′ : List ℕ) (r : Answer) → Written s out out′ r → r ≡ accepted 0 (length s) 0
+is-accepted s out out′ r t =
+    λ i. record { number = t .number i; file = t .file i; place = t .place i; cost = t .cost i; length = t .length i; count = t .count i }
+
+module _ (chart rules more : List ℕ) (before after : ConjoinSlices) (r : Answer) (t : Conjoined chart rules more before after r) where
+  abbrev bytes : List ℕ
+  bytes = diagramBytes (made chart rules more)
+
+  abbrev nodes : ℕ
+  nodes = length (made chart rules more .nodes)
+
+  by : (o : LoadTwo) → loadTwo chart rules more (length (before .work)) ≡ o → ConjoinPromise o before after r → ConjoinCall chart rules more before after r
+  by o e = subst (λ (x : LoadTwo). ConjoinPromise x before after r) (sym e)
+
+  -- the buffer under a refusal
+  kept : (n f p : ℕ) → (n ≡ 0 → ⊥) → Refusal n f p r → after .file ≡ before .file
+  kept n f p z a = t .refused-file (λ q. z (sym (a .number) ∙ q))
+
+  stops : (n f p : ℕ) → (n ≡ 0 → ⊥) → Refusal n f p r → (Files chart rules more → need chart rules more ≤ length (before .work) → ⊥)
+      → loadTwo chart rules more (length (before .work)) ≡ refusedTwo n f p → ConjoinCall chart rules more before after r
+  stops n f p z a h e = by (refusedTwo n f p) e (is-refusal n f p r a, kept n f p z a, t .work-stays h)
+
+  module _ (f : Files chart rules more) (h : need chart rules more ≤ length (before .work)) where
+    ends : (r ≡ writtenAnswer (made chart rules more) (length (before .file))) × (after .file ≡ writtenBuffer (made chart rules more) (before .file))
+    unfolding writtenAnswer writtenBuffer fileAnswer fileBuffer
+    ends =
+        either (lt-or-le 510 nodes)
+        (λ i. let a = t .many-nodes f h i in let x = lt-ltb 510 nodes i in
+        (is-refusal 12 0 0 r a ∙ sym (pick-true _ _ _ x), kept 12 0 0 (λ z. omega arith) a ∙ sym (pick-true _ _ _ x)))
+        (λ i. let x = le-ltb 510 nodes i in
+        either (lt-or-le (length (before .file)) (length bytes))
+        (λ j. let a = t .buffer-short f h i j in let y = lt-ltb (length (before .file)) (length bytes) j in
+        (is-refusal 7 0 0 r a ∙ sym (pick-false _ _ _ x ∙ pick-true _ _ _ y), kept 7 0 0 (λ z. omega arith) a ∙ sym (pick-false _ _ _ x ∙ pick-true _ _ _ y)))
+        (λ j. let w = t .written f h i j in let y = le-ltb (length (before .file)) (length bytes) j in
+        (is-accepted bytes (before .file) (after .file) r w ∙ sym (pick-false _ _ _ x ∙ pick-false _ _ _ y), w .buffer ∙ sym (pick-false _ _ _ x ∙ pick-false _ _ _ y))))
+
+    passes : ConjoinCall chart rules more before after r
+    passes =
+        by (readyTwo (readChart chart .chart) (rulesRead chart rules .diagram) (rulesRead chart more .diagram))
+        (ready-two chart rules more (length (before .work)) (f .chart-passes) (f .rules-pass) (f .more-passes) h) (ends .0, ends .1, t .work-long, t .work-rest)
+
+  pub converse : ConjoinCall chart rules more before after r
+  converse =
+      either (same-or-not (readChart chart .number) 0)
+      (λ c. either (same-or-not (rulesRead chart rules .number) 0)
+      (λ d. either (same-or-not (rulesRead chart more .number) 0) (λ e. space (record { chart-passes = c; rules-pass = d; more-passes = e }))
+      (λ h. stops _ _ _ h (t .more-refused c d h) (λ f i. h (f .more-passes)) (more-refuses chart rules more (length (before .work)) c d h)))
+      (λ h. stops _ _ _ h (t .rules-refused c h) (λ f i. h (f .rules-pass)) (rules-refuse-two chart rules more (length (before .work)) c h)))
+      (λ h. stops _ _ _ h (t .chart-refused h) (λ f i. h (f .chart-passes)) (chart-refuses-two chart rules more (length (before .work)) h))
+    where
+      space : Files chart rules more → ConjoinCall chart rules more before after r
+      space f =
+          either (lt-or-le (length (before .work)) (need chart rules more))
+          (λ h. stops 7 0 0 (λ z. omega arith) (t .work-short f h) (λ g i. omega arith)
+          (pairs-refused chart rules more (length (before .work)) (f .chart-passes) (f .rules-pass) (f .more-passes) h))
+          (passes f)
+
+pub equivalent : (chart rules more : List ℕ) (before after : ConjoinSlices) (r : Answer) → ConjoinCall chart rules more before after r ↔ Conjoined chart rules more before after r
+equivalent chart rules more before after r = (conjoined chart rules more before after r, converse chart rules more before after r)

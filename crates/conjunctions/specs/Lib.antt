@@ -1,0 +1,5 @@
+pub mod Conjunctions
+pub mod Loads
+pub mod Conjoined
+pub mod Converse
+pub mod Searches

@@ -1,0 +1,1 @@
+// Laws of reduced diagrams and of conjunctions, with no code: see specs/.
