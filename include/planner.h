@@ -5,16 +5,16 @@
  * the commands and examples.
  *
  * Every call
- *   - takes both files as bytes, of any length and content: a broken file gets a numbered refusal;
+ *   - takes its files as bytes, of any length and content: a broken file gets a numbered refusal;
  *   - works in slices that the caller lends: a pointer and a length in entries. Work entries are uint32_t, plan
- *     entries uint16_t. Their content does not matter before the call;
+ *     entries uint16_t, those of a file or a field uint8_t. Their content does not matter before the call;
  *   - allocates nothing, has no global state and keeps no pointer: calls may run at once on different slices;
  *   - always returns.
  *
  * The caller sees to it that
  *   - no pointer is null, also where the length is 0;
  *   - each pointer is aligned for its type and its slice is as long as the length says;
- *   - slices that are written (work, plan, field, answers) overlap neither each other nor the files;
+ *   - slices that are written (work, plan, file, field, answers) overlap neither each other nor the files;
  *   - there is room on the stack: PLANNER_STACK bytes are enough for any call.
  */
 #ifndef PLANNER_H
@@ -76,7 +76,9 @@ enum {
 #define PLANNER_MOST_PAIRS 262144
 #define PLANNER_MOST_FILE 4595
 
-/* Bytes of stack that are enough for any call. docs/PERFORMANCE.md has the measured peaks. */
+/* Bytes of stack that are enough for any call. Measured peaks, the same for all files (docs/PERFORMANCE-TABLES.md):
+ * planner_sweep 15,224, planner_guided 17,944, planner_both 18,520, planner_conjoin 17,640, planner_space_needed 11,784,
+ * planner_refused_field 88. */
 #define PLANNER_STACK 32768
 
 /*
@@ -186,11 +188,12 @@ uint32_t planner_both(const uint8_t *chart, size_t chart_len,
  * The conjunction of two diagrams over one chart, `rules` (file 2) and `more` (file 3): a reduced diagram that says yes
  * exactly to the sets of steps to which both say yes. Its file is written to the front of `file`: the head and the inner
  * nodes, none with lo equal to hi, no two alike, each arrived at from the root, and each behind its children, those of lo
- * first. Planning with that file gives the plans that both files allow.
+ * first. A plan under that file is one that both files allow, and none that both allow is cheaper.
  *
  * Lent, with the least length; a shorter slice gives 7:
  *   work   N of rules x N of more, where N is the number of inner nodes plus 2; PLANNER_MOST_PAIRS is always enough
- *   file   answer.length, 5 bytes and 9 for each inner node; PLANNER_MOST_FILE is always enough. Judged last of all, after 12
+ *   file   the bytes of the diagram's file, 5 and 9 for each inner node; PLANNER_MOST_FILE is always enough. Judged last
+ *          of all, after 12
  *
  * All six entries of *answer are written; the number is returned. Accepted: length is the file's bytes, cost and count
  * are 0. What the slices hold then:

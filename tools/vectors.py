@@ -5,12 +5,15 @@
     tools/vectors.py --check   writes nothing; says where the file in the repository differs (exit status 1)
 
 crates/vectors/data/readers.txt says how a case is written. The answers are computed here from docs/REFERENCE.md alone: the readers
-field by field, the sweep's costs stage by stage, the guided search as it is told there. Where all ways can be enumerated they
-are, and must give the same. A case in which REFERENCE leaves free what would be written is an error, and so is a case that is
-marked as free and is not.
+field by field, the sweep's costs stage by stage, the guided search as it is told there, the conjunction of two diagrams pair by
+pair. Where all ways, or all sets of the steps that two diagrams ask for, can be enumerated they are, and must give the same.
+A case in which REFERENCE leaves free what would be written is an error, and so is a case that is marked as free and is not.
 """
+import random
 import re
 import sys
+from functools import cache
+from itertools import product
 from typing import NamedTuple
 
 sys.dont_write_bytecode = True  # of the module beside this one
@@ -20,6 +23,8 @@ CRATE = ROOT / "crates/vectors"
 BUFFER = 32784  # the bytes of a file in the program
 SCRIPT = 65536  # the bytes of a script
 MOST_WAYS = 20000  # charts with more ways are not enumerated
+MOST_STEPS = 10  # the sets of more steps are not enumerated
+SAMPLE = 50  # but so many of each kind are tried
 NONE = 4294967295
 sys.setrecursionlimit(10000)
 
@@ -87,9 +92,9 @@ def read_chart(content):
     return Chart(stages, start, end, tuple(steps))
 
 
-def read_diagram(content, steps):
+def read_diagram(content, steps, file=2):
     root, nodes = 0, []
-    for place, body in bodies(content, 2, ((0x11, 2), (0x12, 6))):
+    for place, body in bodies(content, file, ((0x11, 2), (0x12, 6))):
         if place == 0:
             root = two(body, 0)
             continue
@@ -97,10 +102,10 @@ def read_diagram(content, steps):
         own = len(nodes) + 2
         sound = all(c < own and (c < 2 or nodes[c - 2][0] > at_step) for c in children)
         if len(nodes) == 510 or at_step >= steps or not sound:
-            raise Refused(6, 2, place)
+            raise Refused(6, file, place)
         nodes.append((at_step, *children))
     if root >= len(nodes) + 2:
-        raise Refused(6, 2, 0)
+        raise Refused(6, file, 0)
     return Diagram(root, tuple(nodes))
 
 
@@ -258,6 +263,112 @@ def guided(chart, rules, call):
 SEARCHES = {"W": sweep, "G": guided}
 
 
+# ---- the conjunction
+
+def says_yes(diagram, chosen):
+    n = diagram.root
+    while n >= 2:
+        at_step, lo, hi = diagram.nodes[n - 2]
+        n = hi if at_step in chosen else lo
+    return n == 1
+
+
+class Reduced:
+    """Inner nodes, none with lo equal to hi and no two alike; each has a number from 2 on."""
+
+    def __init__(self):
+        self.numbers = {}
+
+    def node(self, at_step, lo, hi):
+        return lo if lo == hi else self.numbers.setdefault((at_step, lo, hi), len(self.numbers) + 2)
+
+    def walked(self, root):
+        """The diagram from a root, with the numbers in which a walk leaves its nodes, lo before hi."""
+        made, nodes, left = list(self.numbers), [], {0: 0, 1: 1}
+
+        def leave(n):
+            if n not in left:
+                at_step, lo, hi = made[n - 2]
+                nodes.append((at_step, leave(lo), leave(hi)))
+                left[n] = len(nodes) + 1
+            return left[n]
+
+        return Diagram(leave(root), tuple(nodes))
+
+
+def by_pairs(a, b):
+    """The conjunction of two diagrams, from pair to pair of their nodes."""
+    reduced = Reduced()
+
+    def child(diagram, n, at_step, side):
+        return diagram.nodes[n - 2][side] if n >= 2 and diagram.nodes[n - 2][0] == at_step else n
+
+    @cache
+    def joined(x, y):
+        if x < 2 and y < 2:
+            return x * y
+        first = min(d.nodes[n - 2][0] for d, n in ((a, x), (b, y)) if n >= 2)
+        lo, hi = (joined(child(a, x, first, side), child(b, y, first, side)) for side in (1, 2))
+        return reduced.node(first, lo, hi)
+
+    return reduced.walked(joined(a.root, b.root))
+
+
+def by_sets(steps, answers):
+    """The reduced diagram with these answers to the sets of these steps; a set comes before those that are alike but have a step that it has not."""
+    reduced = Reduced()
+
+    def split(k, part):
+        if len(part) == 1:
+            return int(part[0])
+        middle = len(part) // 2
+        return reduced.node(steps[k], split(k + 1, part[:middle]), split(k + 1, part[middle:]))
+
+    return reduced.walked(split(0, answers))
+
+
+def sets_of(steps):
+    """All sets of the steps, the first step as the leading one; a sample, where they are many."""
+    if len(steps) <= MOST_STEPS:
+        choices = product((False, True), repeat=len(steps))
+    else:
+        draw = random.Random(1)
+        choices = ([draw.random() < share for _ in steps] for share in (0, 0.5, 0.99, 1) for _ in range(SAMPLE))
+    return [{e for e, taken in zip(steps, choice) if taken} for choice in choices]
+
+
+def conjunction(a, b):
+    found = by_pairs(a, b)
+    steps = sorted({n[0] for d in (a, b) for n in d.nodes})
+    sets = sets_of(steps)
+    both = [says_yes(a, chosen) and says_yes(b, chosen) for chosen in sets]
+    assert [says_yes(found, chosen) for chosen in sets] == both
+    assert len(steps) > MOST_STEPS or by_sets(steps, both) == found
+    return found
+
+
+def conjoined(chart, rules, more, work, room):
+    """The file, after all checks."""
+    steps = len(read_chart(chart).steps)
+    a, b = read_diagram(rules, steps), read_diagram(more, steps, 3)
+    if work < (len(a.nodes) + 2) * (len(b.nodes) + 2):
+        raise Refused(7, 0, 0)
+    found = conjunction(a, b)
+    if len(found.nodes) > 510:
+        raise Refused(12, 0, 0)
+    if room < len(found.file()):
+        raise Refused(7, 0, 0)
+    return found.file()
+
+
+def join(chart, rules, more, work, room):
+    try:
+        found = conjoined(chart, rules, more, work, room)
+    except Refused as r:
+        return f"{verdict(r.number, r.file, r.place, 0)} length 0 count 0 bytes changed"
+    return f"{verdict(0, 0, 0, 0)} length {len(found)} count 0 {words('bytes', [f'{x:02x}' for x in found])} changed"
+
+
 # ---- the scripts
 
 def put(buffer, at, content):
@@ -280,16 +391,18 @@ def many(letter, count, b, c, d, e, f):
         elif letter == "t":
             start = min(i // b, 254)
             yield field("s", start, min(start + c + d * (i % b), 255), (e + f * i) % 1000001)
+        elif letter == "l":
+            yield field("n", max(b - c * i, 0), max(d + i - e, 0), max(d + i - f, 0))
         else:
             back = e + f * (i % b)
             yield field("n", max(1023 - c * (i // b), 0), max(i + 2 - d, 0), max(i + 2 - back, 0))
 
 
 class Player:
-    """The state of a script: three buffers and how many bytes of each count."""
+    """The state of a script: its buffers and how many bytes of each count."""
 
     def __init__(self):
-        self.buffers = {name: bytearray(BUFFER) for name in ("file", "chart", "rules")}
+        self.buffers = {name: bytearray(BUFFER) for name in ("file", "chart", "rules", "more")}
         self.sizes = dict.fromkeys(self.buffers, 0)
 
     def content(self, name):
@@ -309,10 +422,10 @@ class Player:
             self.sizes["file"] = numbers[0]
         elif letter == "o":
             self.copy("chart", "file")
-        elif letter in "wv":
-            self.copy("file", {"w": "chart", "v": "rules"}[letter])
+        elif letter in "wvu":
+            self.copy("file", {"w": "chart", "v": "rules", "u": "more"}[letter])
             self.sizes["file"] = 0
-        elif letter in "tmz":
+        elif letter in "tmlz":
             self.sizes["file"] = put(file, size, b"".join(many(letter, *numbers)))
         elif letter in "hsrn":
             self.sizes["file"] = put(file, size, field(letter, *numbers[:3]))
@@ -335,6 +448,8 @@ class Player:
         if letter == "F":
             found = refused_field(chart, rules, *numbers[:2])
             return words(f"bytes {len(found)}", [f"{x:02x}" for x in found])
+        if letter == "J":
+            return join(chart, rules, self.content("more"), *numbers[:2])
         if letter not in SEARCHES:
             raise Faulty(f"no call {letter}")
         return SEARCHES[letter](chart, rules, Call(*numbers))

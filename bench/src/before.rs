@@ -1,17 +1,20 @@
 //! An earlier archive of the library beside the linked one (feature `before`), to be timed against
 //! it in one process, and a second copy of that archive: equal code at other addresses, whose times
 //! tell how large noise is. `build.rs` links both with their calls renamed, so the archive must have
-//! the calls of the present `include/planner.h`. The linked one is called here just as they are: by
+//! the calls of the present `include/planner.h` but for the conjunction. The linked one is called here just as they are: by
 //! way of `rust/` and `library.rs` a call takes 3 ns more.
 
 use planner::lent;
 
-use crate::library::{answer_of, space_of, UNWRITTEN, UNWRITTEN_SPACE};
-use crate::planner::{Answer, GuidedSlices, Planner, Space, SweepSlices};
+use crate::library::{answer_of, space_of, Library, UNWRITTEN, UNWRITTEN_SPACE};
+use crate::planner::{Answer, ConjoinSlices, GuidedSlices, Planner, Space, SweepSlices};
 
-/// Declares the calls of a copy and makes it an implementation.
+/// Declares the calls of a copy and makes it an implementation, with further methods of it at the end.
 macro_rules! copy {
-    ($(#[$text:meta])* $planner:ident, $name:literal, $space:ident, $sweep:ident, $guided:ident) => {
+    (
+        $(#[$text:meta])* $planner:ident, $name:literal, $space:ident, $sweep:ident, $guided:ident
+        $(, $($more:tt)*)?
+    ) => {
         extern "C" {
             fn $space(
                 chart: *const u8,
@@ -132,6 +135,8 @@ macro_rules! copy {
                 };
                 Some(space_of(returned, space))
             }
+
+            $($($more)*)?
         }
     };
 }
@@ -139,7 +144,16 @@ macro_rules! copy {
 copy! {
     /// The linked library.
     Linked, "library",
-    planner_space_needed, planner_sweep, planner_guided
+    planner_space_needed, planner_sweep, planner_guided,
+    fn conjoin(
+        &self,
+        chart: &[u8],
+        rules: &[u8],
+        more: &[u8],
+        lent: &mut ConjoinSlices,
+    ) -> Option<Answer> {
+        Library { guarded: false }.conjoin(chart, rules, more, lent)
+    }
 }
 copy! {
     /// The earlier library.

@@ -1,5 +1,6 @@
 //! The cases of the differential test: first the corners of the limits, among them those of rows and of
-//! ticks, then every systematic damage, then random ones. A case is fixed by the seed and its number.
+//! ticks, then every systematic damage, then conjunctions in corners and of broken files, then random
+//! ones. A case is fixed by the seed and its number.
 
 use std::ops::Range;
 
@@ -13,24 +14,42 @@ use crate::generate::diagrams::{layers_of_width, random_diagram, scattered};
 use crate::generate::load::load;
 use crate::generate::long::{self, near_longest};
 use crate::generate::mutate::mutated;
+use crate::generate::operands;
 use crate::generate::remarks::{self, with_remarks};
+use crate::generate::three_files::{self, ThreeFiles};
 use crate::generate::{rows, steps, ticks, Random};
 
-/// Two files, and the seed from which the lent slices and their content are drawn.
+/// Two or three files, and the seed from which the lent slices and their content are drawn.
 #[derive(Clone, Debug)]
 pub struct Case {
     pub kind: &'static str,
     pub chart: Vec<u8>,
     pub rules: Vec<u8>,
+    /// File 3, where the case is a conjunction; the other calls are then left out.
+    pub more: Option<Vec<u8>>,
     /// Where it is odd, no slice is too short.
     pub dirt: u64,
 }
 
 impl Case {
+    /// A case of the searches.
+    pub fn new(kind: &'static str, (chart, rules): Files, dirt: u64) -> Case {
+        Case { kind, chart, rules, more: None, dirt }
+    }
+
+    /// A case of the conjunction.
+    pub fn conjunction(kind: &'static str, files: ThreeFiles, dirt: u64) -> Case {
+        let (chart, rules, more) = files;
+        Case { kind, chart, rules, more: Some(more), dirt }
+    }
+
     pub fn lends_enough(&self) -> bool {
         self.dirt % 2 == 1
     }
 }
+
+/// So many of a hundred random cases are conjunctions.
+const CONJUNCTIONS: usize = 8;
 
 /// All cases of one seed.
 pub struct Cases {
@@ -40,6 +59,9 @@ pub struct Cases {
     rows: Vec<Files>,
     ticks: Vec<Files>,
     systematic: Vec<Files>,
+    /// Each makes two cases: one that lends enough, and one that need not.
+    conjunctions: Vec<ThreeFiles>,
+    broken_conjunctions: Vec<ThreeFiles>,
 }
 
 impl Cases {
@@ -54,6 +76,7 @@ impl Cases {
             files.extend(systematic(problem));
             files.extend(remarks::systematic(problem));
         }
+        let corners_of_conjunctions = operands::systematic(&mut random);
         let corner = |shape: &corners::Shape| written(&shape(&mut random, Size::FULL));
         Cases {
             seed,
@@ -61,6 +84,8 @@ impl Cases {
             rows: rows::systematic().iter().map(written).collect(),
             ticks: ticks::systematic().iter().map(written).collect(),
             systematic: files,
+            conjunctions: corners_of_conjunctions.iter().map(three_files::written).collect(),
+            broken_conjunctions: three_files::broken(&example_problem()),
         }
     }
 
@@ -76,34 +101,52 @@ impl Cases {
 
     /// The cases of systematic damage.
     pub fn systematic(&self) -> Range<usize> {
-        self.corners()..self.first_random()
+        self.corners()..self.corners() + self.systematic.len()
+    }
+
+    /// The conjunctions in corners and of broken files.
+    pub fn conjunctions(&self) -> Range<usize> {
+        let first = self.systematic().end;
+        first..first + 2 * self.conjunctions.len() + self.broken_conjunctions.len()
     }
 
     /// The first random case.
     pub fn first_random(&self) -> usize {
-        self.corners() + self.systematic.len()
+        self.conjunctions().end
     }
 
     /// The case with a number.
     pub fn case(&self, number: usize) -> Case {
         let mut random = Random::of(self.seed, number as u64);
-        if let Some((chart, rules)) = self.corners.get(number).cloned() {
-            return Case { kind: "corner", chart, rules, dirt: random.word() | 1 };
+        if let Some(files) = self.corners.get(number).cloned() {
+            return Case::new("corner", files, random.word() | 1);
         }
         let in_rows = number - self.corners.len();
-        if let Some((chart, rules)) = self.rows.get(in_rows / 2).cloned() {
+        if let Some(files) = self.rows.get(in_rows / 2).cloned() {
             let dirt = enough(&mut random, in_rows % 2 == 0);
-            return Case { kind: "rows", chart, rules, dirt };
+            return Case::new("rows", files, dirt);
         }
         let in_ticks = number - self.first_of_ticks();
-        if let Some((chart, rules)) = self.ticks.get(in_ticks).cloned() {
-            return Case { kind: "ticks", chart, rules, dirt: random.word() | 1 };
+        if let Some(files) = self.ticks.get(in_ticks).cloned() {
+            return Case::new("ticks", files, random.word() | 1);
         }
-        let (kind, (chart, rules)) = match self.systematic.get(number - self.corners()) {
-            Some(files) => ("systematic damage", files.clone()),
-            None => random_files(&mut random),
-        };
-        Case { kind, chart, rules, dirt: random.word() }
+        if let Some(files) = self.systematic.get(number - self.corners()).cloned() {
+            return Case::new("systematic damage", files, random.word());
+        }
+        match number.checked_sub(self.first_random()) {
+            None => self.conjunction(number - self.systematic().end, &mut random),
+            Some(_) => random_case(&mut random),
+        }
+    }
+
+    /// One of the conjunctions in corners and of broken files.
+    fn conjunction(&self, at: usize, random: &mut Random) -> Case {
+        let dirt = random.word();
+        if let Some(files) = self.conjunctions.get(at / 2).cloned() {
+            return Case::conjunction("conjunction corner", files, dirt & !1 | at as u64 & 1);
+        }
+        let files = self.broken_conjunctions[at - 2 * self.conjunctions.len()].clone();
+        Case::conjunction("broken conjunction", files, dirt)
     }
 }
 
@@ -146,6 +189,14 @@ fn small_problem(random: &mut Random) -> Problem {
             return Problem { chart, diagram };
         }
     }
+}
+
+fn random_case(random: &mut Random) -> Case {
+    if random.percent(CONJUNCTIONS) {
+        return Case::conjunction("conjunction", three_files::drawn(random), random.word());
+    }
+    let (kind, files) = random_files(random);
+    Case::new(kind, files, random.word())
 }
 
 fn random_files(random: &mut Random) -> (&'static str, Files) {

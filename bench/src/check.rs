@@ -1,6 +1,7 @@
-//! Holds what a search returned and wrote against every rule of docs/REFERENCE.md that speaks of it.
+//! Holds what a call returned and wrote against every rule of docs/REFERENCE.md that speaks of it.
 //! An error text names the section and the rule that fails.
 
+pub mod conjunction;
 mod log;
 
 use std::fmt::Display;
@@ -12,6 +13,8 @@ use crate::reference::{self, Expected, Facts, Judged};
 
 pub type Checked = Result<(), String>;
 
+const AT: &str =
+    "3.1: the file of the field at fault and where the field begins, 0 and 0 without one";
 const LEFT: &str = "3.3: after every refusal but 8 every slice stays";
 const PLAN_LEFT: &str = "3.3: after refusal 8 the plan slice stays";
 const STAY: &str = "7.1, 8.1: what lies behind the used part of a slice stays";
@@ -136,11 +139,9 @@ fn check_answer(expected: &Expected, answer: Answer, count_rule: &str) -> Checke
     demand(answer.number == expected.number, number_rule(expected.number), || {
         format!("number is {} and not {}, file and place {:?}", answer.number, at.0, (at.1, at.2))
     })?;
-    demand(
-        (answer.file, answer.place) == (expected.file, expected.place),
-        "3.1: the file of the field at fault and where the field begins, 0 and 0 without one",
-        || format!("found {answer:?} and not {expected:?}"),
-    )?;
+    demand((answer.file, answer.place) == (expected.file, expected.place), AT, || {
+        format!("found {answer:?} and not {expected:?}")
+    })?;
     let refusal = "3.3: a refusal's cost and length are 0, its count too but for 8";
     let accepted = expected.number == 0;
     demand(
@@ -179,6 +180,7 @@ fn number_rule(number: u32) -> &'static str {
         9 => "3.1, 9: the file is longer than 32,768 bytes",
         10 => "3.1, 10: a step's from is not below its to, or its to not below the stage count",
         11 => "3.1, 11: a step's cost in the file is above 1,000,000",
+        12 => "3.1, 12: the reduced diagram has more than 510 inner nodes",
         _ => "3.1: no such number",
     }
 }

@@ -9,10 +9,11 @@ use crate::cases::Case;
 use crate::check::{self, Checked, FieldCall};
 use crate::crash;
 use crate::figures::Figures;
-use crate::files::read_both;
+use crate::files::{read_both, Refusal, DIAGRAM_FILE, MORE_FILE};
 use crate::generate::Random;
 use crate::lent::{Lent, Side, Span};
-use crate::planner::{GuidedSlices, Planner, SweepSlices};
+use crate::planner::{ConjoinSlices, GuidedSlices, Planner, SweepSlices};
+use crate::reference::conjunction::{by_truth, conjoin, conjunction_answer, Conjoined};
 use crate::reference::{self, Facts, Judged};
 
 /// Charts with more ways than this from some stage are judged by dynamic programming alone.
@@ -28,33 +29,74 @@ pub struct Difference {
     pub text: String,
 }
 
+/// What the reference makes of a case.
+#[derive(Clone, Debug)]
+pub enum Judgement {
+    Searches(Judged),
+    Conjunction(Conjoined),
+}
+
+impl Judgement {
+    /// By the faster methods alone.
+    pub fn of(case: &Case) -> Judgement {
+        match &case.more {
+            None => Judgement::Searches(reference::judge(&case.chart, &case.rules)),
+            Some(more) => Judgement::Conjunction(conjoin(&case.chart, &case.rules, more)),
+        }
+    }
+
+    /// The file that is refused.
+    pub fn fault(&self) -> Option<&Refusal> {
+        match self {
+            Judgement::Searches(judged) => judged.as_ref().err(),
+            Judgement::Conjunction(conjoined) => conjoined.as_ref().err(),
+        }
+    }
+}
+
 /// What a case was good for.
 #[derive(Clone, Debug)]
 pub struct Outcome {
-    /// The number that a sweep on these slices answers.
+    /// The number that a sweep on these slices answers, or the first call of a conjunction.
     pub number: u32,
     /// Whether both searches were lent enough.
     pub enough: bool,
     /// Whether the reference's two methods were compared.
     pub enumerated: bool,
-    pub judged: Judged,
+    pub judgement: Judgement,
+    /// Entries and bytes that were lent to conjunctions.
+    pub lent: Vec<(usize, usize)>,
 }
 
 impl Outcome {
     pub fn figures(&self, case: &Case) -> Figures {
-        Figures::of(case, &self.judged, self.enough)
+        Figures::of(case, self)
     }
 }
 
 /// Runs every call of every implementation on a case.
 pub fn run(case: &Case, planners: &[Box<dyn Planner>]) -> Result<Outcome, Difference> {
-    let (judged, enumerated) = judge(case)?;
-    let outcome = hold(case, judged, planners)?;
+    let (judgement, enumerated) = match &case.more {
+        None => judge(case).map(|(judged, both)| (Judgement::Searches(judged), both))?,
+        Some(_) => judge_conjunction(case)?,
+    };
+    let outcome = hold(case, judgement, planners)?;
     Ok(Outcome { enumerated, ..outcome })
 }
 
 /// The same with a judgement that is there already.
 pub fn hold(
+    case: &Case,
+    judgement: Judgement,
+    planners: &[Box<dyn Planner>],
+) -> Result<Outcome, Difference> {
+    match judgement {
+        Judgement::Searches(judged) => hold_searches(case, judged, planners),
+        Judgement::Conjunction(conjoined) => hold_conjunction(case, conjoined, planners),
+    }
+}
+
+fn hold_searches(
     case: &Case,
     judged: Judged,
     planners: &[Box<dyn Planner>],
@@ -64,18 +106,67 @@ pub fn hold(
     let places = places(case, &judged, &mut random);
     for planner in planners {
         let planner = planner.as_ref();
-        let mut trial = Trial::new(case, &judged, planner, &mut random);
-        trial.sweep(&sweep)?;
-        trial.guided(&guided)?;
-        trial.both(&sweep, &guided)?;
-        trial.space()?;
+        let mut trial = Trial::new(case, planner, &mut random);
+        trial.sweep(&judged, &sweep)?;
+        trial.guided(&judged, &guided)?;
+        trial.both(&judged, &sweep, &guided)?;
+        trial.space(&judged)?;
         for place in &places {
             trial.refused_field(*place)?;
         }
     }
     let number = reference::sweep_answer(&judged, &sweep.work_lengths(), sweep.plan.len()).number;
     let other = reference::guided_answer(&judged, &guided.work_lengths(), guided.plan.len()).number;
-    Ok(Outcome { number, enough: number != 7 && other != 7, enumerated: false, judged })
+    let enough = number != 7 && other != 7;
+    let judgement = Judgement::Searches(judged);
+    Ok(Outcome { number, enough, enumerated: false, judgement, lent: Vec::new() })
+}
+
+fn hold_conjunction(
+    case: &Case,
+    conjoined: Conjoined,
+    planners: &[Box<dyn Planner>],
+) -> Result<Outcome, Difference> {
+    let mut random = Random::new(case.dirt);
+    let all = slices::drawn_for_conjunction(&conjoined, case.lends_enough(), &mut random);
+    let shown = field_of_more(case, &conjoined);
+    for planner in planners {
+        let mut trial = Trial::new(case, planner.as_ref(), &mut random);
+        for before in &all {
+            trial.conjoin(&conjoined, before)?;
+        }
+        if let Some((case, place)) = &shown {
+            let mut trial = Trial::new(case, planner.as_ref(), &mut random);
+            trial.refused_field((DIAGRAM_FILE, *place))?;
+        }
+    }
+    let lent: Vec<_> = all.iter().map(|slices| (slices.work.len(), slices.file.len())).collect();
+    let (work, file) = lent[0];
+    let number = conjunction_answer(&conjoined, work, file).number;
+    let judgement = Judgement::Conjunction(conjoined);
+    Ok(Outcome { number, enough: false, enumerated: false, judgement, lent })
+}
+
+/// Where file 3 is at fault: a case that has it as its second file, so that its field is shown, and the
+/// place.
+fn field_of_more(case: &Case, conjoined: &Conjoined) -> Option<(Case, usize)> {
+    let fault = conjoined.as_ref().err().filter(|fault| fault.file == MORE_FILE)?;
+    let files = (case.chart.clone(), case.more.clone()?);
+    Some((Case::new(case.kind, files, case.dirt), fault.place))
+}
+
+/// The reference's conjunction; of few steps both of its methods must agree.
+fn judge_conjunction(case: &Case) -> Result<(Judgement, bool), Difference> {
+    let judgement = Judgement::of(case);
+    let Judgement::Conjunction(Ok(found)) = &judgement else { return Ok((judgement, false)) };
+    match by_truth(&found.operands) {
+        Some(other) if other != found.reduced => Err(Difference {
+            planner: "reference",
+            call: "conjunction",
+            text: format!("by truth {other:?}, by the product {:?}", found.reduced),
+        }),
+        by_truth => Ok((judgement, by_truth.is_some())),
+    }
 }
 
 /// The reference's judgement; on small problems both of its methods must agree.
@@ -100,62 +191,78 @@ fn judge(case: &Case) -> Result<(Judged, bool), Difference> {
 /// One implementation on one case: each call is made on fresh slices, then checked.
 struct Trial<'a> {
     case: &'a Case,
-    judged: &'a Judged,
     planner: &'a dyn Planner,
     random: &'a mut Random,
+    files: LentFiles,
+}
+
+/// A case's files.
+struct LentFiles {
     chart: Lent<u8>,
     rules: Lent<u8>,
+    more: Option<Lent<u8>>,
+}
+
+impl LentFiles {
+    fn spans(&self) -> Vec<Span> {
+        let both = [self.chart.span("chart"), self.rules.span("rules")];
+        both.into_iter().chain(self.more.as_ref().map(|more| more.span("more"))).collect()
+    }
+
+    fn are_those_of(&self, case: &Case) -> bool {
+        self.chart[..] == case.chart
+            && self.rules[..] == case.rules
+            && self.more.as_deref() == case.more.as_deref()
+    }
 }
 
 impl<'a> Trial<'a> {
-    fn new(
-        case: &'a Case,
-        judged: &'a Judged,
-        planner: &'a dyn Planner,
-        random: &'a mut Random,
-    ) -> Trial<'a> {
+    fn new(case: &'a Case, planner: &'a dyn Planner, random: &'a mut Random) -> Trial<'a> {
         let mut lent = |file: &[u8]| Lent::beside_guard(file, Side::drawn(random));
         let (chart, rules) = (lent(&case.chart), lent(&case.rules));
-        Trial { case, judged, planner, random, chart, rules }
+        let more = case.more.as_deref().map(lent);
+        Trial { case, planner, random, files: LentFiles { chart, rules, more } }
     }
 
-    fn sweep(&mut self, before: &SweepSlices) -> Result<(), Difference> {
+    fn sweep(&mut self, judged: &Judged, before: &SweepSlices) -> Result<(), Difference> {
         let mut after = before.beside_guards(self.random);
         let (name, spans) = ("sweep", after.spans());
-        let answer =
-            self.call(name, &spans, |chart, rules, by| by.sweep(chart, rules, &mut after))?;
+        let answer = self.call(name, &spans, |f, by| by.sweep(&f.chart, &f.rules, &mut after))?;
         self.intact(name, &after.spans())?;
-        self.checked(name, check::sweep(self.judged, before, &after, answer))
+        self.checked(name, check::sweep(judged, before, &after, answer))
     }
 
-    fn guided(&mut self, before: &GuidedSlices) -> Result<(), Difference> {
+    fn guided(&mut self, judged: &Judged, before: &GuidedSlices) -> Result<(), Difference> {
         let mut after = before.beside_guards(self.random);
         let (name, spans) = ("guided", after.spans());
-        let answer =
-            self.call(name, &spans, |chart, rules, by| by.guided(chart, rules, &mut after))?;
+        let answer = self.call(name, &spans, |f, by| by.guided(&f.chart, &f.rules, &mut after))?;
         self.intact(name, &after.spans())?;
-        self.checked(name, check::guided(self.judged, before, &after, answer))
+        self.checked(name, check::guided(judged, before, &after, answer))
     }
 
-    fn both(&mut self, first: &SweepSlices, second: &GuidedSlices) -> Result<(), Difference> {
+    fn both(
+        &mut self,
+        judged: &Judged,
+        first: &SweepSlices,
+        second: &GuidedSlices,
+    ) -> Result<(), Difference> {
         let mut sweep = first.beside_guards(self.random);
         let mut guided = second.beside_guards(self.random);
         let (name, spans) = ("both", [&sweep.spans()[..], &guided.spans()].concat());
-        let answers = self.call(name, &spans, |chart, rules, by| {
-            by.both(chart, rules, &mut sweep, &mut guided)
-        })?;
+        let answers =
+            self.call(name, &spans, |f, by| by.both(&f.chart, &f.rules, &mut sweep, &mut guided))?;
         let Some((swept, found)) = answers else { return Ok(()) };
         self.intact(name, &[&sweep.spans()[..], &guided.spans()].concat())?;
-        let checked = check::sweep(self.judged, first, &sweep, swept)
-            .and_then(|()| check::guided(self.judged, second, &guided, found));
+        let checked = check::sweep(judged, first, &sweep, swept)
+            .and_then(|()| check::guided(judged, second, &guided, found));
         self.checked(name, checked)
     }
 
-    fn space(&mut self) -> Result<(), Difference> {
+    fn space(&mut self, judged: &Judged) -> Result<(), Difference> {
         let name = "space needed";
-        let found = self.call(name, &[], |chart, rules, by| by.space_needed(chart, rules))?;
+        let found = self.call(name, &[], |f, by| by.space_needed(&f.chart, &f.rules))?;
         let Some(found) = found else { return Ok(()) };
-        self.checked(name, check::space(self.judged, found))
+        self.checked(name, check::space(judged, found))
     }
 
     /// Lends a slice of any length from none to more than the field has.
@@ -167,12 +274,23 @@ impl<'a> Trial<'a> {
         let before: Vec<u8> = (0..lent).map(|_| self.random.word() as u8).collect();
         let mut after = Lent::beside_guard(&before, Side::drawn(self.random));
         let (name, spans) = ("refused field", [after.span("field")]);
-        let length = self.call(name, &spans, |chart, rules, by| {
-            by.refused_field(chart, rules, mark, place, &mut after)
+        let length = self.call(name, &spans, |f, by| {
+            by.refused_field(&f.chart, &f.rules, mark, place, &mut after)
         })?;
         let Some(length) = length else { return Ok(()) };
         self.intact(name, &[after.span("field")])?;
         self.checked(name, check::refused_field(field, &before, &after, length))
+    }
+
+    fn conjoin(&mut self, found: &Conjoined, before: &ConjoinSlices) -> Result<(), Difference> {
+        let mut after = before.beside_guards(self.random);
+        let (name, spans) = ("conjoin", after.spans());
+        let answer = self.call(name, &spans, |f, by| {
+            by.conjoin(&f.chart, &f.rules, f.more.as_deref()?, &mut after)
+        })?;
+        let Some(answer) = answer else { return Ok(()) };
+        self.intact(name, &after.spans())?;
+        self.checked(name, check::conjunction::conjunction(found, before, &after, answer))
     }
 
     /// Makes a call; a panic of it is a difference, and so is a file that has changed.
@@ -180,14 +298,13 @@ impl<'a> Trial<'a> {
         &self,
         name: &'static str,
         lent: &[Span],
-        run: impl FnOnce(&[u8], &[u8], &dyn Planner) -> T,
+        run: impl FnOnce(&LentFiles, &dyn Planner) -> T,
     ) -> Result<T, Difference> {
-        let files = [self.chart.span("chart"), self.rules.span("rules")];
-        crash::watch(self.planner.name(), name, &files, lent);
-        let result = catch_unwind(AssertUnwindSafe(|| run(&self.chart, &self.rules, self.planner)));
+        crash::watch(self.planner.name(), name, &self.files.spans(), lent);
+        let result = catch_unwind(AssertUnwindSafe(|| run(&self.files, self.planner)));
         let result = result.map_err(|_| self.difference(name, "the call panicked".into()))?;
-        self.intact(name, &[self.chart.span("chart"), self.rules.span("rules")])?;
-        if self.chart[..] != self.case.chart || self.rules[..] != self.case.rules {
+        self.intact(name, &self.files.spans())?;
+        if !self.files.are_those_of(self.case) {
             return Err(self.difference(name, "a file has changed".into()));
         }
         Ok(result)

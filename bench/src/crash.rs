@@ -49,6 +49,7 @@ extern "C" {
     fn write(file: c_int, bytes: *const u8, length: usize) -> isize;
     fn open(path: *const c_char, flags: c_int, mode: c_int) -> c_int;
     fn close(file: c_int) -> c_int;
+    fn unlink(path: *const c_char) -> c_int;
     fn mkdir(path: *const c_char, mode: c_int) -> c_int;
     fn alarm(seconds: c_uint) -> c_uint;
     fn pause() -> c_int;
@@ -61,6 +62,7 @@ struct Folder {
     itself: CString,
     chart: CString,
     rules: CString,
+    more: CString,
     text: CString,
 }
 
@@ -76,6 +78,8 @@ struct Watch {
     dirt: u64,
     chart: (*const u8, usize),
     rules: (*const u8, usize),
+    /// No address where the case has no third file.
+    more: (*const u8, usize),
     planner: &'static str,
     call: &'static str,
     spans: [Option<Span>; SPANS],
@@ -87,6 +91,7 @@ const NOTHING: Watch = Watch {
     dirt: 0,
     chart: (std::ptr::null(), 0),
     rules: (std::ptr::null(), 0),
+    more: (std::ptr::null(), 0),
     planner: "no implementation",
     call: "no call",
     spans: [None; SPANS],
@@ -107,6 +112,7 @@ pub fn install(folder: &Path) {
         itself: path(""),
         chart: path("chart.bin"),
         rules: path("rules.bin"),
+        more: path("more.bin"),
         text: path("case.txt"),
     });
     let flags = WITH_INFORMATION | ON_ITS_OWN_STACK;
@@ -127,6 +133,7 @@ pub fn begin(case: &Case, origin: Option<(u64, u64)>) {
         dirt: case.dirt,
         chart: (case.chart.as_ptr(), case.chart.len()),
         rules: (case.rules.as_ptr(), case.rules.len()),
+        more: case.more.as_ref().map_or(NOTHING.more, |more| (more.as_ptr(), more.len())),
         ..NOTHING
     });
 }
@@ -220,6 +227,7 @@ fn tell(watch: &Watch, fault: &Fault) -> fmt::Result {
     unsafe { mkdir(folder.itself.as_ptr(), 0o777) };
     let saved = save(&folder.chart, |file| file.bytes(watch.chart))
         .and_then(|()| save(&folder.rules, |file| file.bytes(watch.rules)))
+        .and_then(|()| save_more(&folder.more, watch.more))
         .and_then(|()| {
             save(&folder.text, |file| {
                 write!(file, "kind {kind}\ndirt {dirt}\nplanner {planner}\ncall {call}\n{fault}\n")
@@ -229,6 +237,16 @@ fn tell(watch: &Watch, fault: &Fault) -> fmt::Result {
         Ok(()) => writeln!(shown, "to run it again: --replay {}", folder.shown),
         Err(_) => writeln!(shown, "the case could not be saved in {}", folder.shown),
     }
+}
+
+/// Saves the third file; where there is none, that of an earlier case goes.
+fn save_more(path: &CString, more: (*const u8, usize)) -> fmt::Result {
+    if more.0.is_null() {
+        // SAFETY: the path ends with a zero byte.
+        unsafe { unlink(path.as_ptr()) };
+        return Ok(());
+    }
+    save(path, |file| file.bytes(more))
 }
 
 fn save(path: &CString, content: impl FnOnce(&mut Output) -> fmt::Result) -> fmt::Result {

@@ -1,9 +1,14 @@
 //! How far a case goes: its figures, and those that a whole run must reach.
 
+mod conjunctions;
+
+pub use conjunctions::Conjoining;
+
 use crate::cases::Case;
+use crate::compare::{Judgement, Outcome};
 use crate::files::{
-    Chart, Diagram, Problem, Refusal, CHART_FILE, LONGEST_FILE, MAX_COST, MAX_NODES, MAX_STAGES,
-    TICK,
+    Chart, Diagram, Problem, Refusal, CHART_FILE, DIAGRAM_FILE, LONGEST_FILE, MAX_COST, MAX_NODES,
+    MAX_STAGES, MORE_FILE, TICK,
 };
 use crate::generate::costs::FIRST_TO_WRAP;
 use crate::generate::remarks::count_before;
@@ -61,6 +66,7 @@ pub struct Figures {
     /// The field at fault, where it is a step.
     pub step: Option<StepAtFault>,
     pub rounding: Rounding,
+    pub conjunction: Conjoining,
 }
 
 /// What rounding changes, where searches run.
@@ -121,8 +127,18 @@ fn are_apart(a: (u32, u32), b: (u32, u32)) -> bool {
 }
 
 impl Figures {
+    pub fn of(case: &Case, outcome: &Outcome) -> Figures {
+        match &outcome.judgement {
+            Judgement::Searches(judged) => Figures::of_search_case(case, judged, outcome.enough),
+            Judgement::Conjunction(found) => {
+                let conjunction = Conjoining::of(case, found, &outcome.lent, outcome.enumerated);
+                Figures { conjunction, ..Figures::default() }
+            }
+        }
+    }
+
     /// `enough`: both searches are lent what they need, and so run.
-    pub fn of(case: &Case, judged: &Judged, enough: bool) -> Figures {
+    fn of_search_case(case: &Case, judged: &Judged, enough: bool) -> Figures {
         let Case { chart, rules, .. } = case;
         let figures = match judged {
             Ok(facts) if enough => {
@@ -131,7 +147,7 @@ impl Figures {
             Ok(facts) => Figures::of_files(facts),
             Err(fault) => return Figures::of_refusal(case, fault),
         };
-        let remarks = remarks_passed(case, judged);
+        let remarks = remarks_passed(case, None);
         Figures { bytes: (chart.len(), rules.len()), remarks, ..figures }
     }
 
@@ -148,7 +164,7 @@ impl Figures {
             refused_rules,
             too_long: number == 9,
             bytes: (if in_chart { 0 } else { case.chart.len() }, 0),
-            remarks: remarks_passed(case, &Err(*fault)),
+            remarks: remarks_passed(case, Some(fault)),
             fault_behind_remark: behind,
             step: StepAtFault::of(&case.chart, fault),
             ..Figures::default()
@@ -206,19 +222,17 @@ impl Figures {
     }
 }
 
-/// Remarks that were passed over in both files, up to a fault.
-pub fn remarks_passed(case: &Case, judged: &Judged) -> usize {
-    let in_chart = |place| count_before(&case.chart, place);
-    let in_rules = |place| count_before(&case.rules, place);
-    match judged {
-        Ok(_) => in_chart(usize::MAX) + in_rules(usize::MAX),
-        Err(Refusal { number: 9, file: CHART_FILE, .. }) => 0,
-        Err(Refusal { file: CHART_FILE, place, .. }) => in_chart(*place),
-        Err(Refusal { number: 9, .. }) => in_chart(usize::MAX),
+/// Remarks that were passed over in all files, up to a fault.
+pub fn remarks_passed(case: &Case, fault: Option<&Refusal>) -> usize {
+    let read_to = |file: u32| match fault {
+        Some(fault) if fault.file < file || (fault.file, fault.number) == (file, 9) => 0,
         // The root is judged when all nodes are read.
-        Err(Refusal { number: 6, place: 0, .. }) => in_chart(usize::MAX) + in_rules(usize::MAX),
-        Err(Refusal { place, .. }) => in_chart(usize::MAX) + in_rules(*place),
-    }
+        Some(fault) if fault.file == file && (fault.number, fault.place) != (6, 0) => fault.place,
+        _ => usize::MAX,
+    };
+    let files = [Some(&case.chart), Some(&case.rules), case.more.as_ref()];
+    let files = files.into_iter().zip([CHART_FILE, DIAGRAM_FILE, MORE_FILE]);
+    files.filter_map(|(file, mark)| Some(count_before(file?, read_to(mark)))).sum()
 }
 
 fn cheapest_goal(facts: &Facts) -> Option<usize> {
@@ -290,7 +304,7 @@ impl Corner {
 }
 
 /// Most of the largest ones are what the limits allow.
-pub const CORNERS: [Corner; 64] = [
+pub const CORNERS: [Corner; 100] = [
     Corner::largest("plan cost", 255_000_000, |f| f.plan_cost),
     Corner::largest("plan length", 255, |f| f.plan_length),
     Corner::largest("sum of a reached pair", 765_000_000, |f| f.sum),
@@ -381,4 +395,66 @@ pub const CORNERS: [Corner; 64] = [
     Corner::count("with a longer or shorter plan by rounding", 300, |f| f.rounding.plan.into()),
     Corner::count("with ties by rounding", 2_500, |f| f.rounding.tie.into()),
     Corner::count("with another guided count by rounding", 350, |f| f.rounding.count.into()),
+    Corner::largest("pairs of a conjunction", 262_144, |f| f.conjunction.pairs),
+    Corner::largest("visited pairs of a conjunction", 130_000, |f| f.conjunction.visited),
+    Corner::largest("depth of a conjunction", 1_020, |f| f.conjunction.depth),
+    Corner::largest("nodes of a written conjunction", MAX_NODES, |f| {
+        if f.conjunction.wrote(|_| true) {
+            f.conjunction.nodes
+        } else {
+            0
+        }
+    }),
+    Corner::largest("nodes of a conjunction that is too large", 10_000, |f| f.conjunction.nodes),
+    Corner::count("sound conjunctions", 8_000, |f| f.conjunction.sound.into()),
+    Corner::count("conjunctions compared by truth", 6_000, |f| f.conjunction.by_truth.into()),
+    Corner::count("conjunctions of padded diagrams", 4_000, |f| f.conjunction.padded.into()),
+    Corner::count("conjunctions that say no", 1_000, |f| {
+        (f.conjunction.constant == Some(false)).into()
+    }),
+    Corner::count("conjunctions that say yes", 300, |f| {
+        (f.conjunction.constant == Some(true)).into()
+    }),
+    Corner::count("conjunctions larger than both diagrams", 500, |f| f.conjunction.grown.into()),
+    Corner::count("conjunctions of 50 to 508 nodes", 100, |f| {
+        f.conjunction.wrote(|n| (50..509).contains(&n)).into()
+    }),
+    Corner::count("conjunctions of 509 nodes", 10, |f| f.conjunction.wrote(|n| n == 509).into()),
+    Corner::count("conjunctions of 510 nodes", 10, |f| f.conjunction.wrote(|n| n == 510).into()),
+    Corner::count("12 for 511 nodes", 10, |f| {
+        (f.conjunction.calls.too_large > 0 && f.conjunction.nodes == 511).into()
+    }),
+    Corner::count("conjunctions accepted", 8_000, |f| f.conjunction.calls.accepted),
+    Corner::count("conjunctions on slices of just the length needed", 4_000, |f| {
+        f.conjunction.calls.exact
+    }),
+    Corner::count("12", 50, |f| f.conjunction.calls.too_large),
+    Corner::count("12 with a short buffer", 20, |f| f.conjunction.calls.too_large_before_file),
+    Corner::count("7 for the work slice", 8_000, |f| f.conjunction.calls.short_work),
+    Corner::count("7 for one entry", 4_000, |f| f.conjunction.calls.one_entry),
+    Corner::count("7 for the work slice before 12", 20, |f| {
+        f.conjunction.calls.short_work_before_too_large
+    }),
+    Corner::count("7 for the buffer", 8_000, |f| f.conjunction.calls.short_file),
+    Corner::count("7 for one byte", 4_000, |f| f.conjunction.calls.one_byte),
+    Corner::count("file 3 refused with 1", 300, |f| f.conjunction.refuses_more(1).into()),
+    Corner::count("file 3 refused with 2", 300, |f| f.conjunction.refuses_more(2).into()),
+    Corner::count("file 3 refused with 3", 300, |f| f.conjunction.refuses_more(3).into()),
+    Corner::count("file 3 refused with 6", 300, |f| f.conjunction.refuses_more(6).into()),
+    Corner::count("file 3 refused with 9", 20, |f| f.conjunction.refuses_more(9).into()),
+    Corner::count("file 3 refused for its root", 20, |f| f.conjunction.refuses_root().into()),
+    Corner::count("conjunctions with a refused chart", 300, |f| {
+        f.conjunction.refuses(CHART_FILE).into()
+    }),
+    Corner::count("conjunctions with a refused file 2", 500, |f| {
+        f.conjunction.refuses(DIAGRAM_FILE).into()
+    }),
+    Corner::count("files 2 and 3 at fault", 100, |f| f.conjunction.hidden_fault.into()),
+    Corner::count("conjunctions with remarks in file 3", 300, |f| {
+        (f.conjunction.sound && f.conjunction.remarks > 0).into()
+    }),
+    Corner::count("file 3 at fault behind a remark", 50, |f| {
+        (f.conjunction.fault.is_some() && f.conjunction.remarks > 0).into()
+    }),
+    Corner::largest("bytes of file 3", LONGEST_FILE, |f| f.conjunction.bytes),
 ];

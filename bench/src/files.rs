@@ -1,4 +1,4 @@
-//! Both files: what they hold, how they are read and refused, how they are written.
+//! Charts and diagrams: what their files hold, how they are read and refused, how they are written.
 
 pub const MAX_STAGES: u16 = 256;
 pub const MAX_STEPS: usize = 1_024;
@@ -13,6 +13,8 @@ pub const LONGEST_FILE: usize = 32_768;
 
 pub const CHART_FILE: u32 = 1;
 pub const DIAGRAM_FILE: u32 = 2;
+/// A second diagram over the same chart.
+pub const MORE_FILE: u32 = 3;
 
 /// The bytes of a field before its body: tag and length.
 pub const HEADER: usize = 3;
@@ -124,6 +126,21 @@ impl Problem {
     }
 }
 
+/// A chart and two diagrams over it, all accepted.
+#[derive(Clone, Debug, PartialEq, Eq)]
+pub struct Operands {
+    pub chart: Chart,
+    pub first: Diagram,
+    pub second: Diagram,
+}
+
+impl Operands {
+    /// A reference of each diagram for each of the other: what the work slice must hold.
+    pub fn pairs(&self) -> usize {
+        self.first.references() * self.second.references()
+    }
+}
+
 /// Why and where a file is turned away.
 #[derive(Clone, Copy, Debug, PartialEq, Eq)]
 pub struct Refusal {
@@ -143,6 +160,13 @@ pub fn read_both(chart: &[u8], rules: &[u8]) -> Result<Problem, Refusal> {
     let chart = read_chart(chart)?;
     let diagram = read_diagram(rules, chart.steps.len())?;
     Ok(Problem { chart, diagram })
+}
+
+/// Reads the chart, then the diagram, then the second diagram, which is file 3.
+pub fn read_three(chart: &[u8], rules: &[u8], more: &[u8]) -> Result<Operands, Refusal> {
+    let Problem { chart, diagram: first } = read_both(chart, rules)?;
+    let second = read_diagram_file(more, MORE_FILE, chart.steps.len())?;
+    Ok(Operands { chart, first, second })
 }
 
 /// Reads a chart file.
@@ -168,21 +192,26 @@ pub fn read_chart(bytes: &[u8]) -> Result<Chart, Refusal> {
     Ok(chart)
 }
 
-/// Reads a diagram file over a chart with that many steps.
+/// Reads file 2 over a chart with that many steps.
 pub fn read_diagram(bytes: &[u8], steps: usize) -> Result<Diagram, Refusal> {
-    let mut reader = Reader::open(bytes, DIAGRAM_FILE)?;
+    read_diagram_file(bytes, DIAGRAM_FILE, steps)
+}
+
+/// The same of a diagram that is the file with a mark.
+fn read_diagram_file(bytes: &[u8], file: u32, steps: usize) -> Result<Diagram, Refusal> {
+    let mut reader = Reader::open(bytes, file)?;
     let head = reader.head(DIAGRAM_HEAD)?;
     let mut diagram = Diagram { root: two_bytes(head, 0), nodes: Vec::new() };
     while let Some((place, body)) = reader.next(NODE)? {
         let node =
             Node { step: two_bytes(body, 0), lo: two_bytes(body, 2), hi: two_bytes(body, 4) };
         if !node_within_limits(&diagram, node, steps) {
-            return Err(Refusal::at(6, DIAGRAM_FILE, place));
+            return Err(Refusal::at(6, file, place));
         }
         diagram.nodes.push(node);
     }
     if usize::from(diagram.root) >= diagram.references() {
-        return Err(Refusal::at(6, DIAGRAM_FILE, 0));
+        return Err(Refusal::at(6, file, 0));
     }
     Ok(diagram)
 }

@@ -11,11 +11,10 @@ use std::time::{Duration, Instant};
 
 pub use corpus::Corpus;
 
-use crate::compare::{hold, Difference};
+use crate::compare::{hold, Difference, Judgement};
 use crate::crash;
 use crate::figures::remarks_passed;
 use crate::planner::Planner;
-use crate::reference::judge;
 
 /// Cases that a thread takes at once.
 const BATCH: u64 = 64;
@@ -137,11 +136,11 @@ impl<'a> Fuzz<'a> {
     fn run_case(&self, number: u64) -> Result<(), Difference> {
         let case = self.corpus.case(number);
         crash::begin(&case, Some((self.corpus.seed, number)));
-        let outcome = hold(&case, judge(&case.chart, &case.rules), self.planner);
+        let outcome = hold(&case, Judgement::of(&case), self.planner);
         crash::end();
         let outcome = outcome?;
         self.by_number[outcome.number as usize].fetch_add(1, Relaxed);
-        let has_remarks = remarks_passed(&case, &outcome.judged) > 0;
+        let has_remarks = remarks_passed(&case, outcome.judgement.fault()) > 0;
         self.with_remarks.fetch_add(has_remarks.into(), Relaxed);
         self.done.fetch_add(1, Relaxed);
         Ok(())

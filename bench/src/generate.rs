@@ -8,11 +8,14 @@ pub mod diagrams;
 pub mod load;
 pub mod long;
 pub mod mutate;
+pub mod operands;
+pub mod padded;
 pub mod random;
 pub mod remarks;
 pub mod rows;
 pub mod rules;
 pub mod steps;
+pub mod three_files;
 pub mod ticks;
 
 pub use random::Random;

@@ -6,7 +6,7 @@ use planner::lent;
 
 use crate::crash;
 use crate::lent::{Lent, Side};
-use crate::planner::{Answer, GuidedSlices, Planner, Space, SweepSlices};
+use crate::planner::{Answer, ConjoinSlices, GuidedSlices, Planner, Space, SweepSlices};
 
 /// The linked library.
 pub struct Library {
@@ -148,5 +148,19 @@ impl Planner for Library {
         field: &mut [u8],
     ) -> Option<usize> {
         Some(lent::refused_field(chart, rules, file, place, field))
+    }
+
+    fn conjoin(
+        &self,
+        chart: &[u8],
+        rules: &[u8],
+        more: &[u8],
+        lent: &mut ConjoinSlices,
+    ) -> Option<Answer> {
+        let (returned, answer) = self.answered(UNWRITTEN, side(rules, more), |answer| {
+            let ConjoinSlices { work, file } = lent;
+            lent::conjoin(chart, rules, more, lent::ConjoinSlices { work, file }, answer)
+        });
+        Some(answer_of(returned, answer))
     }
 }

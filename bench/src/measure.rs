@@ -2,6 +2,8 @@
 //! slices dirty. Times are processor time of the thread, so that other work on the machine counts
 //! little.
 
+pub mod conjoin;
+
 use std::ffi::{c_int, c_long};
 use std::hint::black_box;
 
@@ -130,7 +132,6 @@ struct Contender {
 }
 
 impl Contender {
-    /// Chooses the number of repeats: doubled until they can be timed, then scaled to a sample.
     fn new(
         (at, planner): (usize, &dyn Planner),
         call: Call,
@@ -139,20 +140,9 @@ impl Contender {
     ) -> Option<Contender> {
         let files = files_for(planner, load);
         let count = buffers.call(planner, call, files)?;
-        let mut repeats = 1;
-        loop {
-            let took = buffers.timed(planner, call, files, repeats);
-            if took >= SAMPLE_NS / 10.0 {
-                let repeats = ((f64::from(repeats) * SAMPLE_NS / took) as u32).max(1);
-                let (name, least) = (planner.name(), f64::INFINITY);
-                return Some(Contender { planner: at, name, call, count, repeats, least });
-            }
-            repeats *= 2;
-        }
-    }
-
-    fn takes_part(&self, round: usize) -> bool {
-        self.name != BASELINE || round % BASELINE_EVERY == 0
+        let repeats = repeats_of(|repeats| buffers.timed(planner, call, files, repeats));
+        let (name, least) = (planner.name(), f64::INFINITY);
+        Some(Contender { planner: at, name, call, count, repeats, least })
     }
 
     fn sample(&mut self, planner: &dyn Planner, load: &Load, buffers: &mut Buffers) {
@@ -171,6 +161,23 @@ impl Contender {
             count: self.count,
         }
     }
+}
+
+/// How often a call is made in a sample: doubled until that can be timed, then scaled.
+fn repeats_of(mut timed: impl FnMut(u32) -> f64) -> u32 {
+    let mut repeats = 1;
+    loop {
+        let took = timed(repeats);
+        if took >= SAMPLE_NS / 10.0 {
+            return ((f64::from(repeats) * SAMPLE_NS / took) as u32).max(1);
+        }
+        repeats *= 2;
+    }
+}
+
+/// Whether an implementation is timed in a round.
+fn takes_part(name: &str, round: usize) -> bool {
+    name != BASELINE || round % BASELINE_EVERY == 0
 }
 
 /// Copies of an earlier library.
@@ -213,7 +220,7 @@ pub fn measure(
     for round in 0..rounds {
         let begin = round % contenders.len();
         let (last, first) = contenders.split_at_mut(begin);
-        for contender in first.iter_mut().chain(last).filter(|c| c.takes_part(round)) {
+        for contender in first.iter_mut().chain(last).filter(|c| takes_part(c.name, round)) {
             contender.sample(&*planners[contender.planner], load, &mut buffers);
         }
     }

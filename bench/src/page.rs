@@ -2,9 +2,10 @@
 
 use std::fs;
 
+use crate::measure::conjoin::Conjoined;
 use crate::measure::Call;
 use crate::ratios::{placement_spread, spread, Measured, Spread, RATIOS};
-use crate::report::{left_out, number, per_pair};
+use crate::report::{left_out, longest_conjunction, number, per_pair};
 use crate::stacks::Peak;
 use crate::targets::verdicts;
 
@@ -21,6 +22,8 @@ pub struct Run<'a> {
     pub growth: &'a [Measured],
     /// Held to no target, and in no mean.
     pub remarks: &'a [Measured],
+    /// Timed in one placement, and in no mean.
+    pub conjunctions: &'a [Conjoined],
     pub peaks: &'a [Peak],
 }
 
@@ -73,6 +76,7 @@ impl Run<'_> {
         parts
             .extend(left_out(self.remarks, self.planners).map(|text| format!("Left out: {text}.")));
         parts.extend(Call::ALL.map(|call| self.loads(self.remarks, call)));
+        parts.extend(["## Conjunctions".into(), self.conjunctions()]);
         parts.extend(["## Placements".into(), self.placements(&all)]);
         parts.extend(["## Stack".into(), self.stacks()]);
         parts.join("\n\n") + "\n"
@@ -138,6 +142,25 @@ impl Run<'_> {
             cells.push(number(own.map(per_pair), 0));
         }
         cells.join(" | ")
+    }
+
+    /// One line for each conjunction.
+    fn conjunctions(&self) -> String {
+        let subject = self.subject();
+        let rows = self.conjunctions.iter().map(|one| {
+            let Conjoined { name, pairs, visited, .. } = one;
+            let time = number(one.microseconds(subject), 2);
+            let ratios = [(subject, "same", 2), ("textbook", subject, 1)];
+            let [same, textbook] = ratios.map(|(of, to, digits)| number(one.ratio(of, to), digits));
+            format!(
+                "{name} | {pairs} | {visited} | {} | {time} | {same} | {textbook}",
+                one.result()
+            )
+        });
+        let table = table("Load | Pairs | Visited | Nodes | µs | / same | textbook /", 1, rows);
+        let text = "In one placement, in no mean above. \"Pairs\" are the entries of the work slice, \
+                    \"Visited\" those that are come to, \"Nodes\" the inner nodes of the result, or 12.";
+        format!("{text}\n\n{table}\n\nTarget {}.", longest_conjunction(self.conjunctions))
     }
 
     /// How far single placements are off the least time.

@@ -1,10 +1,10 @@
 //! What every implementation offers: both searches over lent slices, and, where it has them, both in
-//! one call, the space that they need and the refused field.
+//! one call, the space that they need, the refused field and the conjunction of two diagrams.
 
 use crate::generate::Random;
 use crate::lent::{Lent, Side, Span};
 
-/// The answer of a search.
+/// The answer of a search or of a conjunction, whose length is bytes and whose cost and count are 0.
 #[derive(Clone, Copy, Debug, Default, PartialEq, Eq)]
 pub struct Answer {
     pub number: u32,
@@ -186,6 +186,36 @@ impl GuidedSlices {
     }
 }
 
+/// The slices lent to a conjunction.
+#[derive(Clone, Debug, Default, PartialEq, Eq)]
+pub struct ConjoinSlices {
+    /// By pair of references; left free.
+    pub work: Lent<u32>,
+    /// The reduced diagram's file, a result.
+    pub file: Lent<u8>,
+}
+
+impl ConjoinSlices {
+    /// So many entries and bytes, all 0.
+    pub fn of(work: usize, file: usize) -> ConjoinSlices {
+        ConjoinSlices { work: vec![0; work].into(), file: vec![0; file].into() }
+    }
+
+    /// The same content, each slice beside a page that faults.
+    pub fn beside_guards(&self, random: &mut Random) -> ConjoinSlices {
+        let mut side = || Side::drawn(random);
+        ConjoinSlices {
+            work: Lent::beside_guard(&self.work, side()),
+            file: Lent::beside_guard(&self.file, side()),
+        }
+    }
+
+    /// Where the slices lie.
+    pub fn spans(&self) -> [Span; 2] {
+        [self.work.span("work"), self.file.span("file")]
+    }
+}
+
 /// One implementation of the planner.
 pub trait Planner: Send + Sync {
     fn name(&self) -> &'static str;
@@ -221,6 +251,18 @@ pub trait Planner: Send + Sync {
         _place: usize,
         _field: &mut [u8],
     ) -> Option<usize> {
+        None
+    }
+
+    /// Writes the reduced diagram that says yes where both diagrams do, `rules` and `more`; none where
+    /// an implementation has no such call.
+    fn conjoin(
+        &self,
+        _chart: &[u8],
+        _rules: &[u8],
+        _more: &[u8],
+        _lent: &mut ConjoinSlices,
+    ) -> Option<Answer> {
         None
     }
 }

@@ -1,5 +1,6 @@
 //! The slow and plain reference: what docs/REFERENCE.md says, for any two files.
 
+pub mod conjunction;
 mod counts;
 mod facts;
 pub mod rules;

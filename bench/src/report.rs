@@ -1,5 +1,6 @@
 //! Measurements as text and as CSV.
 
+use crate::measure::conjoin::{longest, Conjoined, MOST_US};
 use crate::measure::{Call, Timing};
 use crate::ratios::{spread, Measured, Spread, RATIOS};
 use crate::targets::{verdicts, Verdict};
@@ -95,6 +96,49 @@ pub fn left_out(all: &[Measured], planners: &[&str]) -> Option<String> {
     let lines: Vec<String> = all.iter().filter_map(of_load).collect();
     let why = "they refuse these files, so there is no ratio to them";
     (!lines.is_empty()).then(|| format!("{}: {why}", lines.join(", ")))
+}
+
+/// The conjunctions, a line each, and what the library is held to.
+pub fn conjunctions(all: &[Conjoined], planners: &[&str]) -> String {
+    let mut head = format!("{:<28}{:>8}{:>9}{:>8}", "conjoin", "pairs", "visited", "nodes");
+    head.extend(planners.iter().map(|planner| format!("{:>13}", format!("{planner} µs"))));
+    let mut lines = vec![head + &format!("{:>16}", "library / same")];
+    for one in all {
+        let Conjoined { name, pairs, visited, .. } = one;
+        let mut line = format!("{name:<28}{pairs:>8}{visited:>9}{:>8}", one.result());
+        for planner in planners {
+            line += &format!("{:>13}", number(one.microseconds(planner), 2));
+        }
+        lines.push(line + &format!("{:>16}", number(one.ratio("library", "same"), 2)));
+    }
+    lines.push(longest_conjunction(all));
+    lines.join("\n")
+}
+
+/// The library's longest conjunction, beside the most that it may take.
+pub fn longest_conjunction(all: &[Conjoined]) -> String {
+    let most = MOST_US / 1_000.0;
+    match longest(all, "library") {
+        None => format!("not measured: library, every conjunction, at most {most:.0} ms"),
+        Some((took, name)) => {
+            let word = if took <= MOST_US { "met" } else { "NOT MET" };
+            let took = took / 1_000.0;
+            format!("{word}: library, every conjunction, at most {most:.0} ms: {took:.2} ({name})")
+        }
+    }
+}
+
+/// All timings of conjunctions, as further lines of the CSV; the count is the result's nodes.
+pub fn csv_of_conjunctions(all: &[Conjoined]) -> String {
+    let mut text = String::new();
+    for Conjoined { name, steps, pairs, nodes, times, .. } in all {
+        for (planner, least) in times {
+            text += &format!(
+                "\"{name}\",,{steps},,{pairs},conjoin,{planner},{nodes},{least:.1},{least:.1}\n"
+            );
+        }
+    }
+    text
 }
 
 /// All timings, one a line.

@@ -1,5 +1,6 @@
 //! Planners that are spoiled in one corner: the differential test must find each of them.
 
+mod conjunctions;
 mod readings;
 mod rows;
 mod steps;
@@ -8,8 +9,9 @@ mod ticks;
 use std::borrow::Cow;
 
 use crate::files::{read_chart, LONGEST_FILE};
-use crate::planner::{self, Answer, GuidedSlices, Planner, Space, SweepSlices};
+use crate::planner::{self, Answer, ConjoinSlices, GuidedSlices, Planner, Space, SweepSlices};
 use crate::steps::{StepAtFault, StepFaults};
+use conjunctions::{Call, Conjoiner, SpoilConjoined};
 use rows::Rows;
 use ticks::Ticks;
 
@@ -48,6 +50,10 @@ enum Spoil {
     SweepTicks(Ticks),
     /// What a guided search does.
     GuidedTicks(Ticks),
+    /// How diagrams are conjoined.
+    Conjoiner(Conjoiner),
+    /// The answer and the slices of a conjunction.
+    Conjoined(SpoilConjoined),
 }
 
 /// Whether a step's values have some fault.
@@ -76,7 +82,12 @@ const fn new(name: &'static str, spoil: Spoil) -> Sabotage {
 
 /// Every sabotage.
 pub fn all() -> impl Iterator<Item = &'static Sabotage> {
-    searches().chain(ticks()).chain(readings())
+    searches().chain(ticks()).chain(readings()).chain(conjunctions())
+}
+
+/// Wrong conjunctions.
+pub fn conjunctions() -> impl Iterator<Item = &'static Sabotage> {
+    conjunctions::CONJUNCTIONS.iter()
 }
 
 /// Results spoiled in one corner, and pairs in wrong places.
@@ -340,6 +351,25 @@ impl Planner for Spoiled {
             _ => {}
         }
         Some(length)
+    }
+
+    fn conjoin(
+        &self,
+        chart: &[u8],
+        rules: &[u8],
+        more: &[u8],
+        lent: &mut ConjoinSlices,
+    ) -> Option<Answer> {
+        let (chart, rules) = self.read(chart, rules);
+        if let Spoil::Conjoiner(conjoiner) = &self.sabotage.spoil {
+            return Some(conjoiner.conjoin([&chart, &rules, more], lent));
+        }
+        let mut answer = self.planner.conjoin(&chart, &rules, more, lent)?;
+        answer.number = self.number(&chart, answer.number);
+        if let Spoil::Conjoined(spoil) = self.sabotage.spoil {
+            spoil(&Call::new([&chart, &rules, more]), &mut answer, lent);
+        }
+        Some(answer)
     }
 }
 

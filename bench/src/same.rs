@@ -1,15 +1,17 @@
 //! The library's algorithms in safe Rust, over slices that the caller lends and that may hold
 //! anything: the yardstick for its speed. Reads the files by itself.
 
+mod conjoin;
 mod guided;
 mod queue;
 mod sweep;
 mod tables;
 
+pub use conjoin::conjoin;
 pub use guided::guided;
 pub use sweep::sweep;
 
-use crate::planner::{Answer, GuidedSlices, Planner, Space, SweepSlices};
+use crate::planner::{Answer, ConjoinSlices, GuidedSlices, Planner, Space, SweepSlices};
 use tables::{Tables, BY_NODE, BY_STAGE};
 
 /// No cost, no estimate, never opened.
@@ -46,7 +48,7 @@ fn prepare(
     plan: usize,
 ) -> Result<(), Answer> {
     tables.read_chart(chart)?;
-    tables.read_rules(rules)?;
+    tables.read_rules(rules, 2)?;
     if shortest_work < tables.stages * tables.references || plan < tables.stages - 1 {
         return Err(Answer::refused(7, 0, 0));
     }
@@ -58,7 +60,7 @@ fn prepare(
 /// Reads both files and tells what they need.
 pub fn space_needed(chart: &[u8], rules: &[u8]) -> Space {
     let mut tables = Tables::new();
-    let read = tables.read_chart(chart).and_then(|()| tables.read_rules(rules));
+    let read = tables.read_chart(chart).and_then(|()| tables.read_rules(rules, 2));
     match read {
         Err(Answer { number, file, place, .. }) => Space { number, file, place, work: 0, plan: 0 },
         Ok(()) => Space {
@@ -143,5 +145,15 @@ impl Planner for Same {
         let fits = bytes.len().min(field.len());
         field[..fits].copy_from_slice(&bytes[..fits]);
         Some(bytes.len())
+    }
+
+    fn conjoin(
+        &self,
+        chart: &[u8],
+        rules: &[u8],
+        more: &[u8],
+        lent: &mut ConjoinSlices,
+    ) -> Option<Answer> {
+        Some(conjoin(chart, rules, more, &mut lent.work, &mut lent.file))
     }
 }

@@ -1,7 +1,10 @@
 //! The peak stack of every call over all loads.
 
+use crate::generate::operands::named;
+use crate::generate::three_files::{written, ThreeFiles};
 use crate::loads::Load;
-use crate::planner::{GuidedSlices, Planner, SweepSlices};
+use crate::planner::{ConjoinSlices, GuidedSlices, Planner, SweepSlices};
+use crate::reference::conjunction::conjoin;
 use crate::reference::judge;
 use crate::stack::peak;
 
@@ -15,7 +18,7 @@ pub struct Peak {
 
 const CALLS: [&str; 5] = ["sweep", "guided", "both", "space needed", "refused field"];
 
-/// Of some implementations that have all calls, over the loads.
+/// Of some implementations that have all calls, over the loads; of conjunctions over those that are timed.
 pub fn peaks(planners: &[Box<dyn Planner>], loads: &[Load]) -> Vec<Peak> {
     let mut all = Vec::new();
     for planner in planners {
@@ -24,8 +27,20 @@ pub fn peaks(planners: &[Box<dyn Planner>], loads: &[Load]) -> Vec<Peak> {
             let bytes = used.max().unwrap_or(0);
             all.push(Peak { planner: planner.name(), call, bytes });
         }
+        let files = named().into_iter().map(|(_, operands)| written(&operands));
+        let used = files.map(|files| used_by_conjunction(planner.as_ref(), &files));
+        let bytes = used.max().unwrap_or(0);
+        all.push(Peak { planner: planner.name(), call: "conjoin", bytes });
     }
     all
+}
+
+fn used_by_conjunction(planner: &dyn Planner, (chart, rules, more): &ThreeFiles) -> usize {
+    let Ok(found) = conjoin(chart, rules, more) else { return 0 };
+    let mut lent = ConjoinSlices::of(found.operands.pairs(), found.length());
+    peak(move || {
+        let _ = planner.conjoin(chart, rules, more, &mut lent);
+    })
 }
 
 /// One call on one load.

@@ -1,11 +1,15 @@
-//! A plain baseline: textbook A* with the standard library's heap and hash maps, and a sweep over
-//! hash maps. It takes the same slices as the others but uses only those that hold results.
+//! A plain baseline: textbook A* with the standard library's heap and hash maps, a sweep over hash maps,
+//! and Bryant's apply, by recursion over hash maps. It takes the same slices as the others but uses only
+//! those that hold results.
 
 use std::cmp::Reverse;
 use std::collections::{BinaryHeap, HashMap, HashSet};
 
-use crate::files::{read_both, Chart, Diagram, Problem};
-use crate::planner::{Answer, GuidedSlices, Planner, SweepSlices};
+use crate::files::{
+    read_both, read_three, write_diagram, Chart, Diagram, Node, Operands, Problem, Refusal,
+    MAX_NODES,
+};
+use crate::planner::{Answer, ConjoinSlices, GuidedSlices, Planner, SweepSlices};
 
 /// A stage and a node reference.
 type State = (u16, u16);
@@ -40,11 +44,27 @@ impl Planner for Textbook {
             Err(refusal) => refusal,
         }
     }
+
+    fn conjoin(
+        &self,
+        chart: &[u8],
+        rules: &[u8],
+        more: &[u8],
+        lent: &mut ConjoinSlices,
+    ) -> Option<Answer> {
+        Some(match read_three(chart, rules, more) {
+            Ok(operands) => conjoin(&operands, lent),
+            Err(fault) => refused(fault),
+        })
+    }
+}
+
+fn refused(fault: Refusal) -> Answer {
+    Answer::refused(fault.number, fault.file, fault.place)
 }
 
 fn prepare(chart: &[u8], rules: &[u8], work: &[usize], plan: usize) -> Result<Problem, Answer> {
-    let problem = read_both(chart, rules)
-        .map_err(|fault| Answer::refused(fault.number, fault.file, fault.place))?;
+    let problem = read_both(chart, rules).map_err(refused)?;
     let enough = work.iter().all(|length| *length >= problem.pairs());
     if !enough || plan < problem.longest_plan() {
         return Err(Answer::refused(7, 0, 0));
@@ -201,4 +221,73 @@ fn write_plan(arrivals: &Arrivals, goal: State, plan: &mut [u16]) -> usize {
         *entry = *step;
     }
     steps.len()
+}
+
+/// Reduced while it is built, and then written.
+fn conjoin(operands: &Operands, lent: &mut ConjoinSlices) -> Answer {
+    if lent.work.len() < operands.pairs() {
+        return Answer::refused(7, 0, 0);
+    }
+    let mut apply =
+        Apply { operands, of_pair: HashMap::new(), of_node: HashMap::new(), nodes: Vec::new() };
+    let Some(root) = apply.both(operands.first.root, operands.second.root) else {
+        return Answer::refused(12, 0, 0);
+    };
+    let bytes = write_diagram(&Diagram { root, nodes: apply.nodes });
+    match lent.file.get_mut(..bytes.len()) {
+        None => Answer::refused(7, 0, 0),
+        Some(file) => {
+            file.copy_from_slice(&bytes);
+            Answer::accepted(0, bytes.len(), 0)
+        }
+    }
+}
+
+struct Apply<'a> {
+    operands: &'a Operands,
+    of_pair: HashMap<(u16, u16), u16>,
+    of_node: HashMap<Node, u16>,
+    nodes: Vec<Node>,
+}
+
+impl Apply<'_> {
+    /// The reference for two at once; none where there are too many nodes.
+    fn both(&mut self, a: u16, b: u16) -> Option<u16> {
+        if a == 0 || b == 0 {
+            return Some(0);
+        }
+        if let Some(known) = self.of_pair.get(&(a, b)) {
+            return Some(*known);
+        }
+        let Operands { first, second, .. } = self.operands;
+        let (first, second) = (first.inner(a), second.inner(b));
+        let Some(step) = first.iter().chain(&second).map(|node| node.step).min() else {
+            return Some(1);
+        };
+        let children = |node: Option<Node>, own: u16| {
+            node.filter(|node| node.step == step).map_or((own, own), |node| (node.lo, node.hi))
+        };
+        let (first, second) = (children(first, a), children(second, b));
+        let lo = self.both(first.0, second.0)?;
+        let hi = self.both(first.1, second.1)?;
+        let reference = self.node(Node { step, lo, hi })?;
+        self.of_pair.insert((a, b), reference);
+        Some(reference)
+    }
+
+    fn node(&mut self, node: Node) -> Option<u16> {
+        if node.lo == node.hi {
+            return Some(node.lo);
+        }
+        if let Some(known) = self.of_node.get(&node) {
+            return Some(*known);
+        }
+        if self.nodes.len() == MAX_NODES {
+            return None;
+        }
+        self.nodes.push(node);
+        let reference = self.nodes.len() as u16 + 1;
+        self.of_node.insert(node, reference);
+        Some(reference)
+    }
 }

@@ -108,7 +108,7 @@ fn remark_from_to(bytes: usize, length: usize) -> Vec<u8> {
 /// Number, file and place of a refusal, all 0 where both files pass. Every implementation agrees.
 fn answer(chart: &[u8], rules: &[u8]) -> (u32, u32, usize) {
     for dirt in 0..2 {
-        let case = Case { kind: "test", chart: chart.to_vec(), rules: rules.to_vec(), dirt };
+        let case = Case::new("test", (chart.to_vec(), rules.to_vec()), dirt);
         if let Err(found) = run(&case, &planner::all()) {
             panic!("{found:?}");
         }

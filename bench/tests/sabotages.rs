@@ -5,6 +5,7 @@ use std::path::PathBuf;
 use std::process::{Command, Output};
 use std::time::Duration;
 
+use planner_bench::cases::Cases;
 use planner_bench::fuzz::{Bounds, Corpus, Fuzz};
 use planner_bench::sabotage::{first_planner, readings};
 
@@ -32,8 +33,13 @@ fn the_differential_test_finds_every_sabotage() {
 
 #[test]
 fn a_crash_is_told_and_its_case_fails_again() {
-    for (name, slice) in [("read-past-chart", "end of chart"), ("read-before-keys", "slice keys")] {
-        let (first, folder) = run(DIFFTEST, name, &["--sabotage", name]);
+    let conjunctions = Cases::new(20_170_204).conjunctions().start.to_string();
+    for (name, slice, from) in [
+        ("read-past-chart", "end of chart", "0"),
+        ("read-before-keys", "slice keys", "0"),
+        ("conjoin-reads-past-file-3", "end of more", &conjunctions[..]),
+    ] {
+        let (first, folder) = run(DIFFTEST, name, &["--sabotage", name, "--first", from]);
         let text = shown(&first);
         assert_eq!(first.status.code(), Some(1), "{text}");
         assert!(text.contains("SIGSEGV") && text.contains(slice), "{text}");
@@ -59,15 +65,26 @@ fn fuzzing_finds_wrong_places_and_touches_outside() {
     }
 }
 
+/// Wrong readings of file 3.
+const OF_FILE_3: [&str; 7] = [
+    "conjoin-mark-2-for-file-3",
+    "conjoin-file-3-before-2",
+    "conjoin-roots-last",
+    "conjoin-root-of-file-3-free",
+    "conjoin-remark-in-file-3",
+    "conjoin-long-file-3",
+    "conjoin-file-3-over-one-step-more",
+];
+
 #[test]
 fn fuzzing_finds_every_wrong_reading() {
     let corpus = Corpus::new(58);
     let time = Duration::from_secs(60);
     let bounds = Bounds { first: 0, cases: 60_000, time, threads: 2 };
-    for sabotage in readings() {
-        let planner = [first_planner(Some(sabotage.name)).expect("a sabotage of that name")];
+    for name in readings().map(|sabotage| sabotage.name).chain(OF_FILE_3) {
+        let planner = [first_planner(Some(name)).expect("a sabotage of that name")];
         let agreed = Fuzz::new(&corpus, &planner, bounds).run(|_| {}, |_| {});
-        assert!(!agreed, "{}", sabotage.name);
+        assert!(!agreed, "{name}");
     }
 }
 

@@ -106,7 +106,7 @@ fn shows_its_bytes(ends: [u8; 4], cost: u32, refused: (u32, usize)) {
     let fault = read_both(&chart, &rules).expect_err("a bad step");
     assert_eq!(((fault.number, fault.place), fault.file), (refused, 1), "{cost}");
     for dirt in 0..2 {
-        let case = Case { kind: "test", chart: chart.clone(), rules: rules.to_vec(), dirt };
+        let case = Case::new("test", (chart.clone(), rules.to_vec()), dirt);
         assert!(run(&case, &planner::all()).is_ok(), "{cost}");
     }
     for planner in planner::complete() {

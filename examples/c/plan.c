@@ -8,73 +8,18 @@
  * counts as empty. The bytes of a refused field go to standard error. The exit status is 0 for a plan and for a refusal,
  * 2 where writing the output fails, for bad arguments and where there is no memory.
  */
+#include "files.h"
+
 #include <planner.h>
 
 #include <stdio.h>
 #include <stdlib.h>
 
-/* A whole file. */
-typedef struct file {
-    uint8_t *bytes; /* never null */
-    size_t len;
-} file;
-
-static void *allocate(size_t count, size_t size)
-{
-    /* One entry at least: a lent slice has a pointer, also where it is empty. */
-    void *block = calloc(count > 0 ? count : 1, size);
-    if (block == NULL) {
-        fputs("plan-c: no memory\n", stderr);
-        exit(2);
-    }
-    return block;
-}
-
-static file read_file(const char *path)
-{
-    size_t room = 65536;
-    file f = {allocate(room, 1), 0};
-    FILE *in = fopen(path, "rb");
-    size_t got;
-    if (in == NULL) {
-        return f;
-    }
-    while ((got = fread(f.bytes + f.len, 1, room - f.len, in)) > 0) {
-        f.len += got;
-        if (f.len == room) {
-            uint8_t *larger = realloc(f.bytes, 2 * room);
-            if (larger == NULL) {
-                fputs("plan-c: no memory\n", stderr);
-                exit(2);
-            }
-            f.bytes = larger;
-            room *= 2;
-        }
-    }
-    fclose(in);
-    return f;
-}
-
-/* The faulty field's bytes, first asking for their number. */
-static void show_field(file chart, file rules, size_t mark, size_t place)
-{
-    uint8_t nothing;
-    size_t len = planner_refused_field(chart.bytes, chart.len, rules.bytes, rules.len, (uint32_t)mark, place,
-                                       &nothing, 0);
-    uint8_t *field = allocate(len, 1);
-    size_t i;
-    planner_refused_field(chart.bytes, chart.len, rules.bytes, rules.len, (uint32_t)mark, place, field, len);
-    fputs("field", stderr);
-    for (i = 0; i < len && i < 32; i++) {
-        fprintf(stderr, " %02x", (unsigned)field[i]);
-    }
-    fputs(i < len ? " ..\n" : "\n", stderr);
-    free(field);
-}
+const char *const program = "plan-c";
 
 static void show_refusal(file chart, file rules, size_t number, size_t mark, size_t place)
 {
-    printf("refused %zu file %zu place %zu\n", number, mark, place);
+    print_refusal(number, mark, place);
     if (mark != PLANNER_FILE_NONE) {
         show_field(chart, rules, mark, place);
     }
@@ -130,9 +75,5 @@ int main(int argc, char **argv)
     }
     free(chart.bytes);
     free(rules.bytes);
-    if (fflush(stdout) != 0 || ferror(stdout)) {
-        perror("plan-c: the output is not complete");
-        return 2;
-    }
-    return 0;
+    return finish(0);
 }

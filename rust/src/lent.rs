@@ -14,7 +14,8 @@ pub const UNREACHED: u32 = u32::MAX;
 pub struct Answer {
     /// 0 accepted, any other number refused.
     pub number: usize,
-    /// The mark of the file at fault: 1 the chart, 2 the diagram, 3 a second diagram; 0 where none is.
+    /// The mark of the file at fault: 1 the chart, 2 the diagram, 3 the second diagram of a
+    /// conjunction; 0 where none is.
     pub file: usize,
     /// The byte position of the faulty field, or of the first byte too many (9).
     pub place: usize,
@@ -75,9 +76,9 @@ pub struct GuidedSlices<'a> {
 /// The slices lent to a conjunction.
 #[derive(Debug)]
 pub struct ConjoinSlices<'a> {
-    /// Left free: an entry for each pair of nodes.
+    /// Left free: an entry for each pair of nodes; [`MOST_PAIRS`](crate::MOST_PAIRS) are enough.
     pub work: &'a mut [u32],
-    /// The reduced diagram's file; a result.
+    /// The reduced diagram's file; a result. [`MOST_FILE`](crate::MOST_FILE) bytes are enough.
     pub file: &'a mut [u8],
 }
 
@@ -217,7 +218,7 @@ pub fn conjoin(
 
 /// Copies the bytes of the field at a place of a file (1 the chart, 2 the diagram) to the front of
 /// `field` as far as they fit, and returns the field's whole length. A place at or past the end, or
-/// another file mark, is an empty field.
+/// another file mark, is an empty field: for one of file 3 hand that file in as `rules`, with mark 2.
 pub fn refused_field(
     chart: &[u8],
     rules: &[u8],

@@ -1,5 +1,5 @@
 //! Socket-cycle planner: the cheapest chain of steps from a start stage to an end stage of a chart
-//! that a rule diagram allows. The searches are those of a proved static library; this crate lends
+//! that a rule diagram allows. The calls are those of a proved static library; this crate lends
 //! them slices and has no logic of its own.
 //!
 //! A chart with two ways from stage 0 to stage 2, and the rule that step 0 is not taken:
@@ -41,13 +41,41 @@
 //! # Ok::<(), planner::Refusal>(())
 //! ```
 //!
+//! Two rule diagrams over one chart can be made one, which allows what both allow:
+//!
+//! ```
+//! // Three steps from stage 0 to stage 1, for 50, 100 and 150 ns.
+//! let chart = [
+//!     0x01, 6, 0, 2, 0, 0, 0, 1, 0, //
+//!     0x02, 8, 0, 0, 0, 1, 0, 50, 0, 0, 0, //
+//!     0x02, 8, 0, 0, 0, 1, 0, 100, 0, 0, 0, //
+//!     0x02, 8, 0, 0, 0, 1, 0, 150, 0, 0, 0,
+//! ];
+//! // The adapter's rule: step 0 is not taken. The chip's: step 1 is not.
+//! let adapter = [0x11, 2, 0, 2, 0, 0x12, 6, 0, 0, 0, 1, 0, 0, 0];
+//! let chip = [0x11, 2, 0, 2, 0, 0x12, 6, 0, 1, 0, 1, 0, 0, 0];
+//! let both = planner::conjoin(&chart, &adapter, &chip)?;
+//! assert_eq!(planner::plan(&chart, &adapter)?.steps, [1]);
+//! assert_eq!(planner::plan(&chart, &chip)?.steps, [0]);
+//! assert_eq!(planner::plan(&chart, &both)?.steps, [2]);
+//!
+//! // The third file ends inside its node.
+//! let cut = &chip[..9];
+//! let refusal = planner::conjoin(&chart, &adapter, cut).unwrap_err();
+//! assert_eq!(refusal.to_string(), "refused 1 file 3 place 5");
+//! assert_eq!(refusal.field_of_three(&chart, &adapter, cut), &cut[5..]);
+//! # Ok::<(), planner::Refusal>(())
+//! ```
+//!
 //! The module [`lent`] has the calls as they are, on slices that the caller lends.
 
+mod conjoin;
 pub mod lent;
 mod raw;
 mod refusal;
 mod work;
 
+pub use conjoin::{conjoin, ConjoinWork};
 pub use refusal::{refused_field, File, Refusal};
 pub use work::{plan, space_needed, Plan, Work};
 
@@ -58,3 +86,9 @@ pub const LONGEST_FILE: usize = 32_768;
 /// The ns of a tick. A step takes whole ticks: wherever a cost is told, it is the number in the file
 /// rounded up to a multiple of this.
 pub const TICK: u32 = 50;
+
+/// Work entries that are enough for the conjunction of any two diagrams: 512 × 512 pairs of nodes.
+pub const MOST_PAIRS: usize = 262_144;
+
+/// Bytes that are enough for the file of any conjunction: those of 510 inner nodes.
+pub const MOST_FILE: usize = 4_595;

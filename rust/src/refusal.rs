@@ -1,24 +1,27 @@
-//! Why there is no plan.
+//! Why a call is refused.
 
 use std::error::Error;
 use std::fmt;
 
 use crate::lent::{self, Answer, Space};
 
-/// One of the two files. Later versions of the library add files.
+/// One of the files that a call takes, with its mark. Later versions of the library add files.
 #[derive(Clone, Copy, Debug, PartialEq, Eq, Hash)]
 #[non_exhaustive]
 pub enum File {
     Chart = 1,
     Rules = 2,
+    /// The second diagram of [`conjoin`](crate::conjoin).
+    MoreRules = 3,
 }
 
 impl File {
-    /// The file of a mark, 1 or 2; none of another.
+    /// The file of a mark, none of a mark without a name.
     fn of(mark: usize) -> Option<File> {
         match mark {
             1 => Some(File::Chart),
             2 => Some(File::Rules),
+            3 => Some(File::MoreRules),
             _ => None,
         }
     }
@@ -41,7 +44,7 @@ pub enum Refusal {
     Step { file: File, place: usize },
     /// 6: an inner node breaks a limit, there is a 511th, or the root is no node.
     Node { file: File, place: usize },
-    /// 7: a work slice or the plan slice is too short.
+    /// 7: a work slice, the plan slice or the file buffer is too short.
     Space,
     /// 8: no legal plan. The count of the search: reached pairs of a sweep, settled ones of a
     /// guided search.
@@ -52,6 +55,8 @@ pub enum Refusal {
     Stages { file: File, place: usize },
     /// 11: a step's cost, as the file has it, is beyond 1,000,000.
     Cost { file: File, place: usize },
+    /// 12: the reduced diagram has more than 510 inner nodes.
+    Large,
     /// A number that this crate has no name for, or one of a file with a mark that it has no name
     /// for: the linked library is newer. The three entries are the answer's own.
     Other { number: usize, file: usize, place: usize },
@@ -74,6 +79,7 @@ impl Refusal {
             (9, Some(file)) => Refusal::Long { file, place },
             (10, Some(file)) => Refusal::Stages { file, place },
             (11, Some(file)) => Refusal::Cost { file, place },
+            (12, _) => Refusal::Large,
             _ => Refusal::Other { number, file: mark, place },
         })
     }
@@ -98,11 +104,12 @@ impl Refusal {
             Refusal::Long { .. } => 9,
             Refusal::Stages { .. } => 10,
             Refusal::Cost { .. } => 11,
+            Refusal::Large => 12,
             Refusal::Other { number, .. } => number,
         }
     }
 
-    /// The file at fault and the place; none where neither file is at fault, as under 7 and 8.
+    /// The file at fault and the place; none where no file is at fault, as under 7, 8 and 12.
     pub fn field_place(&self) -> Option<(File, usize)> {
         match *self {
             Refusal::Cut { file, place }
@@ -115,14 +122,20 @@ impl Refusal {
             | Refusal::Stages { file, place }
             | Refusal::Cost { file, place } => Some((file, place)),
             Refusal::Other { file, place, .. } => File::of(file).map(|file| (file, place)),
-            Refusal::Space | Refusal::NoPlan { .. } => None,
+            Refusal::Space | Refusal::NoPlan { .. } | Refusal::Large => None,
         }
     }
 
-    /// The faulty field's bytes, a part of the caller's own file; empty where there is none. Under 9
-    /// they begin at the first byte too many.
+    /// The faulty field's bytes, a part of the caller's own file; empty where there is none, or where
+    /// the file at fault is neither of these two. Under 9 they begin at the first byte too many.
     pub fn field<'a>(&self, chart: &'a [u8], rules: &'a [u8]) -> &'a [u8] {
+        self.field_of_three(chart, rules, &[])
+    }
+
+    /// The same for a call on three files, as [`conjoin`](crate::conjoin): the files as it took them.
+    pub fn field_of_three<'a>(&self, chart: &'a [u8], rules: &'a [u8], more: &'a [u8]) -> &'a [u8] {
         match self.field_place() {
+            Some((File::MoreRules, place)) => refused_field(chart, more, File::Rules, place),
             Some((file, place)) => refused_field(chart, rules, file, place),
             None => &chart[..0],
         }
@@ -130,12 +143,16 @@ impl Refusal {
 }
 
 /// The field at a place of a file: its header and its body, or what the file has of them. A place at
-/// or past the end gives an empty part of the chart.
+/// or past the end, or a file that is neither of these two, gives an empty part of the chart.
+///
+/// For a field of [`File::MoreRules`] hand that file in as `rules` and name [`File::Rules`], or take
+/// [`Refusal::field_of_three`], which does so.
 pub fn refused_field<'a>(chart: &'a [u8], rules: &'a [u8], file: File, place: usize) -> &'a [u8] {
     let length = lent::refused_field(chart, rules, file as u32, place, &mut []);
     let bytes = match file {
         File::Chart => chart,
         File::Rules => rules,
+        File::MoreRules => &[],
     };
     let part = bytes.get(place..).and_then(|rest| rest.get(..length));
     part.filter(|part| !part.is_empty()).unwrap_or(&chart[..0])

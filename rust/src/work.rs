@@ -151,6 +151,6 @@ impl Work {
 }
 
 /// The first entries of a slice, as many as there are.
-fn front<T>(slice: &[T], length: usize) -> &[T] {
+pub(crate) fn front<T>(slice: &[T], length: usize) -> &[T] {
     &slice[..length.min(slice.len())]
 }

@@ -1,7 +1,9 @@
-//! The wrapper's calls on the shipped example: plans, refusals, lent slices, kept work space.
+//! The wrapper's calls on the shipped example: plans, conjunctions, refusals, lent slices, kept work
+//! space.
 
-use planner::lent::{self, Answer, GuidedSlices, Space, SweepSlices, UNREACHED};
-use planner::{plan, refused_field, space_needed, File, Refusal, Work, LONGEST_FILE, TICK};
+use planner::lent::{self, Answer, ConjoinSlices, GuidedSlices, Space, SweepSlices, UNREACHED};
+use planner::{conjoin, plan, refused_field, space_needed, ConjoinWork, File, Refusal, Work};
+use planner::{LONGEST_FILE, MOST_FILE, MOST_PAIRS, TICK};
 
 /// A chart file: stage count, start, end, then from, to and value of each step.
 fn chart_file(head: [u16; 3], steps: &[(u16, u16, u32)]) -> Vec<u8> {
@@ -67,15 +69,24 @@ fn the_header_has_the_same_numbers() {
     };
     assert_eq!(number("PLANNER_TICK "), Some(TICK as usize));
     assert_eq!(number("PLANNER_LONGEST_FILE "), Some(LONGEST_FILE));
+    assert_eq!(number("PLANNER_MOST_PAIRS "), Some(MOST_PAIRS));
+    assert_eq!(number("PLANNER_MOST_FILE "), Some(MOST_FILE));
+}
+
+/// Charts that get 4, 5, 10 and 11.
+fn spoiled_charts() -> [Vec<u8>; 4] {
+    [
+        chart_file([0, 0, 0], &[]),
+        chart_file([5, 0, 4], &[(1, 2, 7), (0, 1, 7)]),
+        chart_file([5, 0, 4], &[(0, 5, 7)]),
+        chart_file([5, 0, 4], &[(0, 1, 1_000_001)]),
+    ]
 }
 
 #[test]
 fn every_refusal() {
     let (chart, rules) = example();
-    let bad_head = chart_file([0, 0, 0], &[]);
-    let falling = chart_file([5, 0, 4], &[(1, 2, 7), (0, 1, 7)]);
-    let no_stage = chart_file([5, 0, 4], &[(0, 5, 7)]);
-    let dear = chart_file([5, 0, 4], &[(0, 1, 1_000_001)]);
+    let [bad_head, falling, no_stage, dear] = spoiled_charts();
     let bad_node = rules_file(2, &[[6, 0, 1]]);
     type Case<'a> = (&'a [u8], &'a [u8], Refusal, &'a [u8]);
     let no = rules_file(0, &[]);
@@ -89,7 +100,7 @@ fn every_refusal() {
         (&falling, &rules, Refusal::Step { file: File::Chart, place: 20 }, &falling[20..]),
         (&chart, &bad_node, Refusal::Node { file: File::Rules, place: 5 }, &bad_node[5..]),
         (&chart, &no, Refusal::NoPlan { count: 0 }, &[]),
-        (&chart, &long, Refusal::Long { file: File::Rules, place: LONGEST_FILE }, &[b'.']),
+        (&chart, &long, Refusal::Long { file: File::Rules, place: LONGEST_FILE }, b"."),
         (&no_stage, &rules, Refusal::Stages { file: File::Chart, place: 9 }, &no_stage[9..]),
         (&dear, &rules, Refusal::Cost { file: File::Chart, place: 9 }, &dear[9..]),
     ];
@@ -145,14 +156,16 @@ fn names(refusal: Refusal) -> (&'static str, &'static str) {
         Refusal::Long { .. } => "long",
         Refusal::Stages { .. } => "stages",
         Refusal::Cost { .. } => "cost",
+        Refusal::Large => "large",
         Refusal::Other { .. } => "other",
         _ => "newer",
     };
     let file = match refusal.field_place() {
         Some((File::Chart, _)) => "chart",
         Some((File::Rules, _)) => "rules",
+        Some((File::MoreRules, _)) => "more rules",
         Some((_, _)) => "newer",
-        None => "neither",
+        None => "none",
     };
     (name, file)
 }
@@ -162,7 +175,7 @@ fn each_number_has_its_own_refusal() {
     let (first, later) =
         (["cut", "tag", "length", "head", "step", "node"], ["long", "stages", "cost"]);
     for (number, name) in (1..).zip(first).chain((9..).zip(later)) {
-        for (file, file_name) in [(1, "chart"), (2, "rules")] {
+        for (file, file_name) in [(1, "chart"), (2, "rules"), (3, "more rules")] {
             let refusal = refusal_of(number, file, 14).expect("a refusal");
             assert_eq!(refusal.number(), number);
             assert_eq!(names(refusal), (name, file_name));
@@ -172,17 +185,21 @@ fn each_number_has_its_own_refusal() {
     assert_eq!(refusal_of(0, 0, 0), None);
     assert_eq!(refusal_of(7, 0, 0), Some(Refusal::Space));
     assert_eq!(refusal_of(8, 0, 0), Some(Refusal::NoPlan { count: 5 }));
-    assert_eq!(refusal_of(7, 0, 0).map(names), Some(("space", "neither")));
-    assert_eq!(refusal_of(8, 0, 0).map(names), Some(("no plan", "neither")));
+    assert_eq!(refusal_of(12, 0, 0), Some(Refusal::Large));
+    for (number, name) in [(7, "space"), (8, "no plan"), (12, "large")] {
+        let refusal = refusal_of(number, 0, 0).expect("a refusal");
+        assert_eq!((refusal.number(), names(refusal)), (number, (name, "none")));
+        assert_eq!(refusal.to_string(), format!("refused {number} file 0 place 0"));
+    }
     for number in 9..=11 {
-        assert_eq!(refusal_of(number, 0, 0).map(names), Some(("other", "neither")));
+        assert_eq!(refusal_of(number, 0, 0).map(names), Some(("other", "none")));
     }
 }
 
 #[test]
 fn a_number_without_a_name_is_kept() {
     let (chart, rules) = example();
-    for number in [12, 13, 255, usize::MAX] {
+    for number in [13, 14, 255, usize::MAX] {
         let refusal = refusal_of(number, 2, 14).expect("a refusal");
         assert_eq!(refusal, Refusal::Other { number, file: 2, place: 14 });
         assert_eq!(refusal.number(), number);
@@ -195,7 +212,7 @@ fn a_number_without_a_name_is_kept() {
 #[test]
 fn a_file_without_a_name_is_kept() {
     let (chart, rules) = example();
-    for (number, file, place) in [(6, 3, 5), (4, 0, 0), (1, usize::MAX, 9), (12, 0, 0), (13, 3, 5)]
+    for (number, file, place) in [(6, 4, 5), (4, 0, 0), (1, usize::MAX, 9), (13, 0, 0), (13, 4, 5)]
     {
         let refusal = refusal_of(number, file, place).expect("a refusal");
         assert_eq!(refusal, Refusal::Other { number, file, place });
@@ -217,6 +234,27 @@ fn the_refused_field_is_a_part_of_the_callers_file() {
     assert_eq!(lent::refused_field(&chart, &rules, 2, 5, &mut field), 9);
     assert_eq!((&field[..9], &field[9..]), (part, &[0xee; 3][..]));
     assert_eq!(lent::refused_field(&chart, &rules, 3, 5, &mut field), 0);
+}
+
+#[test]
+fn a_field_of_the_third_file_is_never_taken_from_another() {
+    let (chart, rules) = example();
+    let more = not_taken(&[1]);
+    for number in [1, 6, 13] {
+        let refusal = refusal_of(number, 3, 5).expect("a refusal");
+        assert!(std::ptr::eq(refusal.field_of_three(&chart, &rules, &more), &more[5..]));
+        assert!(std::ptr::eq(refusal.field(&chart, &rules), &chart[..0]));
+    }
+    for place in [more.len(), usize::MAX] {
+        let refusal = refusal_of(1, 3, place).expect("a refusal");
+        assert!(std::ptr::eq(refusal.field_of_three(&chart, &rules, &more), &chart[..0]));
+    }
+    for (file, place, part) in [(1, 9, &chart[9..20]), (2, 5, &rules[5..14])] {
+        let refusal = refusal_of(1, file, place).expect("a refusal");
+        assert!(std::ptr::eq(refusal.field_of_three(&chart, &rules, &more), part));
+        assert!(std::ptr::eq(refusal.field(&chart, &rules), part));
+    }
+    assert!(std::ptr::eq(refused_field(&chart, &rules, File::MoreRules, 5), &chart[..0]));
 }
 
 #[test]
@@ -270,6 +308,189 @@ fn slices_of_any_length_may_be_lent() {
     for (work, plan, number) in [(0, 0, 7), (19, 4, 7), (20, 3, 7), (20, 4, 0), (25, 9, 0)] {
         assert_eq!(numbers(work, plan), (number, number));
     }
+}
+
+/// The rule that none of these steps, which rise, is taken: a node for each, the last step's first.
+fn not_taken(steps: &[u16]) -> Vec<u8> {
+    let lo = |place| if place == 0 { 1 } else { place + 1 };
+    let nodes: Vec<_> =
+        (0..).zip(steps.iter().rev()).map(|(place, step)| [*step, lo(place), 0]).collect();
+    rules_file(lo(steps.len() as u16), &nodes)
+}
+
+#[test]
+fn a_plan_under_both_rules() {
+    let (chart, rules) = example();
+    let more = not_taken(&[1]);
+    let both = conjoin(&chart, &rules, &more).expect("sound files");
+    assert_eq!(both, rules_file(5, &[[1, 1, 0], [2, 0, 1], [1, 3, 0], [0, 2, 4]]));
+    let found = [&rules, &more, &both].map(|file| plan(&chart, file).map(|plan| plan.steps));
+    assert_eq!(found, [Ok(vec![1, 3, 5]), Ok(vec![0, 3, 5]), Ok(vec![0, 2, 4, 5])]);
+    assert_eq!(plan(&chart, &both).map(|plan| plan.cost), Ok(350));
+    assert_eq!(conjoin(&chart, &more, &rules), Ok(both.clone()));
+    assert_eq!(conjoin(&chart, &both, &noted(&rules, 100)), Ok(both));
+}
+
+#[test]
+fn conjunctions_that_are_constant_or_the_same() {
+    let (chart, rules) = example();
+    let (no, yes) = (rules_file(0, &[]), rules_file(1, &[]));
+    let opposite = rules_file(3, &[[2, 1, 0], [0, 0, 2]]);
+    assert_eq!(no.len(), 5);
+    for (rules, more, both) in [
+        (&yes, &yes, &yes),
+        (&yes, &no, &no),
+        (&rules, &no, &no),
+        (&rules, &opposite, &no),
+        (&rules, &yes, &rules),
+        (&rules, &rules, &rules),
+    ] {
+        assert_eq!(conjoin(&chart, rules, more).as_ref(), Ok(both));
+        assert_eq!(conjoin(&chart, more, rules).as_ref(), Ok(both));
+    }
+    let padded = rules_file(6, &[[2, 0, 1], [2, 0, 1], [5, 0, 0], [1, 3, 3], [0, 1, 5]]);
+    assert_eq!(conjoin(&chart, &padded, &padded), Ok(rules));
+}
+
+#[test]
+fn every_refusal_of_a_conjunction() {
+    let (chart, rules) = example();
+    let [bad_head, falling, no_stage, dear] = spoiled_charts();
+    let long = noted(&chart, LONGEST_FILE + 1);
+    // A spoiled chart is told before a spoiled diagram.
+    let charts: [(&[u8], usize, usize); 8] = [
+        (&chart[..19], 1, 9),
+        (&[], 2, 0),
+        (&[0x01, 7, 0], 3, 0),
+        (&bad_head, 4, 0),
+        (&falling, 5, 20),
+        (&long, 9, LONGEST_FILE),
+        (&no_stage, 10, 9),
+        (&dear, 11, 9),
+    ];
+    for (chart, number, place) in charts {
+        let refusal = conjoin(chart, &[], &[]).unwrap_err();
+        assert_eq!(Some(refusal), refusal_of(number, 1, place));
+        assert_eq!(refusal.field_of_three(chart, &[], &[]), refusal.field(chart, &rules));
+    }
+    let (bad_node, bad_root) =
+        (rules_file(2, &[[6, 0, 1]]), rules_file(4, &[[2, 0, 1], [0, 1, 2]]));
+    let long = noted(&rules, LONGEST_FILE + 1);
+    // A spoiled diagram, what it gets, and the field's bytes.
+    let diagrams: [(&[u8], usize, usize, &[u8]); 7] = [
+        (&rules[..13], 1, 5, &rules[5..13]),
+        (&[], 2, 0, &[]),
+        (&rules[5..], 2, 0, &rules[5..14]),
+        (&[0x11, 3, 0], 3, 0, &[0x11, 3, 0]),
+        (&bad_node, 6, 5, &bad_node[5..]),
+        (&bad_root, 6, 0, &bad_root[..5]),
+        (&long, 9, LONGEST_FILE, b"."),
+    ];
+    for (spoiled, number, place, field) in diagrams {
+        // The second file is told before the third.
+        for (file, rules, more) in
+            [(2, spoiled, &rules[..]), (2, spoiled, &[]), (3, &rules, spoiled)]
+        {
+            let refusal = conjoin(&chart, rules, more).unwrap_err();
+            assert_eq!(Some(refusal), refusal_of(number, file, place));
+            assert_eq!(refusal.field_of_three(&chart, rules, more), field);
+            assert_eq!(refusal.to_string(), format!("refused {number} file {file} place {place}"));
+        }
+    }
+}
+
+/// A conjunction in slices of these lengths: its answer and what stands in them afterwards. Before, a
+/// work entry is 7 and a byte `0xee`.
+fn lent_conjoin(files: [&[u8]; 3], work: usize, file: usize) -> (Answer, Vec<u32>, Vec<u8>) {
+    let (mut work, mut file) = (vec![7; work], vec![0xee; file]);
+    let mut answer = Answer { count: 5, ..Answer::default() };
+    let lent = ConjoinSlices { work: &mut work, file: &mut file };
+    let number = lent::conjoin(files[0], files[1], files[2], lent, &mut answer);
+    assert_eq!(number as usize, answer.number);
+    (answer, work, file)
+}
+
+/// The answer of a call that refuses for no file.
+fn refused(number: usize) -> Answer {
+    Answer { number, ..Answer::default() }
+}
+
+#[test]
+fn slices_lent_to_a_conjunction() {
+    let (chart, rules) = example();
+    let more = not_taken(&[1]);
+    let both = conjoin(&chart, &rules, &more).expect("sound files");
+    let files = [&chart[..], &rules, &more];
+    let (pairs, bytes) = (4 * 3, 41);
+    let accepted = Answer { length: bytes, ..Answer::default() };
+    for spare in [0, 1, 100] {
+        let (answer, work, file) = lent_conjoin(files, pairs + spare, bytes + spare);
+        assert_eq!(answer, accepted);
+        assert_eq!((&file[..bytes], &file[bytes..]), (&both[..], &vec![0xee; spare][..]));
+        assert_eq!(work[pairs..], vec![7; spare]);
+    }
+    // The work slice is too short: both stay.
+    for (pairs, bytes) in [(pairs - 1, bytes), (pairs - 1, MOST_FILE), (0, 0)] {
+        assert_eq!(
+            lent_conjoin(files, pairs, bytes),
+            (refused(7), vec![7; pairs], vec![0xee; bytes])
+        );
+    }
+    // The buffer is too short: it stays, and so do work entries past the pairs.
+    for bytes in [0, 5, bytes - 1] {
+        let (answer, work, file) = lent_conjoin(files, pairs + 3, bytes);
+        assert_eq!((answer, file), (refused(7), vec![0xee; bytes]));
+        assert_eq!(work[pairs..], [7; 3]);
+    }
+    // A file is refused: both stay.
+    let cut = Answer { number: 1, file: 3, place: 5, ..Answer::default() };
+    let found = lent_conjoin([&chart, &rules, &more[..9]], pairs, bytes);
+    assert_eq!(found, (cut, vec![7; pairs], vec![0xee; bytes]));
+}
+
+/// A chart with as many steps, and the rules that none of the first 300 and none of the others is
+/// taken.
+fn long_rules(steps: u16) -> [Vec<u8>; 3] {
+    let all: Vec<u16> = (0..steps).collect();
+    let chart = chart_file([2, 0, 1], &vec![(0, 1, 7); all.len()]);
+    [chart, not_taken(&all[..300]), not_taken(&all[300..])]
+}
+
+#[test]
+fn at_most_510_nodes() {
+    let [chart, rules, more] = long_rules(510);
+    let both = conjoin(&chart, &rules, &more).expect("510 nodes");
+    assert_eq!((both.len(), &both), (MOST_FILE, &not_taken(&(0..510).collect::<Vec<_>>())));
+    assert!(matches!(plan(&chart, &both), Err(Refusal::NoPlan { .. })));
+
+    let [chart, rules, more] = long_rules(511);
+    assert_eq!(conjoin(&chart, &rules, &more), Err(Refusal::Large));
+    // After the 7 for the work slice, before that for the buffer.
+    let (files, pairs) = ([&chart[..], &rules, &more], 302 * 213);
+    for bytes in [0, MOST_FILE, MOST_FILE + 9] {
+        let (answer, work, file) = lent_conjoin(files, pairs + 3, bytes);
+        assert_eq!((answer, file), (refused(12), vec![0xee; bytes]));
+        assert_eq!(work[pairs..], [7; 3]);
+        let found = lent_conjoin(files, pairs - 1, bytes);
+        assert_eq!(found, (refused(7), vec![7; pairs - 1], vec![0xee; bytes]));
+    }
+}
+
+#[test]
+fn work_of_conjunctions_that_is_kept() {
+    let (chart, rules) = example();
+    let more = not_taken(&[1]);
+    let mut work = ConjoinWork::default();
+    for size in [510, 511, 310] {
+        let [chart, rules, more] = long_rules(size);
+        assert_eq!(
+            work.conjoin(&chart, &rules, &more).map(<[u8]>::to_vec),
+            conjoin(&chart, &rules, &more)
+        );
+    }
+    let both = conjoin(&chart, &rules, &more).expect("sound files");
+    assert_eq!(work.conjoin(&chart, &rules, &more), Ok(&both[..]));
+    assert_eq!(work.conjoin(&chart, &more, &rules), Ok(&both[..]));
 }
 
 #[test]

@@ -13,8 +13,8 @@ use planner_bench::tally::Tally;
 
 const HELP: &str = "\
 difftest: runs every call of every implementation (sweep, guided search, both in one, the space
-needed, the refused field) on many chart and diagram files and holds each result against the
-reference. Files and slices are lent beside pages that fault when touched.
+needed, the refused field, the conjunction of two diagrams) on many chart and diagram files and holds
+each result against the reference. Files and slices are lent beside pages that fault when touched.
 
 usage: difftest [--cases N] [--seed N] [--first N] [--save DIR] [--save-each] [--sabotage NAME]
        difftest --replay DIR
@@ -210,14 +210,17 @@ fn replay(folder: &Path, planners: &[Box<dyn Planner>]) -> ExitCode {
 }
 
 /// Runs this program with each sabotage, since some of them end it. Wrong costs show where rounding
-/// decides, wrong readings in files that come behind the corners.
+/// decides, wrong readings in files that come behind the corners, wrong conjunctions in cases of their
+/// own.
 fn sabotage_all() -> ExitCode {
     let cases = Cases::new(FIXED_SEED);
     let searches = sabotage::searches().map(|sabotage| (sabotage, 0));
     let ticks = sabotage::ticks().map(|sabotage| (sabotage, cases.first_of_ticks()));
     let readings = sabotage::readings().map(|sabotage| (sabotage, cases.corners()));
+    let conjunctions =
+        sabotage::conjunctions().map(|sabotage| (sabotage, cases.conjunctions().start));
     let mut missed = 0;
-    for (sabotage, first) in searches.chain(ticks).chain(readings) {
+    for (sabotage, first) in searches.chain(ticks).chain(readings).chain(conjunctions) {
         match caught(sabotage.name, first) {
             Ok(line) => println!("{}: {line}", sabotage.name),
             Err(text) => {

@@ -3,7 +3,8 @@
 use crate::files::Problem;
 use crate::generate::Random;
 use crate::lent::Lent;
-use crate::planner::{GuidedSlices, SweepSlices};
+use crate::planner::{ConjoinSlices, GuidedSlices, SweepSlices};
+use crate::reference::conjunction::{Conjoined, Conjunction};
 use crate::reference::Judged;
 
 const SWEEP_WORK: usize = 3;
@@ -27,6 +28,48 @@ pub fn drawn(judged: &Judged, enough: bool, random: &mut Random) -> (SweepSlices
     let [sweep_plan, plan] = plans.map(|length| dirty_plan(random, length));
     let sweep = SweepSlices { cost, via: sweep_via, nodes, plan: sweep_plan };
     (sweep, GuidedSlices { keys, via, heap, pos, stack, log, plan })
+}
+
+/// Conjunctions of no more pairs than this are lent slices in every way, others in one.
+const FEW_PAIRS: usize = 4_096;
+
+/// The slices of a conjunction, in one way or in several; `enough`: at least one of them has none that
+/// is too short.
+pub fn drawn_for_conjunction(
+    conjoined: &Conjoined,
+    enough: bool,
+    random: &mut Random,
+) -> Vec<ConjoinSlices> {
+    let lengths = match conjoined {
+        Err(_) => vec![(random.below(6), random.below(60))],
+        Ok(found) => {
+            let (sufficient, short) = (sufficient(found, random), short(found, random));
+            match found.operands.pairs() {
+                0..=FEW_PAIRS => [&sufficient[..], &short].concat(),
+                _ if enough => vec![random.pick(&sufficient)],
+                _ => vec![random.pick(&short)],
+            }
+        }
+    };
+    let lent =
+        |(work, file)| ConjoinSlices { work: dirty(random, work), file: dirty_bytes(random, file) };
+    lengths.into_iter().map(lent).collect()
+}
+
+/// Entries of the work slice and bytes of the buffer: just what is needed, and more. Where the result is
+/// too large any buffer will do.
+fn sufficient(found: &Conjunction, random: &mut Random) -> [(usize, usize); 2] {
+    let (work, file) = (found.operands.pairs(), found.length());
+    let file =
+        if found.is_too_large() { random.pick(&[0, 5, 4_594, 4_595, 4_604, file]) } else { file };
+    [(work, file), (work + random.below(9), file + random.below(40))]
+}
+
+/// One entry or one byte less, far less, and both too short.
+fn short(found: &Conjunction, random: &mut Random) -> [(usize, usize); 5] {
+    let (work, file) = (found.operands.pairs(), found.length());
+    let (less, shorter) = (random.below(work), random.below(file));
+    [(work - 1, file + 3), (work + 3, file - 1), (less, file), (work, shorter), (less, shorter)]
 }
 
 /// In one of four cases each slice has just what it needs; else no two have the same length. Where
@@ -89,6 +132,10 @@ pub fn dirty(random: &mut Random, length: usize) -> Lent<u32> {
         _ => (word >> 32) as u32,
     };
     (0..length).map(|_| entry(random.word())).collect::<Vec<_>>().into()
+}
+
+pub fn dirty_bytes(random: &mut Random, length: usize) -> Lent<u8> {
+    (0..length).map(|_| (random.word() >> 40) as u8).collect::<Vec<_>>().into()
 }
 
 pub fn dirty_plan(random: &mut Random, length: usize) -> Lent<u16> {

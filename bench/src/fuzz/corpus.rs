@@ -1,17 +1,22 @@
 //! The sound files that fuzzing spoils, and the cases made of them.
 
 use crate::cases::Case;
-use crate::files::{write_chart, write_diagram};
-use crate::generate::broken::Files;
+use crate::files::Operands;
 use crate::generate::charts::random_chart;
 use crate::generate::diagrams::random_diagram;
 use crate::generate::long::near_longest;
 use crate::generate::mutate::mutated;
+use crate::generate::three_files::{spoiled, written, ThreeFiles};
 use crate::generate::Random;
+
+/// One of so many cases is a conjunction.
+const CONJUNCTION_EVERY: u64 = 8;
+/// In one of so many cases files are filled up.
+const LONG_EVERY: u64 = 512;
 
 /// Sound files of one size, and how many of a thousand cases begin with one of them.
 struct OfSize {
-    files: Vec<Files>,
+    files: Vec<ThreeFiles>,
     share: usize,
 }
 
@@ -41,8 +46,12 @@ impl Corpus {
     pub fn case(&self, number: u64) -> Case {
         let mut random = Random::of(self.seed, number);
         let files = self.pick(&mut random);
-        let (chart, rules) = &files[random.below(files.len())];
-        let (other_chart, other_rules) = &files[random.below(files.len())];
+        let picked = &files[random.below(files.len())];
+        if number % CONJUNCTION_EVERY == 5 {
+            return conjunction(&mut random, picked.clone(), number);
+        }
+        let (chart, rules, _) = picked;
+        let (other_chart, other_rules, _) = &files[random.below(files.len())];
         let which = random.below(10);
         let mut spoil = |is_spoiled: bool, file: &[u8], other: &[u8]| {
             if is_spoiled {
@@ -56,14 +65,14 @@ impl Corpus {
         let mut chart = spoil(which < 5, chart, if odd { rules } else { other_chart });
         let mut rules = spoil(which > 3, rules, if odd { other_chart } else { other_rules });
         // Seldom both are about as long as they may be.
-        if number % 512 == 9 {
+        if number % LONG_EVERY == 9 {
             chart = near_longest(&mut random, &chart);
             rules = near_longest(&mut random, &rules);
         }
-        Case { kind: "fuzzed", chart, rules, dirt: random.word() }
+        Case::new("fuzzed", (chart, rules), random.word())
     }
 
-    fn pick(&self, random: &mut Random) -> &[Files] {
+    fn pick(&self, random: &mut Random) -> &[ThreeFiles] {
         let mut left = random.below(1_000);
         for OfSize { files, share } in &self.sizes {
             if left < *share {
@@ -75,8 +84,17 @@ impl Corpus {
     }
 }
 
-fn sound(random: &mut Random, [stages, steps, nodes]: [usize; 3]) -> Files {
+fn sound(random: &mut Random, [stages, steps, nodes]: [usize; 3]) -> ThreeFiles {
     let chart = random_chart(random, stages, steps);
-    let diagram = random_diagram(random, &chart, nodes);
-    (write_chart(&chart), write_diagram(&diagram))
+    let [first, second] = [(); 2].map(|()| random_diagram(random, &chart, nodes));
+    written(&Operands { chart, first, second })
+}
+
+/// A case of all three files; seldom the second diagram is about as long as it may be.
+fn conjunction(random: &mut Random, files: ThreeFiles, number: u64) -> Case {
+    let (chart, rules, mut more) = spoiled(random, files);
+    if number % LONG_EVERY == 13 {
+        more = near_longest(random, &more);
+    }
+    Case::conjunction("fuzzed", (chart, rules, more), random.word())
 }

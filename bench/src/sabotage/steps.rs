@@ -217,7 +217,7 @@ mod tests {
     #[test]
     fn the_right_order_of_the_tests_spoils_nothing() {
         let files = systematic().into_iter();
-        let cases = files.map(|(chart, rules)| Case { kind: "test", chart, rules, dirt: 1 });
+        let cases = files.map(|files| Case::new("test", files, 1));
         shown::none(&cases.collect::<Vec<_>>(), &NO_SABOTAGE);
     }
 }

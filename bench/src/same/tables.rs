@@ -143,9 +143,14 @@ impl Tables {
         }
     }
 
-    /// Fills the diagram's tables; the chart's are filled already.
-    pub fn read_rules(&mut self, file: &[u8]) -> Result<(), Answer> {
-        let head: &[u8; 2] = first_body(file, 0x11, 2)?;
+    /// Tables for another diagram over the same chart.
+    pub fn with_chart_alone(&self) -> Tables {
+        Tables { stages: self.stages, steps: self.steps, ..Tables::new() }
+    }
+
+    /// Fills the diagram's tables from the file with a mark; the chart's are filled already.
+    pub fn read_rules(&mut self, file: &[u8], mark: u32) -> Result<(), Answer> {
+        let head: &[u8; 2] = first_body(file, 0x11, mark)?;
         self.root = number(head[0], head[1]);
         self.nodes[..2].fill(Inner::new(NO_STEP, 0, 0));
         let mut own = 2;
@@ -154,10 +159,10 @@ impl Tables {
             own += 1;
             Ok(())
         })
-        .map_err(|Fault { number, left }| Answer::refused(number, 2, file.len() - left))?;
+        .map_err(|Fault { number, left }| Answer::refused(number, mark, file.len() - left))?;
         self.references = own;
         if self.root >= self.references {
-            return Err(Answer::refused(6, 2, 0));
+            return Err(Answer::refused(6, mark, 0));
         }
         Ok(())
     }

@@ -59,14 +59,14 @@ knownIn work width a b =
     (pick (ltb (getD work (a * width + b) 0) 512) (getD work (a * width + b) 0) 512)))
 
 module _ (work : List ℕ) (width a b : ℕ) where
-  pub known-left : a ≡ 0 → 0 ≡ knownIn work width a b
+  pub known-left : a ≡ 0 → a ≡ knownIn work width a b
   unfolding knownIn
-  known-left h = sym (pick-true _ _ _ (eq-eqb a 0 h))
+  known-left h = h ∙ sym (pick-true _ _ _ (eq-eqb a 0 h))
 
   module _ (ha : a ≡ 0 → ⊥) where
-    pub known-right : b ≡ 0 → 0 ≡ knownIn work width a b
+    pub known-right : b ≡ 0 → b ≡ knownIn work width a b
     unfolding knownIn
-    known-right h = sym (pick-false _ _ _ (ne-eqb a 0 ha) ∙ pick-true _ _ _ (eq-eqb b 0 h))
+    known-right h = h ∙ sym (pick-false _ _ _ (ne-eqb a 0 ha) ∙ pick-true _ _ _ (eq-eqb b 0 h))
 
     module _ (hb : b ≡ 0 → ⊥) where
       pub known-yes : a + b ≡ 2 → 1 ≡ knownIn work width a b

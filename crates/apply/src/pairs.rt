@@ -25,10 +25,10 @@ pub fn known(work: &[u32], width: usize, a: u16, b: u16) -> u16
     ensures { λ r. ⌜ r ≡ knownIn (now (work .entry)) width a b ⌝ }
 {
     if a == 0 {
-        return 0;
+        return a;
     }
     if b == 0 {
-        return 0;
+        return b;
     }
     if a + b == 2 {
         return 1;

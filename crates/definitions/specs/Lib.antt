@@ -17,3 +17,4 @@ pub mod Corners
 pub mod Remarks
 pub mod Ticks
 pub mod Calls
+pub mod Conjunctions

@@ -99,7 +99,7 @@ fn cut(x: u64) -> u64
 }
 
 // The product of two numbers of two bytes.
-fn times(a: u64, b: u64) -> u64
+pub fn times(a: u64, b: u64) -> u64
     ensures { λ r. ⌜ r < 4294967296 ⌝ }
 {
     let x = a % 65536;
@@ -127,6 +127,15 @@ fn put_ith_node(buf: &mut [u8], at: usize, c: Command, i: u64) -> usize {
     put_field(buf, at, c.letter, step, lo, hi)
 }
 
+// The i-th node of a chain: it has step b - c × i and the number d + i, lo is e nodes before it, and hi f nodes.
+fn put_ith_link(buf: &mut [u8], at: usize, c: Command, i: u64) -> usize {
+    let step = less(c.b, times(c.c, i));
+    let number = cut(c.d) + cut(i);
+    let lo = less(number, c.e);
+    let hi = less(number, c.f);
+    put_field(buf, at, b'n', step, lo, hi)
+}
+
 // A field of tag b, whose body has c bytes of the value d.
 fn put_filled(buf: &mut [u8], at: usize, c: Command) -> usize {
     let length = c.c % 65536;
@@ -139,6 +148,7 @@ fn put_ith(buf: &mut [u8], at: usize, c: Command, i: u64) -> usize {
     match letter {
         b't' => put_ith_step(buf, at, c, i),
         b'm' => put_ith_node(buf, at, c, i),
+        b'l' => put_ith_link(buf, at, c, i),
         _ => put_filled(buf, at, c),
     }
 }
@@ -156,7 +166,7 @@ fn put_many(buf: &mut [u8], at: usize, c: Command) -> usize {
 pub fn add(buf: &mut [u8], at: usize, c: Command) -> usize {
     let letter = c.letter;
     match letter {
-        b't' | b'm' | b'z' => put_many(buf, at, c),
+        b't' | b'm' | b'l' | b'z' => put_many(buf, at, c),
         _ => put_field(buf, at, letter, c.a, c.b, c.c),
     }
 }

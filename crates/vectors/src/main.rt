@@ -1,5 +1,7 @@
 // Plays the scripts of data/ and writes what the calls of the library answer to each case. data/readers.txt says how a
 // case is written; tools/vectors.py computes what must be written.
+mod joins;
+mod lend;
 mod script;
 mod searches;
 mod show;
@@ -22,4 +24,5 @@ fn main() {
     play(b"readers.txt");
     play(b"remarks.txt");
     play(b"searches.txt");
+    play(b"joins.txt");
 }

@@ -1,4 +1,5 @@
-// A script of cases: commands that make a file, take it for the chart or the diagram, or show what a call answers.
+// A script of cases: commands that make a file, take it for the chart or a diagram, or show what a call answers.
+use crate::joins::show_join;
 use crate::searches::show_guided;
 use crate::searches::show_sweep;
 use crate::show::show_chart;
@@ -14,19 +15,22 @@ use script_files::write::add;
 use script_files::write::copy;
 use script_files::write::put;
 
-// The buffer has the file in the making at its start, and after it the chart and the diagram.
+// The buffer has the file in the making at its start, and after it the chart, the diagram and the second diagram.
 const CHART: usize = LONGEST;
 
 const RULES: usize = 2 * LONGEST;
 
-pub const BUFFER: usize = 3 * LONGEST;
+const MORE: usize = 3 * LONGEST;
 
-// Where the next command stands, and how many bytes the file in the making, the chart and the diagram have.
+pub const BUFFER: usize = 4 * LONGEST;
+
+// Where the next command stands, and how many bytes the file in the making, the chart and both diagrams have.
 pub struct State {
     pub at: usize,
     pub file: usize,
     pub chart: usize,
     pub rules: usize,
+    pub more: usize,
 }
 
 // What a command makes of the file in the making: how many bytes it has then.
@@ -42,7 +46,7 @@ fn made(c: Command, buf: &mut [u8], z: State) -> usize {
             copy(buf, CHART, 0);
             z.chart
         }
-        b'w' | b'v' => 0,
+        b'w' | b'v' | b'u' => 0,
         _ => add(buf, z.file, c),
     }
 }
@@ -56,8 +60,8 @@ fn taken(c: Command, letter: u8, buf: &mut [u8], to: usize, size: usize, old: us
     size
 }
 
-// A command that shows what a call answers: of the file in the making, or of the chart and the diagram.
-fn shown<'a>(c: Command, file: &'a [u8], chart: &'a [u8], rules: &'a [u8]) {
+// A command that shows what a call answers: of the file in the making, or of the chart and the diagrams.
+fn shown<'a>(c: Command, file: &'a [u8], chart: &'a [u8], rules: &'a [u8], more: &'a [u8]) {
     let letter = c.letter;
     match letter {
         b'C' => show_chart(file),
@@ -65,6 +69,7 @@ fn shown<'a>(c: Command, file: &'a [u8], chart: &'a [u8], rules: &'a [u8]) {
         b'F' => show_field(chart, rules, (c.a % 4294967296) as u32, c.b as usize),
         b'W' => show_sweep(chart, rules, c),
         b'G' => show_guided(chart, rules, c),
+        b'J' => show_join(chart, rules, more, c),
         _ => {}
     }
 }
@@ -85,6 +90,7 @@ fn labelled(label: &[u8], c: Command, buf: &[u8], z: State) {
         part(buf, 0, z.file),
         part(buf, CHART, z.chart),
         part(buf, RULES, z.rules),
+        part(buf, MORE, z.more),
     );
     io::write_all(1, b"\n");
 }
@@ -105,6 +111,7 @@ fn shown_turn(s: &[u8], buf: &[u8], c: Command, z: State) -> State {
         file: 0,
         chart: z.chart,
         rules: z.rules,
+        more: z.more,
     }
 }
 
@@ -113,6 +120,7 @@ fn made_turn(s: &[u8], buf: &mut [u8], c: Command, z: State) -> State {
         at: after(s, c),
         chart: taken(c, b'w', buf, CHART, z.file, z.chart),
         rules: taken(c, b'v', buf, RULES, z.file, z.rules),
+        more: taken(c, b'u', buf, MORE, z.file, z.more),
         file: made(c, buf, z),
     }
 }
@@ -137,6 +145,7 @@ pub fn run(s: &[u8], buf: &mut [u8]) {
         file: 0,
         chart: 0,
         rules: 0,
+        more: 0,
     };
     for _ in 0..s.len() {
         z = turn(s, buf, z);

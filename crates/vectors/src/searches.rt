@@ -2,6 +2,8 @@
 // changed that should stay. Of the command's numbers a is how many entries of each work slice are lent, b how many of the
 // plan slice, c what they are full of, d is 1 where the plan is free, and the work slice with the number e, from 1, has f
 // entries instead.
+use crate::lend::lend_plan;
+use crate::lend::lend_work;
 use crate::show::How;
 use crate::show::each;
 use crate::show::each_step;
@@ -15,15 +17,7 @@ const MOST: usize = 131080;
 
 const MOST_STEPS: usize = 260;
 
-// As many entries of a work slice as are lent, or all of it.
-fn lend(s: &mut [u32], slice: u64, c: Command) -> &mut [u32] {
-    let n = entries(slice, c);
-    if n <= s.len() {
-        return &mut s[0..n];
-    }
-    s
-}
-
+// How many entries of a work slice are lent.
 fn entries(slice: u64, c: Command) -> usize {
     if c.e == slice {
         return c.f as usize;
@@ -31,15 +25,7 @@ fn entries(slice: u64, c: Command) -> usize {
     c.a as usize
 }
 
-// The same of a plan slice.
-fn lend_plan(s: &mut [u16], n: usize) -> &mut [u16] {
-    if n <= s.len() {
-        return &mut s[0..n];
-    }
-    s
-}
-
-fn fill(c: Command) -> u32 {
+pub fn fill(c: Command) -> u32 {
     (c.c % 4294967296) as u32
 }
 
@@ -117,9 +103,9 @@ pub fn show_sweep<'a>(chart: &'a [u8], rules: &'a [u8], c: Command) {
     let a = sweep::sweep(
         chart,
         rules,
-        lend(&mut cost, 1, c),
-        lend(&mut via, 2, c),
-        lend(&mut nodes, 3, c),
+        lend_work(&mut cost, entries(1, c)),
+        lend_work(&mut via, entries(2, c)),
+        lend_work(&mut nodes, entries(3, c)),
         lend_plan(&mut plan, c.b as usize),
     );
     let pairs = own(chart, rules, a.number);
@@ -142,12 +128,12 @@ pub fn show_guided<'a>(chart: &'a [u8], rules: &'a [u8], c: Command) {
     let a = guided::guided(
         chart,
         rules,
-        lend(&mut keys, 1, c),
-        lend(&mut via, 2, c),
-        lend(&mut heap, 3, c),
-        lend(&mut pos, 4, c),
-        lend(&mut stack, 5, c),
-        lend(&mut log, 6, c),
+        lend_work(&mut keys, entries(1, c)),
+        lend_work(&mut via, entries(2, c)),
+        lend_work(&mut heap, entries(3, c)),
+        lend_work(&mut pos, entries(4, c)),
+        lend_work(&mut stack, entries(5, c)),
+        lend_work(&mut log, entries(6, c)),
         lend_plan(&mut plan, c.b as usize),
     );
     let pairs = own(chart, rules, a.number);

@@ -61,7 +61,7 @@ fn byte(x: u8) {
     io::print_hex(1, x as u64, 2);
 }
 
-fn hexadecimal(bytes: &[u8]) {
+pub fn hexadecimal(bytes: &[u8]) {
     for i in 0..bytes.len() {
         byte(bytes[i]);
     }
@@ -110,6 +110,16 @@ fn step_at(s: &[u16], i: usize, how: How) {
     }
 }
 
+fn byte_at(s: &[u8], i: usize, how: How) {
+    if i < s.len() {
+        small(i, s[i], how);
+    }
+}
+
+fn small(i: usize, x: u8, how: How) {
+    entry(i, x as u32, how);
+}
+
 fn step(i: usize, x: u16, how: How) {
     entry(i, x as u32, how);
 }
@@ -125,5 +135,12 @@ pub fn each(s: &[u32], from: usize, to: usize, how: How) {
 pub fn each_step(s: &[u16], from: usize, to: usize, how: How) {
     for i in from..to {
         step_at(s, i, how);
+    }
+}
+
+// The same of a file buffer.
+pub fn each_byte(s: &[u8], from: usize, to: usize, how: How) {
+    for i in from..to {
+        byte_at(s, i, how);
     }
 }

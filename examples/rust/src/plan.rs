@@ -8,11 +8,14 @@
 //! error. The exit status is 0 for a plan and for a refusal, 2 where writing the output fails and for
 //! bad arguments.
 
+mod files;
+
 use std::ffi::OsString;
-use std::io::{self, Write};
 use std::process::ExitCode;
 
 use planner::Plan;
+
+use files::{finish, read_file, show_field, PROGRAM};
 
 fn main() -> ExitCode {
     let args: Vec<OsString> = std::env::args_os().skip(1).collect();
@@ -20,39 +23,25 @@ fn main() -> ExitCode {
         [] => ("chart.bin".as_ref(), "rules.bin".as_ref()),
         [chart, rules] => (chart.as_os_str(), rules.as_os_str()),
         _ => {
-            eprintln!("usage: plan-rust [CHART RULES]");
+            eprintln!("usage: {PROGRAM} [CHART RULES]");
             return ExitCode::from(2);
         }
     };
-    let chart = std::fs::read(chart).unwrap_or_default();
-    let rules = std::fs::read(rules).unwrap_or_default();
+    let (chart, rules) = (read_file(chart), read_file(rules));
     let text = match planner::plan(&chart, &rules) {
         Ok(plan) => lines(&plan),
         Err(refusal) => {
             if refusal.field_place().is_some() {
-                show(refusal.field(&chart, &rules));
+                show_field(refusal.field(&chart, &rules));
             }
             format!("{refusal}\n")
         }
     };
-    let mut out = io::stdout();
-    match out.write_all(text.as_bytes()).and_then(|()| out.flush()) {
-        Ok(()) => ExitCode::SUCCESS,
-        Err(error) => {
-            eprintln!("plan-rust: the output is not complete: {error}");
-            ExitCode::from(2)
-        }
-    }
+    finish(&text, 0)
 }
 
 /// A plan's cost, its steps and both counts.
 fn lines(plan: &Plan) -> String {
     let steps: String = plan.steps.iter().map(|step| format!("step {step}\n")).collect();
     format!("cost {}\n{steps}settled {} reached {}\n", plan.cost, plan.settled, plan.reached)
-}
-
-/// The first bytes of a refused field.
-fn show(field: &[u8]) {
-    let bytes: String = field.iter().take(32).map(|byte| format!(" {byte:02x}")).collect();
-    eprintln!("field{bytes}{}", if field.len() > 32 { " .." } else { "" });
 }

@@ -1,0 +1,184 @@
+#define _POSIX_C_SOURCE 199309L /* for clock_gettime */
+#include "timing.h"
+
+#include "buddy.h"
+#include "check.h"
+
+#include <bdd.h>
+#include <planner.h>
+#include <stdio.h>
+#include <stdlib.h>
+#include <time.h>
+
+enum { MOST_RUNS = 10001, TRIALS = 7 };
+
+/* What is timed. */
+enum { LIBRARY, WHOLE, KEPT, AND_ALONE, TIMES };
+
+typedef struct row {
+    const char *name;
+    int steps, pairs, reached, inner;
+    double median[TIMES], least[TIMES];
+} row;
+
+static double now(void)
+{
+    struct timespec t;
+    clock_gettime(CLOCK_MONOTONIC, &t);
+    return (double)t.tv_sec * 1e6 + (double)t.tv_nsec / 1e3;
+}
+
+static uint32_t work[MOST_PAIRS];
+static uint8_t buffer[MOST_FILE];
+static outcome by_buddy;
+
+static double time_library(const pair_case *p)
+{
+    planner_answer answer;
+    double begin = now();
+    planner_conjoin(p->chart.bytes, p->chart.len, p->rules.bytes, p->rules.len, p->more.bytes, p->more.len, work,
+                    MOST_PAIRS, buffer, MOST_FILE, &answer);
+    return now() - begin;
+}
+
+/* Reads both files, conjoins and writes. */
+static double time_buddy(const pair_case *p)
+{
+    double begin = now();
+    buddy_conjoin(&by_buddy, &p->rules, &p->more);
+    return now() - begin;
+}
+
+/* The conjunction of two diagrams that are there, all caches empty. */
+static double time_and(const pair_case *p)
+{
+    int first = bdd_addref(buddy_read(&p->rules)), second = bdd_addref(buddy_read(&p->more));
+    double begin, taken;
+    buddy_forget();
+    begin = now();
+    bdd_and(first, second);
+    taken = now() - begin;
+    bdd_delref(first);
+    bdd_delref(second);
+    return taken;
+}
+
+/* One time of each kind. Those without results of earlier runs begin with empty caches and tables. */
+static void time_once(const pair_case *p, double *times)
+{
+    time_library(p); /* fills the processor's caches, as the runs before do for BuDDy */
+    times[LIBRARY] = time_library(p);
+    buddy_forget();
+    times[WHOLE] = time_buddy(p);
+    times[KEPT] = time_buddy(p);
+    times[AND_ALONE] = time_and(p);
+}
+
+static int by_size(const void *a, const void *b)
+{
+    double x = *(const double *)a, y = *(const double *)b;
+    return (x > y) - (x < y);
+}
+
+static void time_case(row *w, const pair_case *p, int runs)
+{
+    static double times[TIMES][MOST_RUNS];
+    double once[TIMES];
+    int run, kind;
+    for (run = -1; run < runs; run++) { /* the first is not counted */
+        time_once(p, once);
+        for (kind = 0; kind < TIMES && run >= 0; kind++) {
+            times[kind][run] = once[kind];
+        }
+    }
+    buddy_expect_no_collection();
+    for (kind = 0; kind < TIMES; kind++) {
+        qsort(times[kind], (size_t)runs, sizeof(double), by_size);
+        w->median[kind] = times[kind][runs / 2];
+        w->least[kind] = times[kind][0];
+    }
+}
+
+static void describe(row *w, const pair_case *p, int inner)
+{
+    w->name = p->name;
+    w->steps = p->first.steps;
+    w->pairs = (p->first.inner + 2) * (p->second.inner + 2);
+    w->reached = reached_pairs(&p->first, &p->second);
+    w->inner = inner;
+}
+
+static void print_row(const row *w, const double *times)
+{
+    printf("%-32s %5d %7d %8d %6d %9.1f %9.1f %9.1f %9.1f %6.2f\n", w->name, w->steps, w->pairs, w->reached, w->inner,
+           times[LIBRARY], times[WHOLE], times[KEPT], times[AND_ALONE], times[LIBRARY] / times[WHOLE]);
+}
+
+static void print_table(const row *rows, int count, int least)
+{
+    int i;
+    printf("%-32s %5s %7s %8s %6s %9s %9s %9s %9s %6s\n", "case", "steps", "pairs", "reached", "nodes", "library",
+           "BuDDy", "kept", "and alone", "ratio");
+    for (i = 0; i < count; i++) {
+        print_row(&rows[i], least ? rows[i].least : rows[i].median);
+    }
+}
+
+static const char legend[] =
+    "pairs      references of file 2 x references of file 3: the work entries\n"
+    "reached    pairs of inner nodes that a walk through both files meets\n"
+    "nodes      inner nodes of the result; above 510 the library refuses it and BuDDy's stays unwritten\n"
+    "library    planner_conjoin: reads and checks the chart and both files, conjoins, writes\n"
+    "BuDDy      reads both files unchecked, bdd_and, writes; nothing known from earlier runs (bdd_gbc before each)\n"
+    "kept       the same once more, with all results of the run before still in the caches\n"
+    "and alone  bdd_and of diagrams read before, with empty caches\n"
+    "ratio      library / BuDDy\n";
+
+/* Starts BuDDy with tables of some sizes and leaves it with those that make it fastest. */
+static void start_at_best(const pair_case *p)
+{
+    static const int nodes[] = {2, 4}, cache[] = {1, 2, 4}; /* halves of what the pairs and the files' nodes take */
+    diagram first, second;
+    int half, best = 0, i;
+    double least = 0;
+    buddy_start(16 * MOST_NODES, 16 * MOST_NODES, p->first.steps);
+    buddy_reduce(&first, &p->rules, p->first.steps);
+    buddy_reduce(&second, &p->more, p->first.steps);
+    half = reached_pairs(&first, &second) / 2 + 2 * MOST_NODES;
+    for (i = 0; i < 6; i++) {
+        row w;
+        buddy_start(nodes[i / 3] * half, cache[i % 3] * half, p->first.steps);
+        time_case(&w, p, TRIALS);
+        if (i == 0 || w.least[WHOLE] < least) {
+            least = w.least[WHOLE];
+            best = i;
+        }
+    }
+    buddy_start(nodes[best / 3] * half, cache[best % 3] * half, p->first.steps);
+}
+
+int time_cases(int runs)
+{
+    static pair_case p;
+    int count = timed_count(), different = 0, inner, i;
+    row *rows = calloc((size_t)count, sizeof rows[0]);
+    if (rows == NULL) {
+        fputs("no memory\n", stderr);
+        exit(2);
+    }
+    runs = runs < MOST_RUNS ? runs : MOST_RUNS;
+    for (i = 0; i < count; i++) {
+        make_timed(&p, i);
+        start_at_best(&p);
+        different += check_case(&p, p.name, &inner);
+        describe(&rows[i], &p, inner);
+        time_case(&rows[i], &p, runs);
+        buddy_end();
+    }
+    printf("\n%s\nMedian of %d runs, us\n\n", legend, runs);
+    print_table(rows, count, 0);
+    printf("\nLeast of %d runs, us\n\n", runs);
+    print_table(rows, count, 1);
+    free(rows);
+    return different;
+}
