@@ -126,6 +126,13 @@ pub record Turned {stack work table left right : List ℕ} {width k r : ℕ} (x 
   pub full : r′ ≡ 512 → 510 < length (postorder (pairTree (x .d) (x .e) (x .A) (x .B)) [])
   pub lighter : r′ < 512 → weights stack′ k′ < weights stack k
 
+-- what the code takes from the last frame: its pair, the reference of its lo half; and the step at which the pair is taken apart
+pub record Taken (stack left right : List ℕ) (last a b lo v : ℕ) : Type 0 where
+  pub first : a ≡ hiOf (getD stack last 0)
+  pub second : b ≡ loOf (getD stack last 0)
+  pub half : lo ≡ stepOf (getD stack last 0)
+  pub least : v ≡ topIn left right a b
+
 -- the same stack, frames and pair by other names
 renamed : (d e : Diagram) (A B : ℕ) {s s′ : List ℕ} {k k′ a a′ b b′ : ℕ} (ts : List Tree) → s ≡ s′ → k ≡ k′ → a ≡ a′ → b ≡ b′
     → Stacked d e A B s′ k′ a′ b′ ts → Stacked d e A B s k a b ts
@@ -202,21 +209,21 @@ module _ {stack work table left right : List ℕ} {width k r : ℕ} (x : Walking
         go (in-hi l h f m ea eb et) = let y = parts l (omega arith) f in (y .0, y .1, omega (arith, y .2))
 
     -- the numbers that the code takes from the frame
-    module _ (a b lo v : ℕ) (ea : a ≡ hiOf frame) (eb : b ≡ loOf frame) (el : lo ≡ stepOf frame) (least : v ≡ topIn left right a b) where
+    module _ {a b lo v : ℕ} (taken : Taken stack left right last a b lo v) where
       ap-is : a ≡ p
-      ap-is = ea ∙ frame-is .0
+      ap-is = taken .first ∙ frame-is .0
 
       bq-is : b ≡ q
-      bq-is = eb ∙ frame-is .1
+      bq-is = taken .second ∙ frame-is .1
 
       pub frame-placed : Placed width a b work
       frame-placed = rw (ap-is, bq-is) pair-placed
 
       pub frame-lo : lo ≤ 512
-      frame-lo = omega (arith, frame-is .2)
+      frame-lo = omega (arith, taken .half, frame-is .2)
 
       least-is : v ≡ topIn left right p q
-      least-is = least ∙ ap₂ (topIn left right) ap-is bq-is
+      least-is = taken .least ∙ ap₂ (topIn left right) ap-is bq-is
 
       -- the lo half is done: its reference is kept, and the hi half is walked
       module _ (opened : lo ≡ 512) (f : ℕ) (is-frame : f ≡ frameOf r a b) (a₁ b₁ : ℕ) (fa : a₁ ≡ hiIn left v a) (fb : b₁ ≡ hiIn right v b) where
@@ -235,7 +242,7 @@ module _ {stack work table left right : List ℕ} {width k r : ℕ} (x : Walking
             go : Entered d′ e′ frame p q us (now′ .a) (now′ .b) (now′ .ts)
                 → (frame ≡ frameOf 512 p q) × (pairTree d′ e′ (now′ .a) (now′ .b) ≡ loTree d′ e′ p q) × (now′ .ts ≡ us)
             go (in-lo g i j t) = (g, ap₂ (pairTree d′ e′) i j, t)
-            go (in-hi l h g m i j t) = absurd (omega (arith, parts l (omega arith) g .2, el, opened))
+            go (in-hi l h g m i j t) = absurd (omega (arith, parts l (omega arith) g .2, taken .half, opened))
 
         left-lo : postorder (pairTree d′ e′ (now′ .a) (now′ .b)) (now′ .ts) ≡ postorder (loTree d′ e′ p q) us
         left-lo = ap₂ postorder (was-lo .1) (was-lo .2)
@@ -323,9 +330,9 @@ module _ {stack work table left right : List ℕ} {width k r : ℕ} (x : Walking
           where
             go : Entered d′ e′ frame p q us (now′ .a) (now′ .b) (now′ .ts)
                 → (lo < 512) × (frame ≡ frameOf lo p q) × (lo ≡ ref (postorder L us) L) × (pairTree d′ e′ (now′ .a) (now′ .b) ≡ H) × (now′ .ts ≡ postorder L us)
-            go (in-lo f i j t) = absurd (halved (el ∙ parts 512 (omega arith) f .2))
+            go (in-lo f i j t) = absurd (halved (taken .half ∙ parts 512 (omega arith) f .2))
             go (in-hi l h f m i j t) =
-                let z : lo ≡ l = el ∙ parts l (omega arith) f .2 in
+                let z : lo ≡ l = taken .half ∙ parts l (omega arith) f .2 in
                 (omega arith, f ∙ ap (λ (n : ℕ). frameOf n p q) (sym z), z ∙ m, ap₂ (pairTree d′ e′) i j, t)
 
         left-both : postorder (pairTree d′ e′ (now′ .a) (now′ .b)) (now′ .ts) ≡ both′

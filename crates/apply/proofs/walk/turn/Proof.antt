@@ -1,6 +1,6 @@
 -- `apply::turn` meets its contract.
 use Rattle.apply.specs.Pairs.{place-scale}
-use Rattle.apply.specs.Turns.{walking-few, frame-placed, frame-lo, hi-descending, turned-lo, turned-full, entry-inside, turned-made}
+use Rattle.apply.specs.Turns.{Taken, walking-few, frame-placed, frame-lo, hi-descending, turned-lo, turned-full, entry-inside, turned-made}
 use Prim.Native.Nat.{suc, _-_}
 use mathlib.Core.Path.{_≡_}
 use native.Mathlib.Omega.{arith}
@@ -18,6 +18,28 @@ use Rattle.diagram_fields.proofs.lo_of.Reads as lo-of-reads
 use Rattle.diagram_fields.proofs.step_of.Reads as step-of-reads
 use Rattle.diagram_fields.proofs.word.Reads as word-reads
 use Rattle.unique_table.proofs.intern.Reads as intern-reads
+
+-- the places before the pair's step is known
+abbrev start-of : tie.After-top → tie.Start
+start-of c = search
+
+abbrev first-of : tie.After-top → tie.After-hi-of
+first-of c = search
+
+abbrev second-of : tie.After-top → tie.After-lo-of
+second-of c = search
+
+abbrev half-of : tie.After-top → tie.After-step-of
+half-of c = search
+
+-- there is a last frame, and this is what was taken from it
+abbrev is-last : (c : tie.After-top) → start-of c .args .frames ≡ suc (start-of c .args .frames - 1)
+is-last c = omega (arith, start-of c .pre .1)
+
+abbrev taken : (c : tie.After-top)
+    → Taken (start-of c .args .stack .now) (start-of c .args .left .now) (start-of c .args .right .now) (start-of c .args .frames - 1) (first-of c .hi-of .result)
+    (second-of c .lo-of .result) (half-of c .step-of .result) (c .top .result)
+taken c = record { first = first-of c .hi-of .ensures; second = second-of c .lo-of .ensures; half = half-of c .step-of .ensures; least = c .top .ensures }
 
 sub-last : tie.Need-sub-last
 sub-last c = search needs
@@ -70,12 +92,8 @@ descend-requires c κs =
     let framed : tie.After-word = search in
     let opened : tie.Then1 = search in
     let topped : tie.After-top = search in
-    let lo-taken : tie.After-step-of = search in
-    let second-taken : tie.After-lo-of = search in
-    let first-taken : tie.After-hi-of = search in
-    let start : tie.Start = search in
-    let is-last : start .args .frames ≡ suc (start .args .frames - 1) = omega arith in
-    hi-descending (start .pre .0) _ is-last _ _ _ _ (first-taken .hi-of .ensures) (second-taken .lo-of .ensures) (lo-taken .step-of .ensures) (topped .top .ensures) (opened .if1 .taken) _ (framed .word .ensures) _ _ (first-half .hi-half .ensures) (second-half .hi-half2 .ensures)
+    hi-descending (start-of topped .pre .0) _ (is-last topped) (taken topped) (opened .if1 .taken) _ (framed .word .ensures) _ _ (first-half .hi-half .ensures)
+    (second-half .hi-half2 .ensures)
 
 same-length : tie.Need-same-length
 same-length c = search needs
@@ -87,35 +105,24 @@ returns c =
     let framed : tie.After-word = search in
     let opened : tie.Then1 = search in
     let topped : tie.After-top = search in
-    let lo-taken : tie.After-step-of = search in
-    let second-taken : tie.After-lo-of = search in
-    let first-taken : tie.After-hi-of = search in
-    let start : tie.Start = search in
-    let is-last : start .args .frames ≡ suc (start .args .frames - 1) = omega arith in
-    λ x. turned-lo x _ is-last _ _ _ _ (first-taken .hi-of .ensures) (second-taken .lo-of .ensures) (lo-taken .step-of .ensures) (topped .top .ensures) (opened .if1 .taken) _ (framed .word .ensures) _ _ (first-half .hi-half .ensures) (second-half .hi-half2 .ensures) _ _ _ (c .descend .ensures (hi-descending x _ is-last _ _ _ _ (first-taken .hi-of .ensures) (second-taken .lo-of .ensures) (lo-taken .step-of .ensures) (topped .top .ensures) (opened .if1 .taken) _ (framed .word .ensures) _ _ (first-half .hi-half .ensures) (second-half .hi-half2 .ensures)))
+    λ x. turned-lo x _ (is-last topped) (taken topped) (opened .if1 .taken) _ (framed .word .ensures) _ _ (first-half .hi-half .ensures)
+    (second-half .hi-half2 .ensures) _ _ _
+    (c .descend .ensures (hi-descending x _ (is-last topped) (taken topped) (opened .if1 .taken) _ (framed .word .ensures) _ _ (first-half .hi-half .ensures)
+    (second-half .hi-half2 .ensures)))
 
 intern-requires : tie.Need-intern-requires
 intern-requires c κs =
     let halved : tie.Else1 = search in
     let topped : tie.After-top = search in
-    let lo-taken : tie.After-step-of = search in
-    let second-taken : tie.After-lo-of = search in
-    let first-taken : tie.After-hi-of = search in
-    let start : tie.Start = search in
-    let is-last : start .args .frames ≡ suc (start .args .frames - 1) = omega arith in
-    (start .pre .0 .entries, omega (arith, frame-lo (start .pre .0) (start .args .frames - 1) is-last (first-taken .hi-of .result) (second-taken .lo-of .result) (lo-taken .step-of .result) (topped .top .result) (first-taken .hi-of .ensures) (second-taken .lo-of .ensures) (lo-taken .step-of .ensures) (topped .top .ensures), halved .if1 .left), start .pre .0 .returned .small)
+    let start = start-of topped in
+    (start .pre .0 .entries, omega (arith, frame-lo (start .pre .0) (start .args .frames - 1) (is-last topped) (taken topped), halved .if1 .left), start .pre .0 .returned .small)
 
 returns-2 : tie.Need-returns-2
 returns-2 c =
     let got : tie.After-intern = search in
     let halved : tie.Else1 = search in
     let topped : tie.After-top = search in
-    let lo-taken : tie.After-step-of = search in
-    let second-taken : tie.After-lo-of = search in
-    let first-taken : tie.After-hi-of = search in
-    let start : tie.Start = search in
-    let is-last : start .args .frames ≡ suc (start .args .frames - 1) = omega arith in
-    λ x. turned-full x _ is-last _ _ _ _ (first-taken .hi-of .ensures) (second-taken .lo-of .ensures) (lo-taken .step-of .ensures) (topped .top .ensures) (halved .if1 .left) _ _ (got .intern .ensures) (c .if2 .taken)
+    λ x. turned-full x _ (is-last topped) (taken topped) (halved .if1 .left) _ _ (got .intern .ensures) (c .if2 .taken)
 
 cast-work : tie.Need-cast-work
 cast-work c = search needs
@@ -126,12 +133,7 @@ place-requires c κs = search needs
 mul-work : tie.Need-mul-work
 mul-work c =
     let topped : tie.After-top = search in
-    let lo-taken : tie.After-step-of = search in
-    let second-taken : tie.After-lo-of = search in
-    let first-taken : tie.After-hi-of = search in
-    let start : tie.Start = search in
-    let is-last : start .args .frames ≡ suc (start .args .frames - 1) = omega arith in
-    let here = frame-placed (start .pre .0) _ is-last _ _ _ _ (first-taken .hi-of .ensures) (second-taken .lo-of .ensures) (lo-taken .step-of .ensures) (topped .top .ensures) in
+    let here = frame-placed (start-of topped .pre .0) _ (is-last topped) (taken topped) in
     place-scale _ _ _ _ (here .a-small) (here .width-small) (here .b-small) (c .place .ensures)
 
 slice-write-work : tie.Need-slice-write-work
@@ -139,12 +141,7 @@ slice-write-work c =
     let got : tie.After-intern = search in
     let halved : tie.Else1 = search in
     let topped : tie.After-top = search in
-    let lo-taken : tie.After-step-of = search in
-    let second-taken : tie.After-lo-of = search in
-    let first-taken : tie.After-hi-of = search in
-    let start : tie.Start = search in
-    let is-last : start .args .frames ≡ suc (start .args .frames - 1) = omega arith in
-    entry-inside (start .pre .0) _ is-last _ _ _ _ (first-taken .hi-of .ensures) (second-taken .lo-of .ensures) (lo-taken .step-of .ensures) (topped .top .ensures) (halved .if1 .left) _ _ (got .intern .ensures) (c .before .if2 .left) _ (c .place .ensures)
+    entry-inside (start-of topped .pre .0) _ (is-last topped) (taken topped) (halved .if1 .left) _ _ (got .intern .ensures) (c .before .if2 .left) _ (c .place .ensures)
 
 same-length-2 : tie.Need-same-length-2
 same-length-2 c = search needs
@@ -154,12 +151,7 @@ returns-3 c =
     let got : tie.After-intern = search in
     let halved : tie.Else1 = search in
     let topped : tie.After-top = search in
-    let lo-taken : tie.After-step-of = search in
-    let second-taken : tie.After-lo-of = search in
-    let first-taken : tie.After-hi-of = search in
-    let start : tie.Start = search in
-    let is-last : start .args .frames ≡ suc (start .args .frames - 1) = omega arith in
-    λ x. turned-made x _ is-last _ _ _ _ (first-taken .hi-of .ensures) (second-taken .lo-of .ensures) (lo-taken .step-of .ensures) (topped .top .ensures) (halved .if1 .left) _ _ (got .intern .ensures) (c .before .if2 .left) _ (c .place .ensures)
+    λ x. turned-made x _ (is-last topped) (taken topped) (halved .if1 .left) _ _ (got .intern .ensures) (c .before .if2 .left) _ (c .place .ensures)
 
 pub turn-spec : {M : Type 1} → statement M
 turn-spec =
