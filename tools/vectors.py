@@ -315,7 +315,7 @@ def by_pairs(a, b):
 
 
 def by_sets(steps, answers):
-    """The reduced diagram with these answers to the sets of these steps; a set comes before those that are alike but have a step that it has not."""
+    """The reduced diagram with these answers to all sets of these steps, in the order of `sets_of`: by halves without and with the first step."""
     reduced = Reduced()
 
     def split(k, part):
@@ -328,7 +328,7 @@ def by_sets(steps, answers):
 
 
 def sets_of(steps):
-    """All sets of the steps, the first step as the leading one; a sample, where they are many."""
+    """All sets of the steps, those without the first step before those with it, and so on; some of them where they are many."""
     if len(steps) <= MOST_STEPS:
         choices = product((False, True), repeat=len(steps))
     else:
@@ -348,7 +348,7 @@ def conjunction(a, b):
 
 
 def conjoined(chart, rules, more, work, room):
-    """The file, after all checks."""
+    """The file that is written, after all checks."""
     steps = len(read_chart(chart).steps)
     a, b = read_diagram(rules, steps), read_diagram(more, steps, 3)
     if work < (len(a.nodes) + 2) * (len(b.nodes) + 2):
