@@ -88,9 +88,10 @@ typedef struct planner_answer {
     size_t number; /* PLANNER_ACCEPTED or the cause, as the call returns it */
     size_t file;   /* the file at fault, 0 where none is */
     size_t place;  /* in it, the byte position of the faulty field's tag; under 9 PLANNER_LONGEST_FILE */
-    size_t cost;   /* the plan's cost in ns: the costs of its steps, each rounded up to a multiple of PLANNER_TICK */
+    size_t cost;   /* the plan's cost in ns: the costs of its steps, each rounded up to a multiple of PLANNER_TICK; 0 of a
+                      file that is written */
     size_t length; /* the plan's steps; of a file that is written, its bytes */
-    size_t count;  /* sweep: reached pairs; guided search: settled pairs; also under 8 */
+    size_t count;  /* sweep: reached pairs; guided search: settled pairs; also under 8. 0 of a file that is written */
 } planner_answer;
 
 /* The entries that the slices of any search need for two files. */
@@ -198,7 +199,8 @@ uint32_t planner_both(const uint8_t *chart, size_t chart_len,
  * All six entries of *answer are written; the number is returned. Accepted: length is the file's bytes, cost and count
  * are 0. What the slices hold then:
  *   number        0                                  12, and 7 for `file`   any other
- *   work          first N x N entries: free          as under 0             as it was
+ *   work          first entries, N of rules x N of   as under 0             as it was
+ *                 more: free
  *   file          first answer.length bytes: the     as it was              as it was
  *                 diagram's file
  * All further entries stay as they were.

@@ -1,14 +1,15 @@
 -- What interning a node is to a walk: after the walks of its children, the table holds what the walk of the node has left.
 -- Assumes nothing.
-use Prim.Native.Nat.{ℕ, suc, _+_, _-_, _*_, _/_, _%_, _≤_, _<_}
+use Prim.Native.Nat.{ℕ, suc, _+_, _-_, _≤_, _<_}
 use mathlib.Core.Path.{_≡_, refl, sym, _∙_, ap, ap₂, subst}
 use mathlib.Core.Bool.{Bool, true, false}
 use mathlib.Core.List.{List, [], _∷_, _++_}
 use native.Mathlib.Omega.{arith}
 use lib.ListN.{length, getD, length-append, length-map, List·getD-map}
 use Rattle.definitions.specs.Diagrams.{InnerNode, noNode}
-use Rattle.theory.specs.Basics.{true-not-false, length-map-run, getD-map-upto}
-use Rattle.diagram_fields.specs.Words.{wordOf, unpacked, node-word}
+use Rattle.theory.specs.Basics.{true-not-false}
+use Rattle.diagram_fields.specs.Words.{wordOf, unpacked, node-word, word-node}
+use Rattle.unique_table.specs.Nodes.{nodes-long, node-listed}
 use Rattle.unique_table.specs.Tables.{innerNode, nodeAt, countIn, nodesIn, Table, Lacks, Interns, alone, found, full, added}
 use Rattle.definitions.specs.Reductions.{Tree, mk, no-leaf, yes-leaf, branch, member, position, postorder, ref, numbered, nodesOf}
 use Rattle.reduction_theory.specs.Growth.{held-kid, ref-apart, nodes-snoc, post-held, post-node, settled}
@@ -23,15 +24,10 @@ nodes-at : (ts : List Tree) (i : ℕ) → getD (nodesOf ts) i noNode ≡ numbere
 unfolding nodesOf numbered
 nodes-at ts i = List·getD-map (numbered ts) ts i no-leaf
 
-pub table-length : (t : List ℕ) → length (nodesIn t) ≡ countIn t
-unfolding nodesIn
-table-length t = length-map-run (λ (i : ℕ). unpacked (nodeAt t (i + 2))) 0 (countIn t)
-
-pub table-at : (t : List ℕ) (n : ℕ) → 2 ≤ n → n < countIn t + 2 → getD (nodesIn t) (n - 2) noNode ≡ unpacked (nodeAt t n)
-unfolding nodesIn
+table-at : (t : List ℕ) (n : ℕ) → 2 ≤ n → n < countIn t + 2 → getD (nodesIn t) (n - 2) noNode ≡ unpacked (nodeAt t n)
 table-at t n h l =
     let q : n - 2 + 2 ≡ n = omega arith in
-    getD-map-upto (λ (i : ℕ). unpacked (nodeAt t (i + 2))) (countIn t) (n - 2) noNode (omega arith) ∙ ap (λ (m : ℕ). unpacked (nodeAt t m)) q
+    node-listed t (n - 2) (omega arith) ∙ ap (λ (m : ℕ). unpacked (nodeAt t m)) q
 
 numbered-branch : (ts : List Tree) (v : ℕ) (l h : Tree) → numbered ts (branch v l h) ≡ innerNode v (ref ts l) (ref ts h)
 unfolding numbered
@@ -41,14 +37,10 @@ ref-branch : (ts : List Tree) (v : ℕ) (l h : Tree) → ref ts (branch v l h) �
 unfolding ref
 ref-branch ts v l h = refl
 
--- a node in one number, taken out and put in again
-word-node : (w : ℕ) → w < 4294967296 → wordOf (unpacked w) ≡ w
-word-node w h = omega arith
-
 -- the table holds the nodes ts
 module _ (t : List ℕ) (ts : List Tree) (g : Good ts) (holds : nodesIn t ≡ nodesOf ts) where
   pub held-count : countIn t ≡ length ts
-  held-count = sym (table-length t) ∙ ap length holds ∙ nodes-length ts
+  held-count = sym (nodes-long t) ∙ ap length holds ∙ nodes-length ts
 
   held-node : (n : ℕ) → 2 ≤ n → n < countIn t + 2 → unpacked (nodeAt t n) ≡ numbered ts (getD ts (n - 2) no-leaf)
   held-node n h l = sym (table-at t n h l) ∙ ap (λ (x : List InnerNode). getD x (n - 2) noNode) holds ∙ nodes-at ts (n - 2)

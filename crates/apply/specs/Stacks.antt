@@ -7,12 +7,12 @@ use mathlib.Core.Logic.{_⊎_}
 use native.Mathlib.Omega.{arith}
 use lib.ListN.{length, getD, set, length-append}
 use lib.Seq.{getD-set-same, getD-set-other}
-use Rattle.definitions.specs.Diagrams.{Diagram, InnerNode, size}
+use Rattle.definitions.specs.Diagrams.{Diagram, size}
 use Rattle.definitions.specs.Reductions.{Tree, postorder, ref}
 use Rattle.theory.specs.Limits.{Ordered}
 use Rattle.diagram_fields.specs.Words.{wordOf, unpacked, node-word}
 use Rattle.unique_table.specs.Tables.{innerNode}
-use Rattle.reduction_theory.specs.Numbering.{Good, good-nil, post-laws}
+use Rattle.reduction_theory.specs.Numbering.{Good, post-laws}
 use Rattle.reduction_theory.specs.Growth.{post-prefix}
 use Rattle.apply.specs.Pairs.{top, lower, upper, pairTree, down}
 

@@ -1,6 +1,6 @@
 -- The turns of the walk over pairs: one law for each way out of the code.
 -- Assumes nothing.
-use Prim.Native.Nat.{ℕ, zero, suc, _+_, _-_, _*_, _≤_, _<_}
+use Prim.Native.Nat.{ℕ, suc, _+_, _-_, _*_, _≤_, _<_}
 use mathlib.Core.Path.{_≡_, refl, sym, _∙_, ap, ap₂, subst}
 use mathlib.Core.Bool.{true}
 use mathlib.Core.List.{List, [], _++_}
@@ -10,17 +10,16 @@ use lib.ListN.{length, getD, set, drop, length-set}
 use lib.Seq.{drop-set-lt}
 use Rattle.definitions.specs.Diagrams.{Diagram, InnerNode, size}
 use Rattle.definitions.specs.Reductions.{Tree, mk, postorder, ref, nodesOf}
-use Rattle.theory.specs.Basics.{either, lt-or-le}
 use Rattle.diagram_fields.specs.Words.{stepOf, loOf, hiOf, unpacked, MARK}
 use Rattle.unique_table.specs.Tables.{innerNode, nodesIn, Table, Interns, alone, found, full, added}
-use Rattle.reduction_theory.specs.Numbering.{held, Good, good-nil, post-laws}
+use Rattle.reduction_theory.specs.Numbering.{held, Good, post-laws}
 use Rattle.reduction_theory.specs.Growth.{post-held, post-prefix}
 use Rattle.apply.specs.Interning.{Interned, lo-held, interned}
-use Rattle.apply.specs.Operands.{Inside, loIn, hiIn, topIn, step-top, step-small, lo-first, lo-second, hi-first, hi-second}
+use Rattle.apply.specs.Operands.{loIn, hiIn, topIn, step-top, step-small, lo-first, lo-second, hi-first, hi-second}
 use Rattle.apply.specs.Pairs.{top, pairTree, pair-canon, pair-inside, Down, down}
-use Rattle.apply.specs.Stacks.{frameOf, frame-parts, loA, loB, hiA, hiB, loTree, hiTree, Apart, Entered, in-lo, in-hi, Stacked, stacked-set, stacked-inside, overflow, push-lo, push-hi}
+use Rattle.apply.specs.Stacks.{frameOf, frame-parts, loA, loB, hiA, hiB, loTree, hiTree, Apart, Entered, in-lo, in-hi, Stacked, stacked-inside, overflow, push-lo, push-hi}
 use Rattle.apply.specs.Walks.{Known, known-more, known-set, knownIn, known-held, known-apart, State, Returned, Walking, Descending, Placed, placed, few-frames}
-use Rattle.apply.specs.Weights.{power, power-suc, power-some, power-rises, weights, weights-set, top-open, top-half, put-open, put-half}
+use Rattle.apply.specs.Weights.{power, power-suc, power-some, power-rises, weights, top-open, top-half, put-open, put-half}
 
 -- ---- down along lo
 

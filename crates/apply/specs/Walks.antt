@@ -1,15 +1,15 @@
 -- The walk over pairs: what its stack, the work entries and the table of nodes say between two of its turns.
 -- Assumes nothing.
-use Prim.Native.Nat.{ℕ, suc, _+_, _*_, _≤_, _<_}
-use mathlib.Core.Path.{_≡_, refl, sym, _∙_, ap, ap₂, subst}
+use Prim.Native.Nat.{ℕ, _+_, _*_, _≤_, _<_}
+use mathlib.Core.Path.{_≡_, refl, sym, _∙_, ap, ap₂}
 use mathlib.Core.Bool.{true}
-use mathlib.Core.List.{List, [], _++_}
-use mathlib.Core.Logic.{_⊎_, inl, inr}
+use mathlib.Core.List.{List, _++_}
+use mathlib.Core.Logic.{inl, inr}
 use native.Mathlib.Omega.{arith}
 use lib.Dec.{ltb, eqb}
-use lib.ListN.{length, getD, set, drop}
+use lib.ListN.{length, getD, set}
 use lib.Seq.{getD-set-same, getD-set-other}
-use borrow.Author.Tests.{lt-ltb, le-ltb, eq-eqb, ne-eqb, ltb-true, ltb-false, eqb-true, eqb-false}
+use borrow.Author.Tests.{lt-ltb, le-ltb, eq-eqb, ne-eqb, ltb-true, eqb-true, eqb-false}
 use Rattle.definitions.specs.Basics.{pick}
 use Rattle.definitions.specs.Diagrams.{Diagram, size}
 use Rattle.definitions.specs.Reductions.{Tree, no-leaf, yes-leaf, postorder, ref, nodesOf}
@@ -18,7 +18,7 @@ use Rattle.unique_table.specs.Tables.{nodesIn, Table}
 use Rattle.reduction_theory.specs.Numbering.{held, ref-more, Good}
 use Rattle.apply.specs.Pairs.{pairTree, pair-no-left, pair-no-right, pair-yes, pairs-apart, pair-inside}
 use Rattle.apply.specs.Operands.{Inside}
-use Rattle.apply.specs.Stacks.{Apart, Stacked, stacked-inside, stacked-depth}
+use Rattle.apply.specs.Stacks.{Apart, Stacked, stacked-depth}
 
 -- ---- work entries
 

@@ -1,6 +1,6 @@
 -- The whole walk from a pair of nodes: what it asks, what it leaves, and what its loop keeps.
 -- Assumes nothing.
-use Prim.Native.Nat.{ℕ, zero, _+_, _*_, _≤_, _<_}
+use Prim.Native.Nat.{ℕ, _*_, _≤_, _<_}
 use mathlib.Core.Path.{_≡_, refl, sym, _∙_, ap, ap₂, subst}
 use mathlib.Core.List.{List, []}
 use native.Mathlib.Omega.{arith}
@@ -13,7 +13,7 @@ use Rattle.reduction_theory.specs.Numbering.{good-nil}
 use Rattle.apply.specs.Operands.{Inside}
 use Rattle.apply.specs.Pairs.{pairTree}
 use Rattle.apply.specs.Stacks.{Stacked}
-use Rattle.apply.specs.Turns.{Descended, Turned, walking-few}
+use Rattle.apply.specs.Turns.{Descended, Turned}
 use Rattle.apply.specs.Walks.{State, Returned, Walking, Descending}
 use Rattle.apply.specs.Weights.{weights}
 

@@ -1,8 +1,6 @@
 // The walk over pairs, depth first, lo before hi and each pair once. The pairs whose walk has begun stand on a stack of
 // frames, each with the reference of its lo half, or OPEN while that half is walked. A frame is packed as an inner node is.
-ghost use Prim.Native.Nat.{_+_, _≤_, _<_};
-ghost use mathlib.Core.Path.{_≡_};
-ghost use Rattle.apply.specs.Stacks.{frameOf};
+ghost use Prim.Native.Nat.{_+_, _<_};
 ghost use Rattle.apply.specs.Walks.{Descending, Walking};
 ghost use Rattle.apply.specs.Turns.{Descended, Turned};
 ghost use Rattle.apply.specs.Whole.{Ready, Walked};

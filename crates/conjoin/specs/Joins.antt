@@ -13,21 +13,22 @@ use Rattle.definitions.specs.Bytes.{diagramBytes}
 use Rattle.definitions.specs.Charts.{Chart}
 use Rattle.definitions.specs.Diagrams.{InnerNode, Diagram, size}
 use Rattle.definitions.specs.Promises.{writtenAnswer, writtenBuffer, ConjoinPromise, ConjoinCall, conjoinSlices}
-use Rattle.definitions.specs.Reductions.{postorder, ref, numbered, nodesOf, diagramOf, conjunction}
+use Rattle.definitions.specs.Reductions.{postorder, numbered, nodesOf, diagramOf, conjunction}
 use Rattle.definitions.specs.declared.Answer.{Answer}
 use Rattle.theory.specs.Basics.{pick-true, pick-false}
 use Rattle.theory.specs.Limits.{Sound}
 use Rattle.reduction_theory.specs.Expansion.{conjunction-joined}
 use Rattle.reduction_theory.specs.Numbering.{good-nil}
 use Rattle.reduction_theory.specs.Trees.{tree, meet, joined}
+use Rattle.unique_table.specs.Nodes.{nodes-long}
 use Rattle.unique_table.specs.Stores.{empty, empty-table, empty-nodes}
-use Rattle.unique_table.specs.Tables.{Table, nodesIn}
+use Rattle.unique_table.specs.Tables.{Table}
 use Rattle.apply.specs.Operands.{Inside}
 use Rattle.apply.specs.Pairs.{pairTree, pair-inside}
 use Rattle.apply.specs.Walks.{State}
 use Rattle.apply.specs.Whole.{Ready, Walked}
-use Rattle.diagram_writer.specs.Files.{drawn, nodes-long}
-use Rattle.conjoin.specs.Loads.{refusedAs, Loaded, LoadsTwo}
+use Rattle.diagram_writer.specs.Files.{drawn}
+use Rattle.conjoin.specs.Loads.{Loaded, LoadsTwo}
 use Rattle.conjoin.specs.declared.load.LoadedTwo.{LoadedTwo}
 
 -- what the walk asks: two diagrams over a chart of so many steps stand in tables, and there is a work entry for each pair of their nodes

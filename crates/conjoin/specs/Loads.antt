@@ -10,16 +10,16 @@ use mir.Syntax.{w64}
 use mir.Val.{Fits}
 use Rattle.definitions.specs.Charts.{Chart, readChart}
 use Rattle.definitions.specs.Charts as charts
-use Rattle.definitions.specs.Diagrams.{Diagram, size, inner, readDiagram}
+use Rattle.definitions.specs.Diagrams.{Diagram, size, readDiagram}
 use Rattle.definitions.specs.Diagrams as diagrams
 use Rattle.definitions.specs.Answers.{LoadTwo, readyTwo, refusedTwo, pairNeed, loadTwo}
 use Rattle.theory.specs.Limits.{Sound}
-use Rattle.diagram_fields.specs.Words.{nodesIn, stepOf, unpacked, step-at, lo-at, hi-at, MARK}
+use Rattle.diagram_fields.specs.Words.{nodesIn, stepOf, step-at, lo-at, hi-at, MARK}
 use Rattle.chart.specs.Accepted.{chart-accepted}
 use Rattle.chart.specs.Tables.{chartAnswer}
 use Rattle.chart.specs.declared.reader.ChartRead.{ChartRead}
 use Rattle.diagram.specs.Accepted.{diagram-accepted, accepted-filled}
-use Rattle.diagram.specs.Files.{Room, Reads, Filled, diagramAnswer}
+use Rattle.diagram.specs.Files.{Room, Reads, Filled}
 use Rattle.diagram.specs.Held.{held-inner}
 use Rattle.diagram.specs.Tables.{Held}
 use Rattle.diagram.specs.declared.reader.DiagramRead.{DiagramRead}

@@ -3,4 +3,3 @@ mod join;
 mod load;
 
 pub use join::conjoin;
-pub use load::LoadedTwo;

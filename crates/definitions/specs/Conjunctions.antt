@@ -3,7 +3,7 @@
 -- Assumes nothing.
 use Prim.Native.Nat.{ℕ, zero, suc, _-_, _≤_}
 use mathlib.Core.Path.{_≡_, refl, ap}
-use mathlib.Core.Bool.{Bool, true, false, _&&_, _||_}
+use mathlib.Core.Bool.{true, not, _&&_, _||_}
 use mathlib.Core.List.{List, [], _∷_, _++_, map}
 use native.Mathlib.Omega.{arith}
 use lib.ListN.{take, replicate, List·getD-eq-default}
@@ -42,6 +42,10 @@ crossed = diagram 4 (nd 2 0 1 ∷ nd 1 0 1 ∷ nd 0 3 2 ∷ [])
 abbrev uncrossed : Diagram
 uncrossed = diagram 4 (nd 1 0 1 ∷ nd 2 0 1 ∷ nd 0 2 3 ∷ [])
 
+-- two nodes lead to node 2
+abbrev shared : Diagram
+shared = diagram 4 (nd 2 0 1 ∷ nd 1 0 2 ∷ nd 0 3 2 ∷ [])
+
 pub conjunctions : List Diagram
 conjunctions =
     conjunction 6 rules (leaf 1)
@@ -77,6 +81,10 @@ properties =
     ∷ reducedOf 2 (λ set. set 1)
     ∷ reducedOf 0 (λ set. true)
     ∷ reducedOf 3 (λ set. (set 0 || set 1) && set 2)
+    ∷ reducedOf 2 (λ set. not (set 0) && set 1)
+    ∷ reducedOf 3 (λ set. set 1 && (set 0 || set 2))
+    ∷ reducedOf 3 (λ set. set 1 || (set 0 && set 2))
+    ∷ reducedOf 3 (λ set. pick (set 0 || set 1) (set 2) (not (set 2)))
     ∷ []
 
 pub properties-hold : properties
@@ -85,6 +93,10 @@ pub properties-hold : properties
     ∷ diagram 2 (nd 1 0 1 ∷ [])
     ∷ leaf 1
     ∷ diagram 4 (nd 2 0 1 ∷ nd 1 0 2 ∷ nd 0 3 2 ∷ [])
+    ∷ diagram 3 (nd 1 0 1 ∷ nd 0 2 0 ∷ [])
+    ∷ diagram 5 (nd 2 0 1 ∷ nd 1 0 2 ∷ nd 1 0 1 ∷ nd 0 3 4 ∷ [])
+    ∷ diagram 5 (nd 1 0 1 ∷ nd 2 0 1 ∷ nd 1 3 1 ∷ nd 0 2 4 ∷ [])
+    ∷ diagram 5 (nd 2 1 0 ∷ nd 2 0 1 ∷ nd 1 2 3 ∷ nd 0 4 3 ∷ [])
     ∷ []
 unfolding properties reducedOf treeOf mk alike pick diagramOf postorder member position ref numbered nodesOf
 properties-hold = refl
@@ -100,7 +112,8 @@ joined-file = refl
 -- ---- what a reduced diagram is not
 
 -- walks of these diagrams
-pub walks : walk padded 6 [] ∷ walk crossed 4 [] ∷ walk uncrossed 4 [] ∷ walk (leaf 1) 1 [] ∷ [] ≡ (3 ∷ 4 ∷ 5 ∷ 6 ∷ []) ∷ (3 ∷ 2 ∷ 4 ∷ []) ∷ (2 ∷ 3 ∷ 4 ∷ []) ∷ [] ∷ []
+pub walks : walk padded 6 [] ∷ walk crossed 4 [] ∷ walk uncrossed 4 [] ∷ walk shared 4 [] ∷ walk (leaf 1) 1 [] ∷ []
+    ≡ (3 ∷ 4 ∷ 5 ∷ 6 ∷ []) ∷ (3 ∷ 2 ∷ 4 ∷ []) ∷ (2 ∷ 3 ∷ 4 ∷ []) ∷ (2 ∷ 3 ∷ 4 ∷ []) ∷ [] ∷ []
 unfolding walk descend descendIn pick
 walks = refl
 
@@ -114,6 +127,11 @@ not-forked r = r .forked 3 (omega arith) (omega arith) refl
 not-left-out : Reduced (diagram 3 (nd 1 0 1 ∷ nd 1 1 0 ∷ [])) → ⊥
 unfolding walk descend descendIn pick
 not-left-out r = let e = differ (r .walked) 0 in omega arith
+
+-- also where it stands behind the root
+not-behind : Reduced (diagram 2 (nd 1 0 1 ∷ nd 1 1 0 ∷ [])) → ⊥
+unfolding walk descend descendIn pick
+not-behind r = let e = differ (r .walked) 1 in omega arith
 
 not-crossed : Reduced crossed → ⊥
 unfolding walk descend descendIn pick
@@ -154,7 +172,8 @@ abbrev shown : LoadTwo → List ℕ
 shown (readyTwo c d e) = []
 shown (refusedTwo number at place) = number ∷ at ∷ place ∷ []
 
--- 4 × 3 work entries, and one less; the roots of both, of the second; an empty third file, one that is cut, one too long; everything wrong
+-- 4 × 3 work entries, and one less; the roots of both, of the second; a third file that is empty, that is cut, whose node tests no step of the chart, that is too
+-- long, and one with a remark; faults of the second file and of the first, each before all behind it
 pub loads : List (List ℕ)
 loads =
     shown (loadTwo chart (file rules) (file noFive) 12)
@@ -164,6 +183,10 @@ loads =
     ∷ shown (loadTwo chart (file rules) [] 0)
     ∷ shown (loadTwo chart (file rules) (take 13 (file noFive)) 0)
     ∷ shown (loadTwo chart (file rules) (file (diagram 2 (nd 6 0 1 ∷ []))) 0)
+    ∷ shown (loadTwo chart (file rules) (replicate 32769 17) 0)
+    ∷ shown (loadTwo chart (file rules) (file noFive ++ 128 ∷ 1 ∷ 0 ∷ 7 ∷ []) 12)
+    ∷ shown (loadTwo chart (take 13 (file noFive)) [] 0)
+    ∷ shown (loadTwo (take 30 chart) [] [] 0)
     ∷ shown (loadTwo chart [] [] 0)
     ∷ shown (loadTwo [] [] [] 0)
     ∷ []
@@ -176,6 +199,10 @@ pub loads-hold : loads
     ∷ (2 ∷ 3 ∷ 0 ∷ [])
     ∷ (1 ∷ 3 ∷ 5 ∷ [])
     ∷ (6 ∷ 3 ∷ 5 ∷ [])
+    ∷ (9 ∷ 3 ∷ 32768 ∷ [])
+    ∷ []
+    ∷ (1 ∷ 2 ∷ 5 ∷ [])
+    ∷ (1 ∷ 1 ∷ 20 ∷ [])
     ∷ (2 ∷ 2 ∷ 0 ∷ [])
     ∷ (2 ∷ 1 ∷ 0 ∷ [])
     ∷ []
@@ -257,3 +284,20 @@ call-count s = let e = ap (λ (a : Answer). a .count) (s .0) in omega arith
 refused-work : ConjoinCall chart yes [] (conjoinSlices w out) (conjoinSlices w′ out) (refusal 2 3 0 0) → ⊥
 unfolding pick only orRemark fieldAt firstField onField scan headFault stepFault readChart nodeFault readDiagram readFiles loadTwo
 refused-work s = let e = differ (s .2) 0 in omega arith
+
+refused-file : ConjoinCall chart yes [] (conjoinSlices w out) (conjoinSlices w out′) (refusal 2 3 0 0) → ⊥
+unfolding pick only orRemark fieldAt firstField onField scan headFault stepFault readChart nodeFault readDiagram readFiles loadTwo
+refused-file s = let e = differ (s .1) 0 in omega arith
+
+refused-number : ConjoinCall chart yes [] (conjoinSlices w out) (conjoinSlices w out) (refusal 7 0 0 0) → ⊥
+unfolding pick only orRemark fieldAt firstField onField scan headFault stepFault readChart nodeFault readDiagram readFiles loadTwo
+refused-number s = let e = ap (λ (a : Answer). a .number) (s .0) in omega arith
+
+call-shorter : ConjoinCall chart yes no (conjoinSlices (5 ∷ 5 ∷ 5 ∷ 5 ∷ []) out) (conjoinSlices (1 ∷ 2 ∷ 3 ∷ []) out′) (accepted 0 5 0) → ⊥
+unfolding pick only orRemark fieldAt firstField onField scan headFault stepFault readChart nodeFault readDiagram readFiles loadTwo
+call-shorter s = let e = s .2 in omega arith
+
+-- a work slice that is too short, and a buffer that is long enough
+pub work-short-holds : ConjoinCall chart yes no (conjoinSlices (5 ∷ 5 ∷ 5 ∷ []) out) (conjoinSlices (5 ∷ 5 ∷ 5 ∷ []) out) (refusal 7 0 0 0)
+unfolding pick only orRemark fieldAt firstField onField scan headFault stepFault readChart nodeFault readDiagram readFiles loadTwo
+work-short-holds = (refl, refl, refl)

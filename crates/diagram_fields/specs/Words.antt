@@ -5,6 +5,7 @@ use mathlib.Core.Path.{_≡_, refl, _∙_, ap}
 use mathlib.Core.List.{List, map}
 use lib.ListN.{getD, List·getD-map}
 use native.Mathlib.Nat.{mod-eq-of-lt}
+use native.Mathlib.Omega.{arith}
 use Rattle.definitions.specs.Diagrams.{InnerNode}
 use Rattle.theory.specs.Packing.{pack, first-packed, second-packed}
 
@@ -34,6 +35,10 @@ node-word x s l h =
     let lo = second-packed 512 upper (x .lo) (wordOf x) refl l in
     let hi = ap (λ (k : ℕ). k % 512) first ∙ second-packed 512 (x .step % 16384) (x .hi) upper refl h in
     rw (step, lo, hi)
+
+-- and a number of 32 bits is what its node is put into
+pub word-node : (w : ℕ) → w < 4294967296 → wordOf (unpacked w) ≡ w
+word-node w h = omega arith
 
 -- the largest number that a step's part can hold; no step has it
 abbrev pub MARK : ℕ

@@ -36,14 +36,3 @@ module _ (file out : List ℕ) (r : Answer) (bytes : ℕ) (long : length file �
   filed-whole h out′ end w =
       let fits : length file ≤ length out = omega arith in
       record { answer = answer-is; buffer = append-front fits w ∙ sym (pick-false _ _ _ (le-ltb (length out) (length file) fits)) }
-
--- where such a call is accepted, the file stands in the buffer's first bytes, as many as the answer's length
-pub filed-back : (file out out′ : List ℕ) (r : Answer) → Filed file out out′ r → r .number ≡ 0 → take (r .length) out′ ≡ file
-unfolding fileBuffer
-filed-back file out out′ r p e =
-    either (lt-or-le (length out) (length file))
-    (λ h. let short = p .answer ∙ sym (answer-short (length file) (length out) h) in absurd (omega (arith, ap (λ (a : Answer). a .number) short)))
-    (λ h.
-    let whole = p .answer ∙ sym (answer-whole (length file) (length out) h) in
-    let there : out′ ≡ file ++ drop (length file) out = p .buffer ∙ pick-false _ _ _ (le-ltb (length out) (length file) h) in
-    ap₂ take (ap (λ (a : Answer). a .length) whole) there ∙ take-append-seam file (drop (length file) out))

@@ -8,10 +8,6 @@ use lib.ListN.{getD}
 use Rattle.theory.specs.Basics.{Order, order, less, same, more}
 use Rattle.unique_table.specs.Tables.{nodeAt, nextOf, headOf, countIn, hash, Table, Finds}
 
-pub hash-small : (w : ℕ) → hash w < 1024
-unfolding hash
-hash-small w = omega arith
-
 pub hash-is : (w r : ℕ) → r ≡ w * 2654435769 / 4194304 % 1024 → (r ≡ hash w) × (r < 1024)
 unfolding hash
 hash-is w r e = (e, omega arith)

@@ -10,7 +10,6 @@ use lib.Seq.{getD-set-same, getD-set-other}
 use Rattle.definitions.specs.Basics.{upto}
 use Rattle.theory.specs.Basics.{either, lt-or-le, same-or-not, upto-grown}
 use Rattle.diagram_fields.specs.Words.{wordOf, unpacked}
-use Rattle.unique_table.specs.Chains.{hash-small}
 use Rattle.unique_table.specs.Tables.{innerNode, nodeAt, nextOf, headOf, countIn, nodesIn, hash, Table, Lacks, Finds, Adds, Interns, alone, found, full, added}
 
 module _ (t : List ℕ) (table : Table t) (room : countIn t < 510) (w : ℕ) (w-fits : w < 4294967296) (k n : ℕ)

@@ -1,9 +1,8 @@
-// The unique table of a diagram that is being made: a hash table with chains, in which no two nodes are alike. A node's
-// number is the order in which it was put in, from 2 on.
+// The unique table of a diagram that is being made: a hash table with chains. A node is put in where none alike is found,
+// and its number is the order in which it was put in, from 2 on.
 ghost use mathlib.Core.Path.{_≡_};
-ghost use Prim.Native.Nat.{_+_, _*_, _≤_, _<_};
-ghost use Rattle.diagram_fields.specs.Words.{wordOf};
-ghost use Rattle.unique_table.specs.Tables.{Table, countIn, innerNode, hash, Finds, Adds, Interns};
+ghost use Prim.Native.Nat.{_+_, _*_, _<_};
+ghost use Rattle.unique_table.specs.Tables.{Table, countIn, hash, Finds, Adds, Interns};
 use diagram_fields::word;
 
 // No node: there is no room for another one.

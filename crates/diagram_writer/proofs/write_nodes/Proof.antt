@@ -1,5 +1,6 @@
 -- `diagram_writer::write_nodes` meets its contract.
-use Rattle.diagram_writer.specs.Files.{nodes-long, node-appended}
+use Rattle.diagram_writer.specs.Files.{node-appended}
+use Rattle.unique_table.specs.Nodes.{nodes-long}
 use Prim.Native.Nat.{_+_, _-_, _*_, _≤_}
 use mathlib.Core.Path.{_≡_, refl}
 use native.Mathlib.Omega.{arith}

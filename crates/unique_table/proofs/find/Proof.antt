@@ -1,6 +1,6 @@
 -- `unique_table::find` meets its contract.
 use native.Mathlib.Omega.{arith}
-use Rattle.unique_table.specs.Chains.{Seeking, seeking-small, seeking-laws}
+use Rattle.unique_table.specs.Chains.{Seeking, seeking-laws}
 use Rattle.unique_table.specs.Tables.{Table}
 use borrow.Author.Needs.{needs}
 use Rattle.unique_table.proofs.find.Statement.{statement}

@@ -4,7 +4,6 @@ use Rattle.apply.specs.Turns.{Onward, onward-start, onward-placed, onwar
 use Prim.Native.Nat.{_+_}
 use mathlib.Core.Path.{_≡_}
 use native.Mathlib.Omega.{arith}
-use borrow.Author.Needs.{needs}
 use Rattle.apply.proofs.walk.descend.Statement.{statement}
 use Rattle.apply.proofs.walk.descend.Tie as tie
 use Rattle.apply.proofs.walk.descend.Reads as reads
