@@ -77,7 +77,7 @@ enum {
 #define PLANNER_MOST_FILE 4595
 
 /* Bytes of stack that are enough for any call. Measured peaks, the same for all files (docs/PERFORMANCE-TABLES.md):
- * planner_sweep 15,224, planner_guided 17,944, planner_both 18,520, planner_conjoin 17,640, planner_space_needed 11,784,
+ * planner_sweep 15,096, planner_guided 17,816, planner_both 18,392, planner_conjoin 18,008, planner_space_needed 11,736,
  * planner_refused_field 88. */
 #define PLANNER_STACK 32768
 
