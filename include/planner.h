@@ -46,7 +46,8 @@ enum {
     PLANNER_LONG = 9,    /* the file has more than PLANNER_LONGEST_FILE bytes */
     PLANNER_STAGES = 10, /* a step does not lead to a higher stage of the chart */
     PLANNER_COST = 11,   /* a step's cost, as the file has it, is beyond 1,000,000 */
-    PLANNER_LARGE = 12   /* the reduced diagram has more than 510 inner nodes */
+    PLANNER_LARGE = 12,  /* the reduced diagram has more than 510 inner nodes */
+    PLANNER_PADDED = 13  /* an inner node has lo equal to hi, or is a double: step, lo and hi of an earlier one */
 };
 
 /* Marks of a file. Where no file is at fault, file and place are 0. */
@@ -72,13 +73,14 @@ enum {
 #define PLANNER_MOST_WORK 131072
 #define PLANNER_MOST_PLAN 255
 
-/* Enough for the conjunction of any two diagrams: 512 x 512 pairs of nodes, and the bytes of a file of 510 inner nodes. */
+/* Enough for the conjunction of any two diagrams: 512 x 512 pairs of nodes, and the bytes of a file of 510 inner nodes,
+ * which are enough for any reduction too. */
 #define PLANNER_MOST_PAIRS 262144
 #define PLANNER_MOST_FILE 4595
 
 /* Bytes of stack that are enough for any call. Measured peaks, the same for all files (docs/PERFORMANCE-TABLES.md):
- * planner_sweep 15,096, planner_guided 17,816, planner_both 18,392, planner_conjoin 18,008, planner_space_needed 11,736,
- * planner_refused_field 88. */
+ * planner_sweep 15,096, planner_guided 17,816, planner_both 18,392, planner_conjoin 18,008, planner_reduce 0,
+ * planner_space_needed 11,736, planner_refused_field 88. */
 #define PLANNER_STACK 32768
 
 /*
@@ -211,6 +213,32 @@ uint32_t planner_conjoin(const uint8_t *chart, size_t chart_len,
                          uint32_t *work, size_t work_len,
                          uint8_t *file, size_t file_len,
                          planner_answer *answer);
+
+/*
+ * The reduction of a diagram: a reduced diagram that says yes to the same sets of steps. Its file is written to the front
+ * of `file`: the head and the inner nodes, none with lo equal to hi, no two alike, each arrived at from the root, and
+ * each behind its children, those of lo first. Every call takes that file, and a plan is legal under it exactly if it is
+ * under `rules`. Two files over one chart have the same reduction, byte for byte, exactly if they say yes to the same
+ * sets of the chart's steps; a file that this call wrote comes back as it is.
+ *
+ * This call takes padded files, whose nodes get 13 from the others. All other rules for a chart and a diagram hold here
+ * too; 8, 12 and 13 never come.
+ *
+ * Lent, with the least length; a shorter slice gives 7:
+ *   file   the bytes of the reduced diagram's file, 5 and 9 for each inner node, of which `rules` has at least as many;
+ *          PLANNER_MOST_FILE is always enough. Judged last of all
+ *
+ * All six entries of *answer are written; the number is returned. Accepted: length is the file's bytes, cost and count
+ * are 0. What the slice holds then:
+ *   number        0                                  any other
+ *   file          first answer.length bytes: the     as it was
+ *                 reduced diagram's file
+ * All further bytes stay as they were.
+ */
+uint32_t planner_reduce(const uint8_t *chart, size_t chart_len,
+                        const uint8_t *rules, size_t rules_len,
+                        uint8_t *file, size_t file_len,
+                        planner_answer *answer);
 
 /*
  * The bytes of the field at a place of a file (PLANNER_FILE_CHART or PLANNER_FILE_RULES): its header and its body, or

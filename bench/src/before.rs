@@ -1,8 +1,9 @@
 //! An earlier archive of the library beside the linked one (feature `before`), to be timed against
 //! it in one process, and a second copy of that archive: equal code at other addresses, whose times
-//! tell how large noise is. `build.rs` links both with their calls renamed, so the archive must have
-//! the calls of the present `include/planner.h` but for the conjunction. The linked one is called here just as they are: by
-//! way of `rust/` and `library.rs` a call takes 3 ns more.
+//! tell how large noise is. `build.rs` links both with their calls renamed: both searches and the space
+//! needed, which the archive must have as they are in the present `include/planner.h`. The linked one is
+//! called here just as they are: by way of `rust/` and `library.rs` a call takes 3 ns more. Only the
+//! linked one conjoins and reduces.
 
 use planner::lent;
 
@@ -153,6 +154,10 @@ copy! {
         lent: &mut ConjoinSlices,
     ) -> Option<Answer> {
         Library { guarded: false }.conjoin(chart, rules, more, lent)
+    }
+
+    fn reduce(&self, chart: &[u8], rules: &[u8], file: &mut [u8]) -> Option<Answer> {
+        Library { guarded: false }.reduce(chart, rules, file)
     }
 }
 copy! {

@@ -181,6 +181,7 @@ fn number_rule(number: u32) -> &'static str {
         10 => "3.1, 10: a step's from is not below its to, or its to not below the stage count",
         11 => "3.1, 11: a step's cost in the file is above 1,000,000",
         12 => "3.1, 12: the reduced diagram has more than 510 inner nodes",
+        13 => "3.1, 13: a node has lo equal to hi, or is alike to an earlier one",
         _ => "3.1: no such number",
     }
 }

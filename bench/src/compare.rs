@@ -9,11 +9,12 @@ use crate::cases::Case;
 use crate::check::{self, Checked, FieldCall};
 use crate::crash;
 use crate::figures::Figures;
-use crate::files::{read_both, Refusal, DIAGRAM_FILE, MORE_FILE};
+use crate::files::{Refusal, DIAGRAM_FILE, MORE_FILE};
 use crate::generate::Random;
 use crate::lent::{Lent, Side, Span};
 use crate::planner::{ConjoinSlices, GuidedSlices, Planner, SweepSlices};
 use crate::reference::conjunction::{by_truth, conjoin, conjunction_answer, Conjoined};
+use crate::reference::reduction::{reduce, say_the_same};
 use crate::reference::{self, Facts, Judged};
 
 /// Charts with more ways than this from some stage are judged by dynamic programming alone.
@@ -32,24 +33,37 @@ pub struct Difference {
 /// What the reference makes of a case.
 #[derive(Clone, Debug)]
 pub enum Judgement {
-    Searches(Judged),
-    Conjunction(Conjoined),
+    Searches { judged: Judged, reduced: Conjoined },
+    Conjunction { conjoined: Conjoined, reduced: [Conjoined; 2] },
 }
 
 impl Judgement {
     /// By the faster methods alone.
     pub fn of(case: &Case) -> Judgement {
+        let Case { chart, rules, .. } = case;
+        let reduced = reduce(chart, rules);
         match &case.more {
-            None => Judgement::Searches(reference::judge(&case.chart, &case.rules)),
-            Some(more) => Judgement::Conjunction(conjoin(&case.chart, &case.rules, more)),
+            None => Judgement::Searches { judged: reference::judge(chart, rules), reduced },
+            Some(more) => Judgement::Conjunction {
+                conjoined: conjoin(chart, rules, more),
+                reduced: [reduced, reduce(chart, more)],
+            },
         }
     }
 
-    /// The file that is refused.
+    /// The file that the searches or the conjunction refuse.
     pub fn fault(&self) -> Option<&Refusal> {
         match self {
-            Judgement::Searches(judged) => judged.as_ref().err(),
-            Judgement::Conjunction(conjoined) => conjoined.as_ref().err(),
+            Judgement::Searches { judged, .. } => judged.as_ref().err(),
+            Judgement::Conjunction { conjoined, .. } => conjoined.as_ref().err(),
+        }
+    }
+
+    /// The reductions of its diagrams.
+    pub fn reduced(&self) -> &[Conjoined] {
+        match self {
+            Judgement::Searches { reduced, .. } => std::slice::from_ref(reduced),
+            Judgement::Conjunction { reduced, .. } => reduced,
         }
     }
 }
@@ -61,11 +75,13 @@ pub struct Outcome {
     pub number: u32,
     /// Whether both searches were lent enough.
     pub enough: bool,
-    /// Whether the reference's two methods were compared.
+    /// Whether the reference's two methods were compared, of the facts or of the conjunction.
     pub enumerated: bool,
     pub judgement: Judgement,
     /// Entries and bytes that were lent to conjunctions.
     pub lent: Vec<(usize, usize)>,
+    /// Bytes that were lent to the reductions of each diagram.
+    pub buffers: Vec<Vec<usize>>,
 }
 
 impl Outcome {
@@ -76,10 +92,12 @@ impl Outcome {
 
 /// Runs every call of every implementation on a case.
 pub fn run(case: &Case, planners: &[Box<dyn Planner>]) -> Result<Outcome, Difference> {
-    let (judgement, enumerated) = match &case.more {
-        None => judge(case).map(|(judged, both)| (Judgement::Searches(judged), both))?,
-        Some(_) => judge_conjunction(case)?,
+    let judgement = Judgement::of(case);
+    let enumerated = match &judgement {
+        Judgement::Searches { judged, .. } => compare_facts(judged)?,
+        Judgement::Conjunction { conjoined, .. } => compare_by_truth("conjunction", conjoined)?,
     };
+    compare_reductions(judgement.reduced())?;
     let outcome = hold(case, judgement, planners)?;
     Ok(Outcome { enumerated, ..outcome })
 }
@@ -90,61 +108,88 @@ pub fn hold(
     judgement: Judgement,
     planners: &[Box<dyn Planner>],
 ) -> Result<Outcome, Difference> {
-    match judgement {
-        Judgement::Searches(judged) => hold_searches(case, judged, planners),
-        Judgement::Conjunction(conjoined) => hold_conjunction(case, conjoined, planners),
-    }
+    let mut random = Random::new(case.dirt);
+    let Held { number, enough, lent } = match &judgement {
+        Judgement::Searches { judged, .. } => hold_searches(case, judged, planners, &mut random)?,
+        Judgement::Conjunction { conjoined, .. } => {
+            hold_conjunction(case, conjoined, planners, &mut random)?
+        }
+    };
+    let buffers = hold_reductions(case, judgement.reduced(), planners, &mut random)?;
+    Ok(Outcome { number, enough, enumerated: false, judgement, lent, buffers })
+}
+
+/// The part of an outcome that searches or conjunctions give.
+struct Held {
+    number: u32,
+    enough: bool,
+    lent: Vec<(usize, usize)>,
 }
 
 fn hold_searches(
     case: &Case,
-    judged: Judged,
+    judged: &Judged,
     planners: &[Box<dyn Planner>],
-) -> Result<Outcome, Difference> {
-    let mut random = Random::new(case.dirt);
-    let (sweep, guided) = slices::drawn(&judged, case.lends_enough(), &mut random);
-    let places = places(case, &judged, &mut random);
+    random: &mut Random,
+) -> Result<Held, Difference> {
+    let (sweep, guided) = slices::drawn(judged, case.lends_enough(), random);
+    let places = places(case, judged, random);
     for planner in planners {
         let planner = planner.as_ref();
-        let mut trial = Trial::new(case, planner, &mut random);
-        trial.sweep(&judged, &sweep)?;
-        trial.guided(&judged, &guided)?;
-        trial.both(&judged, &sweep, &guided)?;
-        trial.space(&judged)?;
+        let mut trial = Trial::new(case, planner, random);
+        trial.sweep(judged, &sweep)?;
+        trial.guided(judged, &guided)?;
+        trial.both(judged, &sweep, &guided)?;
+        trial.space(judged)?;
         for place in &places {
             trial.refused_field(*place)?;
         }
     }
-    let number = reference::sweep_answer(&judged, &sweep.work_lengths(), sweep.plan.len()).number;
-    let other = reference::guided_answer(&judged, &guided.work_lengths(), guided.plan.len()).number;
-    let enough = number != 7 && other != 7;
-    let judgement = Judgement::Searches(judged);
-    Ok(Outcome { number, enough, enumerated: false, judgement, lent: Vec::new() })
+    let number = reference::sweep_answer(judged, &sweep.work_lengths(), sweep.plan.len()).number;
+    let other = reference::guided_answer(judged, &guided.work_lengths(), guided.plan.len()).number;
+    Ok(Held { number, enough: number != 7 && other != 7, lent: Vec::new() })
 }
 
 fn hold_conjunction(
     case: &Case,
-    conjoined: Conjoined,
+    conjoined: &Conjoined,
     planners: &[Box<dyn Planner>],
-) -> Result<Outcome, Difference> {
-    let mut random = Random::new(case.dirt);
-    let all = slices::drawn_for_conjunction(&conjoined, case.lends_enough(), &mut random);
-    let shown = field_of_more(case, &conjoined);
+    random: &mut Random,
+) -> Result<Held, Difference> {
+    let all = slices::drawn_for_conjunction(conjoined, case.lends_enough(), random);
+    let shown = field_of_more(case, conjoined);
     for planner in planners {
-        let mut trial = Trial::new(case, planner.as_ref(), &mut random);
+        let mut trial = Trial::new(case, planner.as_ref(), random);
         for before in &all {
-            trial.conjoin(&conjoined, before)?;
+            trial.conjoin(conjoined, before)?;
         }
         if let Some((case, place)) = &shown {
-            let mut trial = Trial::new(case, planner.as_ref(), &mut random);
+            let mut trial = Trial::new(case, planner.as_ref(), random);
             trial.refused_field((DIAGRAM_FILE, *place))?;
         }
     }
     let lent: Vec<_> = all.iter().map(|slices| (slices.work.len(), slices.file.len())).collect();
     let (work, file) = lent[0];
-    let number = conjunction_answer(&conjoined, work, file).number;
-    let judgement = Judgement::Conjunction(conjoined);
-    Ok(Outcome { number, enough: false, enumerated: false, judgement, lent })
+    let number = conjunction_answer(conjoined, work, file).number;
+    Ok(Held { number, enough: false, lent })
+}
+
+/// Reduces each diagram of a case; gives the lengths of the buffers.
+fn hold_reductions(
+    case: &Case,
+    reduced: &[Conjoined],
+    planners: &[Box<dyn Planner>],
+    random: &mut Random,
+) -> Result<Vec<Vec<usize>>, Difference> {
+    let buffers = reduced.iter().map(|one| slices::drawn_for_reduction(one, random));
+    let buffers: Vec<Vec<Lent<u8>>> = buffers.collect();
+    for planner in planners {
+        let mut trial = Trial::new(case, planner.as_ref(), random);
+        for (which, (one, buffers)) in reduced.iter().zip(&buffers).enumerate() {
+            buffers.iter().try_for_each(|before| trial.reduce(which, one, before))?;
+        }
+    }
+    Ok(buffers.iter().map(|all| all.iter().map(|buffer| buffer.len()).collect()).collect())
 }
 
 /// Where file 3 is at fault: a case that has it as its second file, so that its field is shown, and the
@@ -155,36 +200,51 @@ fn field_of_more(case: &Case, conjoined: &Conjoined) -> Option<(Case, usize)> {
     Some((Case::new(case.kind, files, case.dirt), fault.place))
 }
 
-/// The reference's conjunction; of few steps both of its methods must agree.
-fn judge_conjunction(case: &Case) -> Result<(Judgement, bool), Difference> {
-    let judgement = Judgement::of(case);
-    let Judgement::Conjunction(Ok(found)) = &judgement else { return Ok((judgement, false)) };
+/// A difference within the reference.
+fn contradiction(call: &'static str, text: String) -> Difference {
+    Difference { planner: "reference", call, text }
+}
+
+/// Of few steps both methods of a conjunction, or of a reduction, must agree; says whether they were
+/// compared.
+fn compare_by_truth(call: &'static str, made: &Conjoined) -> Result<bool, Difference> {
+    let Ok(found) = made else { return Ok(false) };
     match by_truth(&found.operands) {
-        Some(other) if other != found.reduced => Err(Difference {
-            planner: "reference",
-            call: "conjunction",
-            text: format!("by truth {other:?}, by the product {:?}", found.reduced),
-        }),
-        by_truth => Ok((judgement, by_truth.is_some())),
+        Some(other) if other != found.reduced => {
+            let text = format!("by truth {other:?}, by the product {:?}", found.reduced);
+            Err(contradiction(call, text))
+        }
+        by_truth => Ok(by_truth.is_some()),
     }
 }
 
-/// The reference's judgement; on small problems both of its methods must agree.
-fn judge(case: &Case) -> Result<(Judged, bool), Difference> {
-    let problem = match read_both(&case.chart, &case.rules) {
-        Ok(problem) => problem,
-        Err(fault) => return Ok((Err(fault), false)),
-    };
-    let facts = Facts::by_dynamic_programming(&problem);
-    let few_nodes = problem.diagram.nodes.len() <= ENUMERATED_NODES;
-    let counted = few_nodes.then(|| Facts::by_enumeration(&problem, WAYS)).flatten();
+/// The same of reductions; and two diagrams must have the same one exactly where they say the same.
+fn compare_reductions(reduced: &[Conjoined]) -> Result<(), Difference> {
+    for one in reduced {
+        compare_by_truth("reduction", one)?;
+    }
+    let [Ok(first), Ok(second)] = reduced else { return Ok(()) };
+    let steps = first.operands.chart.steps.len();
+    let same = say_the_same(steps, &first.operands.first, &second.operands.first);
+    let is_same = first.reduced == second.reduced;
+    if same.is_some_and(|same| same != is_same) {
+        let text = format!("{:?} and {:?}, same sets: {same:?}", first.reduced, second.reduced);
+        return Err(contradiction("reduction", text));
+    }
+    Ok(())
+}
+
+/// Of small problems both methods of the facts must agree; says whether they were compared.
+fn compare_facts(judged: &Judged) -> Result<bool, Difference> {
+    let Ok(facts) = judged else { return Ok(false) };
+    let few_nodes = facts.problem.diagram.nodes.len() <= ENUMERATED_NODES;
+    let counted = few_nodes.then(|| Facts::by_enumeration(&facts.problem, WAYS)).flatten();
     match counted {
-        Some(counted) if counted != facts => Err(Difference {
-            planner: "reference",
-            call: "facts",
-            text: format!("by enumeration {counted:?}, by dynamic programming {facts:?}"),
-        }),
-        counted => Ok((Ok(facts), counted.is_some())),
+        Some(counted) if counted != *facts => {
+            let text = format!("by enumeration {counted:?}, by dynamic programming {facts:?}");
+            Err(contradiction("facts", text))
+        }
+        counted => Ok(counted.is_some()),
     }
 }
 
@@ -207,6 +267,10 @@ impl LentFiles {
     fn spans(&self) -> Vec<Span> {
         let both = [self.chart.span("chart"), self.rules.span("rules")];
         both.into_iter().chain(self.more.as_ref().map(|more| more.span("more"))).collect()
+    }
+
+    fn diagrams(&self) -> impl Iterator<Item = &[u8]> {
+        [Some(&self.rules), self.more.as_ref()].into_iter().flatten().map(|file| &file[..])
     }
 
     fn are_those_of(&self, case: &Case) -> bool {
@@ -291,6 +355,23 @@ impl<'a> Trial<'a> {
         let Some(answer) = answer else { return Ok(()) };
         self.intact(name, &after.spans())?;
         self.checked(name, check::conjunction::conjunction(found, before, &after, answer))
+    }
+
+    /// The reduction of the case's first diagram or of its second.
+    fn reduce(
+        &mut self,
+        which: usize,
+        reduced: &Conjoined,
+        before: &[u8],
+    ) -> Result<(), Difference> {
+        let mut after = Lent::beside_guard(before, Side::drawn(self.random));
+        let (name, spans) = ("reduce", [after.span("file")]);
+        let answer = self.call(name, &spans, |f, by| {
+            by.reduce(&f.chart, f.diagrams().nth(which)?, &mut after)
+        })?;
+        let Some(answer) = answer else { return Ok(()) };
+        self.intact(name, &[after.span("file")])?;
+        self.checked(name, check::conjunction::reduction(reduced, before, &after, answer))
     }
 
     /// Makes a call; a panic of it is a difference, and so is a file that has changed.

@@ -90,6 +90,11 @@ pub struct Diagram {
 }
 
 impl Diagram {
+    /// Always "no".
+    pub const NO: Diagram = Diagram { root: 0, nodes: Vec::new() };
+    /// Always "yes".
+    pub const YES: Diagram = Diagram { root: 1, nodes: Vec::new() };
+
     /// N of REFERENCE: the inner nodes and the two constants.
     pub fn references(&self) -> usize {
         self.nodes.len() + 2
@@ -155,17 +160,47 @@ impl Refusal {
     }
 }
 
+/// Whether a node is padding behind those before it in its file: its children are equal, or one of them
+/// is alike. By a look at all of them.
+pub fn is_padding(before: &[Node], node: Node) -> bool {
+    node.lo == node.hi || before.contains(&node)
+}
+
 /// Reads the chart, then the diagram.
 pub fn read_both(chart: &[u8], rules: &[u8]) -> Result<Problem, Refusal> {
+    read_both_by(chart, rules, is_padding)
+}
+
+/// Reads the chart, then a diagram whose padding is taken.
+pub fn read_padded(chart: &[u8], rules: &[u8]) -> Result<Problem, Refusal> {
+    read_both_by(chart, rules, |_, _| false)
+}
+
+/// Reads the chart, then the diagram; 13 is told of a node within the limits by those before it.
+pub fn read_both_by(
+    chart: &[u8],
+    rules: &[u8],
+    is_13: impl FnMut(&[Node], Node) -> bool,
+) -> Result<Problem, Refusal> {
     let chart = read_chart(chart)?;
-    let diagram = read_diagram(rules, chart.steps.len())?;
+    let diagram = read_diagram_by(rules, DIAGRAM_FILE, chart.steps.len(), is_13)?;
     Ok(Problem { chart, diagram })
 }
 
 /// Reads the chart, then the diagram, then the second diagram, which is file 3.
 pub fn read_three(chart: &[u8], rules: &[u8], more: &[u8]) -> Result<Operands, Refusal> {
-    let Problem { chart, diagram: first } = read_both(chart, rules)?;
-    let second = read_diagram_file(more, MORE_FILE, chart.steps.len())?;
+    read_three_by(chart, rules, more, || is_padding)
+}
+
+/// The same with a fresh test for 13 in each diagram.
+pub fn read_three_by<Is13: FnMut(&[Node], Node) -> bool>(
+    chart: &[u8],
+    rules: &[u8],
+    more: &[u8],
+    is_13: impl Fn() -> Is13,
+) -> Result<Operands, Refusal> {
+    let Problem { chart, diagram: first } = read_both_by(chart, rules, is_13())?;
+    let second = read_diagram_by(more, MORE_FILE, chart.steps.len(), is_13())?;
     Ok(Operands { chart, first, second })
 }
 
@@ -194,19 +229,26 @@ pub fn read_chart(bytes: &[u8]) -> Result<Chart, Refusal> {
 
 /// Reads file 2 over a chart with that many steps.
 pub fn read_diagram(bytes: &[u8], steps: usize) -> Result<Diagram, Refusal> {
-    read_diagram_file(bytes, DIAGRAM_FILE, steps)
+    read_diagram_by(bytes, DIAGRAM_FILE, steps, is_padding)
 }
 
-/// The same of a diagram that is the file with a mark.
-fn read_diagram_file(bytes: &[u8], file: u32, steps: usize) -> Result<Diagram, Refusal> {
+/// The same of a diagram that is the file with a mark, by a test for 13.
+pub fn read_diagram_by(
+    bytes: &[u8],
+    file: u32,
+    steps: usize,
+    mut is_13: impl FnMut(&[Node], Node) -> bool,
+) -> Result<Diagram, Refusal> {
     let mut reader = Reader::open(bytes, file)?;
     let head = reader.head(DIAGRAM_HEAD)?;
     let mut diagram = Diagram { root: two_bytes(head, 0), nodes: Vec::new() };
     while let Some((place, body)) = reader.next(NODE)? {
-        let node =
-            Node { step: two_bytes(body, 0), lo: two_bytes(body, 2), hi: two_bytes(body, 4) };
+        let node = node_of(body);
         if !node_within_limits(&diagram, node, steps) {
             return Err(Refusal::at(6, file, place));
+        }
+        if is_13(&diagram.nodes, node) {
+            return Err(Refusal::at(13, file, place));
         }
         diagram.nodes.push(node);
     }
@@ -334,6 +376,11 @@ fn four_bytes(bytes: &[u8], at: usize) -> u32 {
 /// The values in a step's body, the cost as it stands there.
 pub fn step_of(body: &[u8]) -> Step {
     Step { from: two_bytes(body, 0), to: two_bytes(body, 2), cost: four_bytes(body, 4) }
+}
+
+/// The values in a node's body.
+pub fn node_of(body: &[u8]) -> Node {
+    Node { step: two_bytes(body, 0), lo: two_bytes(body, 2), hi: two_bytes(body, 4) }
 }
 
 /// One field: tag, length, body.

@@ -163,4 +163,11 @@ impl Planner for Library {
         });
         Some(answer_of(returned, answer))
     }
+
+    fn reduce(&self, chart: &[u8], rules: &[u8], file: &mut [u8]) -> Option<Answer> {
+        let (returned, answer) = self.answered(UNWRITTEN, side(chart, rules), |answer| {
+            lent::reduce(chart, rules, file, answer)
+        });
+        Some(answer_of(returned, answer))
+    }
 }

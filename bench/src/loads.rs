@@ -6,7 +6,7 @@ use crate::files::{
     Problem, MAX_NODES,
 };
 use crate::generate::charts::{long_steps, Costs, Ends, Shape, Spans};
-use crate::generate::diagrams::layers_of_width;
+use crate::generate::diagrams::{layers_among, layers_of_width, Padding};
 use crate::generate::load::load;
 use crate::generate::rules::{diagram_of, AllOf, AtMost, Both, ExactlyOne, Modulo, Needs, Rule};
 use crate::generate::Random;
@@ -143,7 +143,7 @@ fn small() -> Vec<Load> {
         let chart = shape.chart(&mut random);
         let steps = cheapest_steps(&chart, 8);
         let at_most = must_fit(&AtMost { most: 2, steps: steps.clone() });
-        let layers = layers_of_width(&mut random, &steps, 3);
+        let layers = layers_of_width(&mut random, &steps, 3, Padding::Without);
         loads.push(Load::new(
             format!("small {stages}, 3 needs"),
             &chart,
@@ -162,7 +162,7 @@ fn over(name: &str, chart: &Chart) -> Vec<Load> {
     let mut add = |what: &str, diagram: &Diagram| {
         loads.push(Load::new(format!("{name}, {what}"), chart, diagram));
     };
-    add("no rule", &Diagram { root: 1, nodes: Vec::new() });
+    add("no rule", &Diagram::YES);
     for pairs in [4, 7, 8] {
         add(&format!("{pairs} needs"), &must_fit(&needs(chart, pairs)));
     }
@@ -174,8 +174,9 @@ fn over(name: &str, chart: &Chart) -> Vec<Load> {
     let rest_5 = Modulo { divisor: 16, rest: 5, steps: cheapest_steps(chart, 31) };
     add("modulo 16 of 31", &must_fit(&rest_5));
     for width in [2, 16, 128] {
-        let steps = random.subset(chart.steps.len(), MAX_NODES / width);
-        add(&format!("random {width} wide"), &layers_of_width(&mut random, &steps, width));
+        let steps = random.subset(chart.steps.len(), layers_among(MAX_NODES, width));
+        let layers = layers_of_width(&mut random, &steps, width, Padding::Without);
+        add(&format!("random {width} wide"), &layers);
     }
     add("no plan", &must_fit(&impossible(chart)));
     loads
@@ -194,7 +195,7 @@ fn equal_costs() -> Vec<Load> {
 }
 
 fn must_fit(rule: &dyn Rule) -> Diagram {
-    diagram_of(rule, false).expect("at most 510 nodes")
+    diagram_of(rule, Padding::Without).expect("at most 510 nodes")
 }
 
 /// The cheapest step out of each of the first stages needs the dearest out of one of the last:

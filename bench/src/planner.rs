@@ -1,10 +1,12 @@
 //! What every implementation offers: both searches over lent slices, and, where it has them, both in
-//! one call, the space that they need, the refused field and the conjunction of two diagrams.
+//! one call, the space that they need, the refused field, the conjunction of two diagrams and the
+//! reduction of one.
 
 use crate::generate::Random;
 use crate::lent::{Lent, Side, Span};
 
-/// The answer of a search or of a conjunction, whose length is bytes and whose cost and count are 0.
+/// The answer of a search, or of a call that writes a file: then the length is bytes and cost and count
+/// are 0.
 #[derive(Clone, Copy, Debug, Default, PartialEq, Eq)]
 pub struct Answer {
     pub number: u32,
@@ -263,6 +265,12 @@ pub trait Planner: Send + Sync {
         _more: &[u8],
         _lent: &mut ConjoinSlices,
     ) -> Option<Answer> {
+        None
+    }
+
+    /// Writes the reduced diagram that says what `rules` does, whatever padding that has, to the front
+    /// of a lent buffer; none where an implementation has no such call.
+    fn reduce(&self, _chart: &[u8], _rules: &[u8], _file: &mut [u8]) -> Option<Answer> {
         None
     }
 }

@@ -3,6 +3,7 @@
 pub mod conjunction;
 mod counts;
 mod facts;
+pub mod reduction;
 pub mod rules;
 pub mod ways;
 

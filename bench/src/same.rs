@@ -7,12 +7,12 @@ mod queue;
 mod sweep;
 mod tables;
 
-pub use conjoin::conjoin;
+pub use conjoin::{conjoin, reduce};
 pub use guided::guided;
 pub use sweep::sweep;
 
 use crate::planner::{Answer, ConjoinSlices, GuidedSlices, Planner, Space, SweepSlices};
-use tables::{Tables, BY_NODE, BY_STAGE};
+use tables::{Padding, Tables, BY_NODE, BY_STAGE};
 
 /// No cost, no estimate, never opened.
 const NONE: u32 = u32::MAX;
@@ -48,7 +48,7 @@ fn prepare(
     plan: usize,
 ) -> Result<(), Answer> {
     tables.read_chart(chart)?;
-    tables.read_rules(rules, 2)?;
+    tables.read_rules(rules, 2, Padding::Refused)?;
     if shortest_work < tables.stages * tables.references || plan < tables.stages - 1 {
         return Err(Answer::refused(7, 0, 0));
     }
@@ -60,7 +60,7 @@ fn prepare(
 /// Reads both files and tells what they need.
 pub fn space_needed(chart: &[u8], rules: &[u8]) -> Space {
     let mut tables = Tables::new();
-    let read = tables.read_chart(chart).and_then(|()| tables.read_rules(rules, 2));
+    let read = tables.read_chart(chart).and_then(|()| tables.read_rules(rules, 2, Padding::Refused));
     match read {
         Err(Answer { number, file, place, .. }) => Space { number, file, place, work: 0, plan: 0 },
         Ok(()) => Space {
@@ -155,5 +155,9 @@ impl Planner for Same {
         lent: &mut ConjoinSlices,
     ) -> Option<Answer> {
         Some(conjoin(chart, rules, more, &mut lent.work, &mut lent.file))
+    }
+
+    fn reduce(&self, chart: &[u8], rules: &[u8], file: &mut [u8]) -> Option<Answer> {
+        Some(reduce(chart, rules, file))
     }
 }

@@ -1,13 +1,13 @@
 //! A plain baseline: textbook A* with the standard library's heap and hash maps, a sweep over hash maps,
-//! and Bryant's apply, by recursion over hash maps. It takes the same slices as the others but uses only
-//! those that hold results.
+//! Bryant's apply, by recursion over hash maps, and his reduction. It takes the same slices as the others
+//! but uses only those that hold results.
 
 use std::cmp::Reverse;
 use std::collections::{BinaryHeap, HashMap, HashSet};
 
 use crate::files::{
-    read_both, read_three, write_diagram, Chart, Diagram, Node, Operands, Problem, Refusal,
-    MAX_NODES,
+    read_both_by, read_padded, read_three_by, write_diagram, Chart, Diagram, Node, Operands,
+    Problem, Refusal, MAX_NODES,
 };
 use crate::planner::{Answer, ConjoinSlices, GuidedSlices, Planner, SweepSlices};
 
@@ -52,11 +52,24 @@ impl Planner for Textbook {
         more: &[u8],
         lent: &mut ConjoinSlices,
     ) -> Option<Answer> {
-        Some(match read_three(chart, rules, more) {
+        Some(match read_three_by(chart, rules, more, hashed) {
             Ok(operands) => conjoin(&operands, lent),
             Err(fault) => refused(fault),
         })
     }
+
+    fn reduce(&self, chart: &[u8], rules: &[u8], file: &mut [u8]) -> Option<Answer> {
+        Some(match read_padded(chart, rules) {
+            Ok(problem) => write(&reduced(&problem.diagram), file),
+            Err(fault) => refused(fault),
+        })
+    }
+}
+
+/// Whether a node of a file is padding, by a set of those before it.
+fn hashed() -> impl FnMut(&[Node], Node) -> bool {
+    let mut known = HashSet::new();
+    move |_, node| node.lo == node.hi || !known.insert(node)
 }
 
 fn refused(fault: Refusal) -> Answer {
@@ -64,7 +77,7 @@ fn refused(fault: Refusal) -> Answer {
 }
 
 fn prepare(chart: &[u8], rules: &[u8], work: &[usize], plan: usize) -> Result<Problem, Answer> {
-    let problem = read_both(chart, rules).map_err(refused)?;
+    let problem = read_both_by(chart, rules, hashed()).map_err(refused)?;
     let enough = work.iter().all(|length| *length >= problem.pairs());
     if !enough || plan < problem.longest_plan() {
         return Err(Answer::refused(7, 0, 0));
@@ -233,13 +246,59 @@ fn conjoin(operands: &Operands, lent: &mut ConjoinSlices) -> Answer {
     let Some(root) = apply.both(operands.first.root, operands.second.root) else {
         return Answer::refused(12, 0, 0);
     };
-    let bytes = write_diagram(&Diagram { root, nodes: apply.nodes });
-    match lent.file.get_mut(..bytes.len()) {
+    write(&Diagram { root, nodes: apply.nodes }, &mut lent.file)
+}
+
+/// Writes a diagram to the front of a buffer, where it fits.
+fn write(diagram: &Diagram, file: &mut [u8]) -> Answer {
+    let bytes = write_diagram(diagram);
+    match file.get_mut(..bytes.len()) {
         None => Answer::refused(7, 0, 0),
         Some(file) => {
             file.copy_from_slice(&bytes);
             Answer::accepted(0, bytes.len(), 0)
         }
+    }
+}
+
+/// Bryant's reduction: nodes that mean the same have one label, children before their nodes; then what
+/// the root leads to is copied.
+fn reduced(diagram: &Diagram) -> Diagram {
+    let mut labels = vec![0, 1];
+    let mut of_node: HashMap<Node, u16> = HashMap::new();
+    for (node, reference) in diagram.nodes.iter().zip(2..) {
+        let (lo, hi) = (labels[usize::from(node.lo)], labels[usize::from(node.hi)]);
+        let label = match lo == hi {
+            true => lo,
+            false => *of_node.entry(Node { step: node.step, lo, hi }).or_insert(reference),
+        };
+        labels.push(label);
+    }
+    let of_label = of_node.into_iter().map(|(node, label)| (label, node)).collect();
+    let mut walk = Walk { of_label, numbers: HashMap::new(), nodes: Vec::new() };
+    let root = walk.leave(labels[usize::from(diagram.root)]);
+    Diagram { root, nodes: walk.nodes }
+}
+
+/// The nodes that a walk has left, and the numbers of their labels.
+struct Walk {
+    of_label: HashMap<u16, Node>,
+    numbers: HashMap<u16, u16>,
+    nodes: Vec<Node>,
+}
+
+impl Walk {
+    /// The number of a label, once all below it have theirs.
+    fn leave(&mut self, label: u16) -> u16 {
+        let Some(Node { step, lo, hi }) = self.of_label.get(&label).copied() else { return label };
+        if let Some(known) = self.numbers.get(&label) {
+            return *known;
+        }
+        let (lo, hi) = (self.leave(lo), self.leave(hi));
+        self.nodes.push(Node { step, lo, hi });
+        let number = self.nodes.len() as u16 + 1;
+        self.numbers.insert(label, number);
+        number
     }
 }
 

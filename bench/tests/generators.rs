@@ -79,9 +79,9 @@ fn rules_mean_what_they_say() {
 #[test]
 fn eight_needs_take_all_nodes() {
     let needs = Needs((0..8).map(|at| (at, at + 100)).collect());
-    assert_eq!(diagram_of(&needs, false).map(|diagram| diagram.nodes.len()), Some(510));
+    assert_eq!(diagram_of(&needs, Padding::Without).map(|diagram| diagram.nodes.len()), Some(510));
     let needs = Needs((0..9).map(|at| (at, at + 100)).collect());
-    assert_eq!(diagram_of(&needs, false), None);
+    assert_eq!(diagram_of(&needs, Padding::Without), None);
 }
 
 #[test]

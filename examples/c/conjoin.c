@@ -12,41 +12,20 @@
 
 #include <planner.h>
 
-#include <errno.h>
 #include <stdio.h>
 #include <stdlib.h>
-#include <string.h>
 
 const char *const program = "conjoin-c";
 
-static void show_refusal(file chart, file rules, file more, planner_answer answer)
+static void show_refusal_of_three(file chart, file rules, file more, planner_answer answer)
 {
-    print_refusal(answer.number, answer.file, answer.place);
-    switch (answer.file) {
-    case PLANNER_FILE_NONE:
-        break;
-    case PLANNER_FILE_MORE_RULES:
+    if (answer.file == PLANNER_FILE_MORE_RULES) {
+        print_refusal(answer.number, answer.file, answer.place);
         /* The call takes two files: the third stands for the second. */
         show_field(chart, more, PLANNER_FILE_RULES, answer.place);
-        break;
-    default:
-        show_field(chart, rules, answer.file, answer.place);
-        break;
+    } else {
+        show_refusal(chart, rules, answer.number, answer.file, answer.place);
     }
-}
-
-/* Whether all of the bytes stand in the file now. */
-static int write_file(const char *path, const uint8_t *bytes, size_t len)
-{
-    FILE *out = fopen(path, "wb");
-    int whole = out != NULL && fwrite(bytes, 1, len, out) == len;
-    if (out != NULL && fclose(out) != 0) {
-        whole = 0;
-    }
-    if (!whole) {
-        fprintf(stderr, "%s: %s: %s\n", program, path, strerror(errno));
-    }
-    return whole;
 }
 
 int main(int argc, char **argv)
@@ -67,7 +46,7 @@ int main(int argc, char **argv)
     planner_conjoin(chart.bytes, chart.len, rules.bytes, rules.len, more.bytes, more.len,
                     work, PLANNER_MOST_PAIRS, out, sizeof out, &answer);
     if (answer.number != PLANNER_ACCEPTED) {
-        show_refusal(chart, rules, more, answer);
+        show_refusal_of_three(chart, rules, more, answer);
         status = 1;
     } else {
         status = write_file(argv[4], out, answer.length) ? 0 : 2;

@@ -43,6 +43,19 @@ file read_file(const char *path)
     return f;
 }
 
+int write_file(const char *path, const uint8_t *bytes, size_t len)
+{
+    FILE *out = fopen(path, "wb");
+    int whole = out != NULL && fwrite(bytes, 1, len, out) == len;
+    if (out != NULL && fclose(out) != 0) {
+        whole = 0;
+    }
+    if (!whole) {
+        fprintf(stderr, "%s: %s: %s\n", program, path, strerror(errno));
+    }
+    return whole;
+}
+
 void print_refusal(size_t number, size_t mark, size_t place)
 {
     printf("refused %zu file %zu place %zu\n", number, mark, place);
@@ -63,6 +76,14 @@ void show_field(file chart, file rules, size_t mark, size_t place)
     }
     fputs(i < len ? " ..\n" : "\n", stderr);
     free(field);
+}
+
+void show_refusal(file chart, file rules, size_t number, size_t mark, size_t place)
+{
+    print_refusal(number, mark, place);
+    if (mark != PLANNER_FILE_NONE) {
+        show_field(chart, rules, mark, place);
+    }
 }
 
 int finish(int status)

@@ -17,14 +17,6 @@
 
 const char *const program = "plan-c";
 
-static void show_refusal(file chart, file rules, size_t number, size_t mark, size_t place)
-{
-    print_refusal(number, mark, place);
-    if (mark != PLANNER_FILE_NONE) {
-        show_field(chart, rules, mark, place);
-    }
-}
-
 /* Both searches in space that the files were asked for. */
 static void run(file chart, file rules, planner_space space)
 {

@@ -216,6 +216,23 @@ pub fn conjoin(
     }
 }
 
+/// The reduction of the diagram `rules`, padded or not, written to the front of `file` as a diagram
+/// file; [`MOST_FILE`](crate::MOST_FILE) bytes are enough. Returns the number, never 8, 12 or 13.
+pub fn reduce(chart: &[u8], rules: &[u8], file: &mut [u8], answer: &mut Answer) -> u32 {
+    // SAFETY: as for the sweep.
+    unsafe {
+        raw::planner_reduce(
+            chart.as_ptr(),
+            chart.len(),
+            rules.as_ptr(),
+            rules.len(),
+            file.as_mut_ptr(),
+            file.len(),
+            answer,
+        )
+    }
+}
+
 /// Copies the bytes of the field at a place of a file (1 the chart, 2 the diagram) to the front of
 /// `field` as far as they fit, and returns the field's whole length. A place at or past the end, or
 /// another file mark, is an empty field: for one of file 3 hand that file in as `rules`, with mark 2.

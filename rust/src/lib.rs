@@ -67,15 +67,42 @@
 //! # Ok::<(), planner::Refusal>(())
 //! ```
 //!
+//! A padded diagram, one with a node whose lo is its hi or with two nodes alike, is refused;
+//! [`reduce`] makes of it one that is taken and says the same:
+//!
+//! ```
+//! # let chart = [
+//! #     0x01, 6, 0, 2, 0, 0, 0, 1, 0, //
+//! #     0x02, 8, 0, 0, 0, 1, 0, 50, 0, 0, 0, //
+//! #     0x02, 8, 0, 0, 0, 1, 0, 100, 0, 0, 0, //
+//! #     0x02, 8, 0, 0, 0, 1, 0, 150, 0, 0, 0,
+//! # ];
+//! // The same chart. Node 2 is always yes; node 3: step 0 is not taken.
+//! let padded = [
+//!     0x11, 2, 0, 3, 0, //
+//!     0x12, 6, 0, 2, 0, 1, 0, 1, 0, //
+//!     0x12, 6, 0, 0, 0, 2, 0, 0, 0,
+//! ];
+//! let refusal = planner::plan(&chart, &padded).unwrap_err();
+//! assert_eq!(refusal, planner::Refusal::Padded { file: planner::File::Rules, place: 5 });
+//!
+//! let reduced = planner::reduce(&chart, &padded)?;
+//! assert_eq!(reduced, [0x11, 2, 0, 2, 0, 0x12, 6, 0, 0, 0, 1, 0, 0, 0]);
+//! assert_eq!(planner::plan(&chart, &reduced)?.steps, [1]);
+//! # Ok::<(), planner::Refusal>(())
+//! ```
+//!
 //! The module [`lent`] has the calls as they are, on slices that the caller lends.
 
 mod conjoin;
 pub mod lent;
 mod raw;
+mod reduce;
 mod refusal;
 mod work;
 
 pub use conjoin::{conjoin, ConjoinWork};
+pub use reduce::reduce;
 pub use refusal::{refused_field, File, Refusal};
 pub use work::{plan, space_needed, Plan, Work};
 
@@ -90,5 +117,5 @@ pub const TICK: u32 = 50;
 /// Work entries that are enough for the conjunction of any two diagrams: 512 × 512 pairs of nodes.
 pub const MOST_PAIRS: usize = 262_144;
 
-/// Bytes that are enough for the file of any conjunction: those of 510 inner nodes.
+/// Bytes that are enough for the file of any conjunction or reduction: those of 510 inner nodes.
 pub const MOST_FILE: usize = 4_595;

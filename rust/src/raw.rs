@@ -94,6 +94,16 @@ extern "C" {
         answer: *mut Answer,
     ) -> u32;
 
+    pub fn planner_reduce(
+        chart: *const u8,
+        chart_len: usize,
+        rules: *const u8,
+        rules_len: usize,
+        file: *mut u8,
+        file_len: usize,
+        answer: *mut Answer,
+    ) -> u32;
+
     pub fn planner_refused_field(
         chart: *const u8,
         chart_len: usize,

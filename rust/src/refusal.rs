@@ -57,6 +57,9 @@ pub enum Refusal {
     Cost { file: File, place: usize },
     /// 12: the reduced diagram has more than 510 inner nodes.
     Large,
+    /// 13: an inner node has lo equal to hi, or step, lo and hi of an earlier one.
+    /// [`reduce`](crate::reduce) makes of such a file one that is taken.
+    Padded { file: File, place: usize },
     /// A number that this crate has no name for, or one of a file with a mark that it has no name
     /// for: the linked library is newer. The three entries are the answer's own.
     Other { number: usize, file: usize, place: usize },
@@ -80,6 +83,7 @@ impl Refusal {
             (10, Some(file)) => Refusal::Stages { file, place },
             (11, Some(file)) => Refusal::Cost { file, place },
             (12, _) => Refusal::Large,
+            (13, Some(file)) => Refusal::Padded { file, place },
             _ => Refusal::Other { number, file: mark, place },
         })
     }
@@ -105,6 +109,7 @@ impl Refusal {
             Refusal::Stages { .. } => 10,
             Refusal::Cost { .. } => 11,
             Refusal::Large => 12,
+            Refusal::Padded { .. } => 13,
             Refusal::Other { number, .. } => number,
         }
     }
@@ -120,7 +125,8 @@ impl Refusal {
             | Refusal::Node { file, place }
             | Refusal::Long { file, place }
             | Refusal::Stages { file, place }
-            | Refusal::Cost { file, place } => Some((file, place)),
+            | Refusal::Cost { file, place }
+            | Refusal::Padded { file, place } => Some((file, place)),
             Refusal::Other { file, place, .. } => File::of(file).map(|file| (file, place)),
             Refusal::Space | Refusal::NoPlan { .. } | Refusal::Large => None,
         }

@@ -1,9 +1,9 @@
-//! The wrapper's calls on the shipped example: plans, conjunctions, refusals, lent slices, kept work
-//! space.
+//! The wrapper's calls on the shipped example: plans, conjunctions, reductions, refusals, lent slices,
+//! kept work space.
 
 use planner::lent::{self, Answer, ConjoinSlices, GuidedSlices, Space, SweepSlices, UNREACHED};
-use planner::{conjoin, plan, refused_field, space_needed, ConjoinWork, File, Refusal, Work};
-use planner::{LONGEST_FILE, MOST_FILE, MOST_PAIRS, TICK};
+use planner::{conjoin, plan, reduce, refused_field, space_needed};
+use planner::{ConjoinWork, File, Refusal, Work, LONGEST_FILE, MOST_FILE, MOST_PAIRS, TICK};
 
 /// A chart file: stage count, start, end, then from, to and value of each step.
 fn chart_file(head: [u16; 3], steps: &[(u16, u16, u32)]) -> Vec<u8> {
@@ -71,6 +71,14 @@ fn the_header_has_the_same_numbers() {
     assert_eq!(number("PLANNER_LONGEST_FILE "), Some(LONGEST_FILE));
     assert_eq!(number("PLANNER_MOST_PAIRS "), Some(MOST_PAIRS));
     assert_eq!(number("PLANNER_MOST_FILE "), Some(MOST_FILE));
+    let (first, later) = (
+        ["CUT", "TAG", "LENGTH", "HEAD", "STEP", "NODE", "SPACE"],
+        ["NO_PLAN", "LONG", "STAGES", "COST", "LARGE", "PADDED"],
+    );
+    let header = header.replace(',', " ");
+    for (number, cause) in (1..).zip(first.into_iter().chain(later)) {
+        assert!(header.contains(&format!(" PLANNER_{cause} = {number} ")), "{cause}");
+    }
 }
 
 /// Charts that get 4, 5, 10 and 11.
@@ -88,10 +96,11 @@ fn every_refusal() {
     let (chart, rules) = example();
     let [bad_head, falling, no_stage, dear] = spoiled_charts();
     let bad_node = rules_file(2, &[[6, 0, 1]]);
+    let padded = rules_file(4, &[[2, 0, 1], [1, 2, 2], [0, 1, 3]]);
     type Case<'a> = (&'a [u8], &'a [u8], Refusal, &'a [u8]);
     let no = rules_file(0, &[]);
     let long = noted(&rules, LONGEST_FILE + 1);
-    let cases: [Case; 11] = [
+    let cases: [Case; 12] = [
         (&chart[..19], &rules, Refusal::Cut { file: File::Chart, place: 9 }, &chart[9..19]),
         (&[], &rules, Refusal::Tag { file: File::Chart, place: 0 }, &[]),
         (&chart, &rules[5..], Refusal::Tag { file: File::Rules, place: 0 }, &rules[5..14]),
@@ -103,16 +112,18 @@ fn every_refusal() {
         (&chart, &long, Refusal::Long { file: File::Rules, place: LONGEST_FILE }, b"."),
         (&no_stage, &rules, Refusal::Stages { file: File::Chart, place: 9 }, &no_stage[9..]),
         (&dear, &rules, Refusal::Cost { file: File::Chart, place: 9 }, &dear[9..]),
+        (&chart, &padded, Refusal::Padded { file: File::Rules, place: 14 }, &padded[14..23]),
     ];
     for (chart, rules, refusal, field) in cases {
         assert_eq!(plan(chart, rules), Err(refusal));
         assert_eq!(refusal.field(chart, rules), field);
     }
     let numbers = cases.map(|case| case.2.number());
-    assert_eq!(numbers, [1, 2, 2, 3, 4, 5, 6, 8, 9, 10, 11]);
+    assert_eq!(numbers, [1, 2, 2, 3, 4, 5, 6, 8, 9, 10, 11, 13]);
     assert_eq!(cases[5].2.to_string(), "refused 5 file 1 place 20");
     assert_eq!(cases[7].2.to_string(), "refused 8 file 0 place 0");
     assert_eq!(cases[8].2.to_string(), "refused 9 file 2 place 32768");
+    assert_eq!(cases[11].2.to_string(), "refused 13 file 2 place 14");
 }
 
 /// A file with a remark at its end that makes it so many bytes long.
@@ -157,6 +168,7 @@ fn names(refusal: Refusal) -> (&'static str, &'static str) {
         Refusal::Stages { .. } => "stages",
         Refusal::Cost { .. } => "cost",
         Refusal::Large => "large",
+        Refusal::Padded { .. } => "padded",
         Refusal::Other { .. } => "other",
         _ => "newer",
     };
@@ -174,7 +186,7 @@ fn names(refusal: Refusal) -> (&'static str, &'static str) {
 fn each_number_has_its_own_refusal() {
     let (first, later) =
         (["cut", "tag", "length", "head", "step", "node"], ["long", "stages", "cost"]);
-    for (number, name) in (1..).zip(first).chain((9..).zip(later)) {
+    for (number, name) in (1..).zip(first).chain((9..).zip(later)).chain([(13, "padded")]) {
         for (file, file_name) in [(1, "chart"), (2, "rules"), (3, "more rules")] {
             let refusal = refusal_of(number, file, 14).expect("a refusal");
             assert_eq!(refusal.number(), number);
@@ -191,7 +203,7 @@ fn each_number_has_its_own_refusal() {
         assert_eq!((refusal.number(), names(refusal)), (number, (name, "none")));
         assert_eq!(refusal.to_string(), format!("refused {number} file 0 place 0"));
     }
-    for number in 9..=11 {
+    for number in [9, 10, 11, 13] {
         assert_eq!(refusal_of(number, 0, 0).map(names), Some(("other", "none")));
     }
 }
@@ -199,7 +211,7 @@ fn each_number_has_its_own_refusal() {
 #[test]
 fn a_number_without_a_name_is_kept() {
     let (chart, rules) = example();
-    for number in [13, 14, 255, usize::MAX] {
+    for number in [14, 15, 255, usize::MAX] {
         let refusal = refusal_of(number, 2, 14).expect("a refusal");
         assert_eq!(refusal, Refusal::Other { number, file: 2, place: 14 });
         assert_eq!(refusal.number(), number);
@@ -212,7 +224,8 @@ fn a_number_without_a_name_is_kept() {
 #[test]
 fn a_file_without_a_name_is_kept() {
     let (chart, rules) = example();
-    for (number, file, place) in [(6, 4, 5), (4, 0, 0), (1, usize::MAX, 9), (13, 0, 0), (13, 4, 5)]
+    for (number, file, place) in
+        [(6, 4, 5), (4, 0, 0), (1, usize::MAX, 9), (13, 0, 0), (13, 4, 5), (14, 0, 0), (14, 4, 5)]
     {
         let refusal = refusal_of(number, file, place).expect("a refusal");
         assert_eq!(refusal, Refusal::Other { number, file, place });
@@ -240,7 +253,7 @@ fn the_refused_field_is_a_part_of_the_callers_file() {
 fn a_field_of_the_third_file_is_never_taken_from_another() {
     let (chart, rules) = example();
     let more = not_taken(&[1]);
-    for number in [1, 6, 13] {
+    for number in [1, 6, 13, 14] {
         let refusal = refusal_of(number, 3, 5).expect("a refusal");
         assert!(std::ptr::eq(refusal.field_of_three(&chart, &rules, &more), &more[5..]));
         assert!(std::ptr::eq(refusal.field(&chart, &rules), &chart[..0]));
@@ -283,9 +296,9 @@ fn work_that_is_kept() {
     assert_eq!((work.sweep(&chart, &rules), work.guided(&chart, &rules)), (sweep, guided));
 }
 
-/// Slices of these lengths, lent to both searches; the numbers of both answers.
-fn numbers(work: usize, plan: usize) -> (usize, usize) {
-    let (chart, rules) = example();
+/// Slices of these lengths, lent to both searches on the example's chart; the numbers of both answers.
+fn numbers(rules: &[u8], work: usize, plan: usize) -> (usize, usize) {
+    let (chart, _) = example();
     let mut slices = vec![vec![7_u32; work]; 9];
     let mut plans = [vec![7_u16; plan], vec![7_u16; plan]];
     let [cost, cost_via, nodes, keys, via, heap, pos, stack, log] = &mut slices[..] else {
@@ -295,18 +308,19 @@ fn numbers(work: usize, plan: usize) -> (usize, usize) {
     let sweep = SweepSlices { cost, via: cost_via, nodes, plan: cost_plan };
     let guided = GuidedSlices { keys, via, heap, pos, stack, log, plan };
     let (mut swept, mut found) = (Answer::default(), Answer::default());
-    let number = lent::both(&chart, &rules, sweep, guided, (&mut swept, &mut found));
+    let number = lent::both(&chart, rules, sweep, guided, (&mut swept, &mut found));
     assert_eq!(number as usize, found.number);
     let untouched = slices.iter().flatten().all(|entry| *entry == 7)
         && plans.iter().flatten().all(|entry| *entry == 7);
-    assert_eq!(untouched, number == 7);
+    assert_eq!(untouched, number != 0);
     (swept.number, found.number)
 }
 
 #[test]
 fn slices_of_any_length_may_be_lent() {
+    let (_, rules) = example();
     for (work, plan, number) in [(0, 0, 7), (19, 4, 7), (20, 3, 7), (20, 4, 0), (25, 9, 0)] {
-        assert_eq!(numbers(work, plan), (number, number));
+        assert_eq!(numbers(&rules, work, plan), (number, number));
     }
 }
 
@@ -348,48 +362,93 @@ fn conjunctions_that_are_constant_or_the_same() {
         assert_eq!(conjoin(&chart, rules, more).as_ref(), Ok(both));
         assert_eq!(conjoin(&chart, more, rules).as_ref(), Ok(both));
     }
-    let padded = rules_file(6, &[[2, 0, 1], [2, 0, 1], [5, 0, 0], [1, 3, 3], [0, 1, 5]]);
-    assert_eq!(conjoin(&chart, &padded, &padded), Ok(rules));
+}
+
+/// Spoiled charts, and the number and the place that each gets.
+fn refused_charts() -> Vec<(Vec<u8>, usize, usize)> {
+    let (chart, _) = example();
+    let [bad_head, falling, no_stage, dear] = spoiled_charts();
+    vec![
+        (chart[..19].to_vec(), 1, 9),
+        (vec![], 2, 0),
+        (vec![0x01, 7, 0], 3, 0),
+        (bad_head, 4, 0),
+        (falling, 5, 20),
+        (noted(&chart, LONGEST_FILE + 1), 9, LONGEST_FILE),
+        (no_stage, 10, 9),
+        (dear, 11, 9),
+    ]
+}
+
+/// Diagrams that no call takes on the example's chart, the number and the place that each gets, and the
+/// bytes of its field.
+fn refused_diagrams() -> Vec<(Vec<u8>, usize, usize, Vec<u8>)> {
+    let (_, rules) = example();
+    let (bad_node, bad_root) =
+        (rules_file(2, &[[6, 0, 1]]), rules_file(4, &[[2, 0, 1], [0, 1, 2]]));
+    // Nodes that would be padded if they kept the limits.
+    let (no_step, not_later) =
+        (rules_file(2, &[[6, 1, 1]]), rules_file(3, &[[2, 0, 1], [2, 2, 2]]));
+    vec![
+        (rules[..13].to_vec(), 1, 5, rules[5..13].to_vec()),
+        (vec![], 2, 0, vec![]),
+        (rules[5..].to_vec(), 2, 0, rules[5..14].to_vec()),
+        (vec![0x11, 3, 0], 3, 0, vec![0x11, 3, 0]),
+        (bad_node.clone(), 6, 5, bad_node[5..].to_vec()),
+        (bad_root.clone(), 6, 0, bad_root[..5].to_vec()),
+        (no_step.clone(), 6, 5, no_step[5..].to_vec()),
+        (not_later.clone(), 6, 14, not_later[14..].to_vec()),
+        (noted(&rules, LONGEST_FILE + 1), 9, LONGEST_FILE, b".".to_vec()),
+    ]
+}
+
+/// Padded diagrams on the example's chart, the place of the node that gets 13, and their reductions.
+fn padded_diagrams() -> Vec<(Vec<u8>, usize, Vec<u8>)> {
+    let (_, rules) = example();
+    let (no, yes) = (rules_file(0, &[]), rules_file(1, &[]));
+    let double = rules_file(4, &[[2, 0, 1], [2, 0, 1], [0, 1, 3]]);
+    let with_remark = [&double[..14], &[0x80, 2, 0, 1, 2], &double[14..]].concat();
+    let not_5 = rules_file(2, &[[5, 1, 0]]);
+    let deep = rules_file(6, &[[5, 1, 1], [5, 1, 0], [4, 3, 2], [4, 3, 1], [1, 4, 5]]);
+    let hi_first = rules_file(6, &[[2, 0, 1], [2, 0, 1], [1, 3, 0], [1, 1, 0], [0, 5, 4]]);
+    vec![
+        // lo equal to hi: 0, 1, an inner node.
+        (rules_file(2, &[[5, 0, 0]]), 5, no.clone()),
+        (rules_file(2, &[[5, 1, 1]]), 5, yes.clone()),
+        (rules_file(4, &[[2, 0, 1], [1, 2, 2], [0, 1, 3]]), 14, rules.clone()),
+        // Doubles of the node before and of an earlier one, a remark between them.
+        (double, 14, rules.clone()),
+        (with_remark, 19, rules.clone()),
+        (rules_file(5, &[[2, 0, 1], [5, 1, 0], [2, 0, 1], [0, 1, 4]]), 23, rules.clone()),
+        // Those that the root does not lead to, and one that it leads to.
+        (rules_file(1, &[[3, 0, 0]]), 5, yes.clone()),
+        (rules_file(2, &[[5, 1, 0], [4, 2, 2]]), 14, not_5.clone()),
+        (rules_file(0, &[[2, 0, 1], [2, 0, 1]]), 14, no),
+        // Without the padding below them, more nodes are alike or have lo equal to hi.
+        (deep, 5, rules_file(3, &[[5, 1, 0], [4, 2, 1]])),
+        (rules_file(6, &[[5, 1, 0], [5, 1, 0], [4, 2, 3], [3, 3, 4], [0, 2, 5]]), 14, not_5),
+        // In another order than a walk leaves them: those of lo come first.
+        (hi_first, 14, rules_file(5, &[[1, 1, 0], [2, 0, 1], [1, 3, 0], [0, 2, 4]])),
+    ]
 }
 
 #[test]
 fn every_refusal_of_a_conjunction() {
     let (chart, rules) = example();
-    let [bad_head, falling, no_stage, dear] = spoiled_charts();
-    let long = noted(&chart, LONGEST_FILE + 1);
     // A spoiled chart is told before a spoiled diagram.
-    let charts: [(&[u8], usize, usize); 8] = [
-        (&chart[..19], 1, 9),
-        (&[], 2, 0),
-        (&[0x01, 7, 0], 3, 0),
-        (&bad_head, 4, 0),
-        (&falling, 5, 20),
-        (&long, 9, LONGEST_FILE),
-        (&no_stage, 10, 9),
-        (&dear, 11, 9),
-    ];
-    for (chart, number, place) in charts {
-        let refusal = conjoin(chart, &[], &[]).unwrap_err();
+    for (chart, number, place) in refused_charts() {
+        let refusal = conjoin(&chart, &[], &[]).unwrap_err();
         assert_eq!(Some(refusal), refusal_of(number, 1, place));
-        assert_eq!(refusal.field_of_three(chart, &[], &[]), refusal.field(chart, &rules));
+        assert_eq!(refusal.field_of_three(&chart, &[], &[]), refusal.field(&chart, &rules));
     }
-    let (bad_node, bad_root) =
-        (rules_file(2, &[[6, 0, 1]]), rules_file(4, &[[2, 0, 1], [0, 1, 2]]));
-    let long = noted(&rules, LONGEST_FILE + 1);
-    // A spoiled diagram, what it gets, and the field's bytes.
-    let diagrams: [(&[u8], usize, usize, &[u8]); 7] = [
-        (&rules[..13], 1, 5, &rules[5..13]),
-        (&[], 2, 0, &[]),
-        (&rules[5..], 2, 0, &rules[5..14]),
-        (&[0x11, 3, 0], 3, 0, &[0x11, 3, 0]),
-        (&bad_node, 6, 5, &bad_node[5..]),
-        (&bad_root, 6, 0, &bad_root[..5]),
-        (&long, 9, LONGEST_FILE, b"."),
-    ];
-    for (spoiled, number, place, field) in diagrams {
+    let padded = padded_diagrams().into_iter().map(|(file, place, _)| {
+        let field = file[place..place + 9].to_vec();
+        (file, 13, place, field)
+    });
+    for (spoiled, number, place, field) in refused_diagrams().into_iter().chain(padded) {
         // The second file is told before the third.
         for (file, rules, more) in
-            [(2, spoiled, &rules[..]), (2, spoiled, &[]), (3, &rules, spoiled)]
+            [(2, &spoiled[..], &rules[..]), (2, &spoiled, &[]), (3, &rules, &spoiled)]
         {
             let refusal = conjoin(&chart, rules, more).unwrap_err();
             assert_eq!(Some(refusal), refusal_of(number, file, place));
@@ -446,6 +505,13 @@ fn slices_lent_to_a_conjunction() {
     let cut = Answer { number: 1, file: 3, place: 5, ..Answer::default() };
     let found = lent_conjoin([&chart, &rules, &more[..9]], pairs, bytes);
     assert_eq!(found, (cut, vec![7; pairs], vec![0xee; bytes]));
+    for (padded, place, _) in padded_diagrams() {
+        for (file, rules, more) in [(2, &padded, &more), (3, &rules, &padded)] {
+            let answer = Answer { number: 13, file, place, ..Answer::default() };
+            let found = lent_conjoin([&chart, rules, more], MOST_PAIRS, MOST_FILE);
+            assert_eq!(found, (answer, vec![7; MOST_PAIRS], vec![0xee; MOST_FILE]));
+        }
+    }
 }
 
 /// A chart with as many steps, and the rules that none of the first 300 and none of the others is
@@ -491,6 +557,201 @@ fn work_of_conjunctions_that_is_kept() {
     let both = conjoin(&chart, &rules, &more).expect("sound files");
     assert_eq!(work.conjoin(&chart, &rules, &more), Ok(&both[..]));
     assert_eq!(work.conjoin(&chart, &more, &rules), Ok(&both[..]));
+}
+
+#[test]
+fn padded_files_are_taken_by_the_reduction_alone() {
+    let (chart, _) = example();
+    let mut work = Work::with_entries(MOST_PAIRS, 255);
+    for (padded, place, reduced) in padded_diagrams() {
+        let refusal = Refusal::Padded { file: File::Rules, place };
+        assert_eq!(refusal.field(&chart, &padded), &padded[place..place + 9]);
+        assert_eq!(plan(&chart, &padded), Err(refusal));
+        assert_eq!(space_needed(&chart, &padded), Err(refusal));
+        let answer = Answer { number: 13, file: 2, place, ..Answer::default() };
+        assert_eq!(work.sweep(&chart, &padded), answer);
+        assert_eq!(work.guided(&chart, &padded), answer);
+        assert_eq!(work.both(&chart, &padded), (answer, answer));
+        // Before the space is looked at; no slice is touched.
+        for (work, plan) in [(0, 0), (100, 4)] {
+            assert_eq!(numbers(&padded, work, plan), (13, 13));
+        }
+        assert_eq!(reduce(&chart, &padded).as_ref(), Ok(&reduced));
+        assert_eq!(reduce(&chart, &reduced).as_ref(), Ok(&reduced));
+        assert_eq!(conjoin(&chart, &reduced, &reduced), Ok(reduced));
+    }
+}
+
+#[test]
+fn padded_nodes_beside_other_faults() {
+    let (chart, rules) = example();
+    let padded = rules_file(9, &[[5, 1, 1], [4, 0, 0]]);
+    // After the chart, before a later node and before the root; the reduction goes on.
+    let refusal = Refusal::Padded { file: File::Rules, place: 5 };
+    for (rules, last) in [(&padded[..], (6, 0)), (&padded[..20], (1, 14)), (&padded[..15], (1, 14))]
+    {
+        assert_eq!(plan(&chart, rules), Err(refusal));
+        assert_eq!(plan(&chart[..19], rules), Err(Refusal::Cut { file: File::Chart, place: 9 }));
+        assert_eq!(reduce(&chart, rules).err(), refusal_of(last.0, 2, last.1));
+    }
+    assert_eq!(
+        plan(&chart, &noted(&padded, LONGEST_FILE + 1)).err(),
+        refusal_of(9, 2, LONGEST_FILE)
+    );
+    // In one field 6 comes first.
+    for (rules, number, place, field) in refused_diagrams() {
+        let refusal = plan(&chart, &rules).unwrap_err();
+        assert_eq!(Some(refusal), refusal_of(number, 2, place));
+        assert_eq!(refusal.field(&chart, &rules), field);
+    }
+    // Nodes that the root does not lead to, and such as differ in step, lo or hi alone, are taken.
+    let beside = [[2, 0, 1], [0, 1, 2], [5, 1, 0], [4, 1, 0], [4, 1, 4], [4, 0, 4], [3, 0, 1]];
+    let found = plan(&chart, &rules_file(3, &beside)).expect("no padded node");
+    assert_eq!((found.cost, found.steps), (200, vec![1, 3, 5]));
+    assert_eq!(reduce(&chart, &rules_file(3, &beside)), Ok(rules));
+}
+
+/// Whether a diagram file without remarks says yes to a set of steps, a bit for each.
+fn says_yes(rules: &[u8], set: u32) -> bool {
+    let number = |at: usize| u16::from_le_bytes([rules[at], rules[at + 1]]);
+    let mut node = number(3);
+    while node > 1 {
+        let body = 5 + 9 * (usize::from(node) - 2) + 3;
+        let is_taken = set >> number(body) & 1 == 1;
+        node = number(body + if is_taken { 4 } else { 2 });
+    }
+    node == 1
+}
+
+#[test]
+fn reductions_tell_meanings_apart() {
+    let (chart, rules) = example();
+    let mut files = vec![
+        rules_file(0, &[]),
+        rules_file(1, &[]),
+        rules,
+        not_taken(&[1]),
+        not_taken(&[0, 1, 5]),
+        // The same conjunction twice: lo's side first, as a walk leaves it, and hi's side first.
+        rules_file(5, &[[1, 1, 0], [2, 0, 1], [1, 3, 0], [0, 2, 4]]),
+        rules_file(5, &[[2, 0, 1], [1, 2, 0], [1, 1, 0], [0, 4, 3]]),
+        // The third step decides: it is the same step in both branches, or it is not.
+        rules_file(4, &[[3, 0, 1], [3, 0, 1], [0, 2, 3]]),
+        rules_file(4, &[[3, 0, 1], [4, 0, 1], [0, 2, 3]]),
+    ];
+    files.extend(padded_diagrams().into_iter().map(|(padded, _, _)| padded));
+    // The one with a remark.
+    files.retain(|file| file.len() % 9 == 5);
+    let sets = 1 << STEPS.len();
+    let means = |file: &[u8]| (0..sets).map(|set| says_yes(file, set)).collect::<Vec<_>>();
+    for file in &files {
+        let reduced = reduce(&chart, file).expect("within the limits");
+        assert!(reduced.len() <= file.len());
+        assert_eq!(means(&reduced), means(file));
+        assert_eq!(reduce(&chart, &reduced).as_ref(), Ok(&reduced));
+        for other in &files {
+            let is_same = reduce(&chart, other).as_ref() == Ok(&reduced);
+            assert_eq!(is_same, means(other) == means(file));
+        }
+    }
+}
+
+#[test]
+fn a_plan_under_a_reduction() {
+    let (chart, rules) = example();
+    let padded = rules_file(6, &[[2, 0, 1], [2, 0, 1], [5, 0, 0], [1, 2, 3], [0, 1, 5]]);
+    assert_eq!(plan(&chart, &padded).err(), refusal_of(13, 2, 14));
+    let reduced = reduce(&chart, &noted(&padded, LONGEST_FILE)).expect("within the limits");
+    assert_eq!(plan(&chart, &reduced), plan(&chart, &rules));
+    assert_eq!(plan(&noted(&chart, 100), &reduced).map(|plan| plan.cost), Ok(200));
+    // Conjoined with the rule that step 1 is not taken.
+    let both = conjoin(&chart, &reduced, &not_taken(&[1])).expect("sound files");
+    assert_eq!(
+        plan(&chart, &both).map(|plan| (plan.cost, plan.steps)),
+        Ok((350, vec![0, 2, 4, 5]))
+    );
+    // The chart's start and end play no part.
+    let backwards = chart_file([5, 4, 0], &STEPS);
+    assert_eq!(reduce(&backwards, &padded), Ok(reduced));
+}
+
+#[test]
+fn every_refusal_of_a_reduction() {
+    let (chart, rules) = example();
+    // A spoiled chart is told before a spoiled diagram.
+    for (chart, number, place) in refused_charts() {
+        for rules in [&rules[..], &[]] {
+            let refusal = reduce(&chart, rules).unwrap_err();
+            assert_eq!(Some(refusal), refusal_of(number, 1, place));
+        }
+    }
+    for (rules, number, place, field) in refused_diagrams() {
+        let refusal = reduce(&chart, &rules).unwrap_err();
+        assert_eq!(Some(refusal), refusal_of(number, 2, place));
+        assert_eq!(refusal.field(&chart, &rules), field);
+        assert_eq!(refusal.to_string(), format!("refused {number} file 2 place {place}"));
+    }
+}
+
+/// A reduction in a buffer of so many bytes: its answer and the buffer afterwards, whose bytes are
+/// `0xee` before.
+fn lent_reduce(chart: &[u8], rules: &[u8], bytes: usize) -> (Answer, Vec<u8>) {
+    let mut file = vec![0xee; bytes];
+    let mut answer = Answer { number: 5, file: 5, place: 5, cost: 5, length: 5, count: 5 };
+    let number = lent::reduce(chart, rules, &mut file, &mut answer);
+    assert_eq!(number as usize, answer.number);
+    (answer, file)
+}
+
+#[test]
+fn buffers_lent_to_a_reduction() {
+    let (chart, _) = example();
+    for (padded, _, reduced) in padded_diagrams() {
+        let bytes = reduced.len();
+        for spare in [0, 1, 9, 100] {
+            let (answer, file) = lent_reduce(&chart, &padded, bytes + spare);
+            assert_eq!(answer, Answer { length: bytes, ..Answer::default() });
+            assert_eq!((&file[..bytes], &file[bytes..]), (&reduced[..], &vec![0xee; spare][..]));
+        }
+        // The buffer is too short: it stays.
+        for bytes in [0, 4, bytes - 1] {
+            assert_eq!(lent_reduce(&chart, &padded, bytes), (refused(7), vec![0xee; bytes]));
+        }
+    }
+    // A file is refused, however long the buffer is: it stays.
+    for bytes in [0, MOST_FILE] {
+        for (rules, number, place, _) in refused_diagrams() {
+            let answer = Answer { number, file: 2, place, ..Answer::default() };
+            assert_eq!(lent_reduce(&chart, &rules, bytes), (answer, vec![0xee; bytes]));
+        }
+        for (chart, number, place) in refused_charts() {
+            let answer = Answer { number, file: 1, place, ..Answer::default() };
+            assert_eq!(lent_reduce(&chart, &[], bytes), (answer, vec![0xee; bytes]));
+        }
+    }
+}
+
+#[test]
+fn reductions_of_510_nodes() {
+    let all: Vec<u16> = (0..511).collect();
+    let chart = chart_file([2, 0, 1], &vec![(0, 1, 7); all.len()]);
+    let [last, rules] = [&all[510..], &all[..510]].map(not_taken);
+    assert_eq!((rules.len(), reduce(&chart, &rules)), (MOST_FILE, Ok(rules.clone())));
+    let short = MOST_FILE - 1;
+    assert_eq!(lent_reduce(&chart, &rules, short), (refused(7), vec![0xee; short]));
+    // Doubles of one node; nodes with lo equal to hi, each on the one before.
+    let doubles = rules_file(511, &[[510, 1, 0]; 510]);
+    let stack: Vec<_> = (1..510).map(|above| [510 - above, above + 1, above + 1]).collect();
+    let stack = rules_file(511, &[&[[510, 1, 0]], &stack[..]].concat());
+    for (padded, place) in [(doubles, 14), (stack, 14)] {
+        assert_eq!(padded.len(), MOST_FILE);
+        assert_eq!(plan(&chart, &padded).err(), refusal_of(13, 2, place));
+        assert_eq!(reduce(&chart, &padded).as_ref(), Ok(&last));
+    }
+    // A 511th node is 6, a double too.
+    let more = [&rules[..], &rules[5..14]].concat();
+    assert_eq!(plan(&chart, &more).err(), refusal_of(6, 2, MOST_FILE));
+    assert_eq!(reduce(&chart, &more).err(), refusal_of(6, 2, MOST_FILE));
 }
 
 #[test]

@@ -1,4 +1,4 @@
-//! A conjunction's answer, buffer and work slice.
+//! A conjunction's answer, buffer and work slice, and a reduction's answer and buffer.
 
 use std::collections::HashSet;
 
@@ -7,18 +7,19 @@ use crate::files::{read_diagram, Diagram, Node};
 use crate::generate::Random;
 use crate::planner::{Answer, ConjoinSlices};
 use crate::reference::conjunction::{both_say_yes, conjunction_answer, Conjoined, Conjunction};
+use crate::reference::reduction::reduction_answer;
 use crate::reference::rules::verdict;
 
-const ANSWER: &str = "16.3: the length is the file's bytes, cost and count are 0";
-const FILE: &str = "16.3: the buffer begins with the reduced diagram's file";
-const FILE_STAYS: &str = "16.3: the buffer stays behind the file, and whole under a refusal";
+const ANSWER: &str = "16.3, 17: the length is the file's bytes, cost and count are 0";
+const FILE: &str = "16.3, 17: the buffer begins with the reduced diagram's file";
+const FILE_STAYS: &str = "16.3, 17: the buffer stays behind the file, and whole under a refusal";
 const WORK_STAYS: &str = "16.3: the work slice stays behind its pairs of references, and whole \
                           under every refusal but 12 and the buffer's 7";
-const YES: &str = "16.1: the result says yes exactly where both diagrams do";
-const NO_DOUBLES: &str = "16.1: no two nodes are alike";
-const NO_EQUAL: &str = "16.1: no node has lo equal to hi";
-const ARRIVED: &str = "16.1: each node is arrived at from the root";
-const WALK: &str = "16.1: nodes stand as a walk, lo before hi and each once, leaves them";
+const YES: &str = "16.1, 17: the result says yes exactly where both diagrams do, or the one";
+const NO_DOUBLES: &str = "16.1, 17: no two nodes are alike";
+const NO_EQUAL: &str = "16.1, 17: no node has lo equal to hi";
+const ARRIVED: &str = "16.1, 17: each node is arrived at from the root";
+const WALK: &str = "16.1, 17: nodes stand as a walk, lo before hi and each once, leaves them";
 
 /// Sets of steps on which both verdicts are compared.
 const SETS: usize = 24;
@@ -31,20 +32,36 @@ pub fn conjunction(
     answer: Answer,
 ) -> Checked {
     let want = conjunction_answer(conjoined, before.work.len(), before.file.len());
-    let found = || format!("{answer:?} and not {want:?}");
-    demand(answer.number == want.number, number_rule(want.number), found)?;
-    demand((answer.file, answer.place) == (want.file, want.place), AT, found)?;
-    demand(answer == want, ANSWER, found)?;
-    let length = answer.length as usize;
-    if let (Ok(found), 0) = (conjoined, answer.number) {
-        written(found, &after.file[..length])?;
-    }
-    same_from(length, FILE_STAYS, "file", &before.file, &after.file)?;
+    call(conjoined, want, answer, &before.file, &after.file)?;
     let free = match conjoined {
         Ok(found) if before.work.len() >= found.operands.pairs() => found.operands.pairs(),
         _ => 0,
     };
     same_from(free, WORK_STAYS, "work", &before.work, &after.work)
+}
+
+/// Checks a reduction.
+pub fn reduction(reduced: &Conjoined, before: &[u8], after: &[u8], answer: Answer) -> Checked {
+    call(reduced, reduction_answer(reduced, before.len()), answer, before, after)
+}
+
+/// The answer of a call that is to answer `want`, and its buffer.
+fn call(
+    made: &Conjoined,
+    want: Answer,
+    answer: Answer,
+    before: &[u8],
+    after: &[u8],
+) -> Checked {
+    let found = || format!("{answer:?} and not {want:?}");
+    demand(answer.number == want.number, number_rule(want.number), found)?;
+    demand((answer.file, answer.place) == (want.file, want.place), AT, found)?;
+    demand(answer == want, ANSWER, found)?;
+    let length = answer.length as usize;
+    if let (Ok(found), 0) = (made, answer.number) {
+        written(found, &after[..length])?;
+    }
+    same_from(length, FILE_STAYS, "file", before, after)
 }
 
 /// The file by its properties, and then byte by byte.

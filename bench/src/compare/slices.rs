@@ -56,6 +56,19 @@ pub fn drawn_for_conjunction(
     lengths.into_iter().map(lent).collect()
 }
 
+/// The buffers of reductions: just what is needed, more, a byte less and far less; of refused files any
+/// one.
+pub fn drawn_for_reduction(reduced: &Conjoined, random: &mut Random) -> Vec<Lent<u8>> {
+    let lengths = match reduced {
+        Err(_) => vec![random.pick(&[0, 5, 14, 60, 4_595])],
+        Ok(found) => {
+            let whole = found.length();
+            vec![whole, whole + random.between(1, 40), whole - 1, random.below(whole)]
+        }
+    };
+    lengths.into_iter().map(|length| dirty_bytes(random, length)).collect()
+}
+
 /// Entries of the work slice and bytes of the buffer: just what is needed, and more. Where the result is
 /// too large any buffer will do.
 fn sufficient(found: &Conjunction, random: &mut Random) -> [(usize, usize); 2] {

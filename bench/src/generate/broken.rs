@@ -1,5 +1,6 @@
 //! Broken files: every cut, every limit, every order of faults, and random damage.
 
+use super::charts::parallel;
 use super::{costs, Random};
 use crate::files::{
     chart_head_field, diagram_head_field, node_field, step_field, write_chart, write_diagram,
@@ -181,7 +182,7 @@ pub fn at_limits() -> Vec<Files> {
 /// their file too long.
 fn long_fields() -> Vec<Files> {
     let chart = write_chart(&Chart { stages: 2, start: 0, end: 1, steps: Vec::new() });
-    let rules = write_diagram(&Diagram { root: 1, nodes: Vec::new() });
+    let rules = write_diagram(&Diagram::YES);
     let mut files = Vec::new();
     for body in [100, 32_000, 65_534, 65_535, 65_540] {
         for tag in [0x01, 0x02, 0x11, 0x12, 0x80] {
@@ -196,7 +197,7 @@ fn long_fields() -> Vec<Files> {
 }
 
 fn head_limits() -> Vec<Files> {
-    let yes = write_diagram(&Diagram { root: 1, nodes: Vec::new() });
+    let yes = write_diagram(&Diagram::YES);
     let mut files = Vec::new();
     for stages in [0, 1, 2, 255, 256, 257, 512, 65_535] {
         for start in [0, 1, 254, 255, 256, 257, 65_535] {
@@ -220,7 +221,7 @@ fn endings(good: &[u8], head_tag: u8) -> Fields {
 }
 
 fn step_limits() -> Vec<Files> {
-    let yes = write_diagram(&Diagram { root: 1, nodes: Vec::new() });
+    let yes = write_diagram(&Diagram::YES);
     let step = Step { from: 0, to: 1, cost: 5 };
     let mut files = Vec::new();
     for count in [MAX_STEPS - 1, MAX_STEPS, MAX_STEPS + 1] {
@@ -233,18 +234,22 @@ fn step_limits() -> Vec<Files> {
 }
 
 fn node_limits() -> Vec<Files> {
-    let step = Step { from: 0, to: 1, cost: 5 };
-    let chart = write_chart(&Chart { stages: 2, start: 0, end: 1, steps: vec![step; 3] });
-    let node = Node { step: 1, lo: 1, hi: 0 };
+    let chart = write_chart(&parallel(MAX_STEPS));
     let mut files = Vec::new();
     for count in [0, 1, MAX_NODES - 1, MAX_NODES, MAX_NODES + 1] {
         for root in [0, 1, count, count + 1, count + 2, count + 3, 65_535] {
-            let whole = write_diagram(&Diagram { root: root as u16, nodes: vec![node; count] });
-            let last = endings(&node_field(node), 0x11);
+            let nodes = single_tests(count);
+            let whole = write_diagram(&Diagram { root: root as u16, nodes });
+            let last = endings(&node_field(Node { step: 1_000, lo: 1, hi: 0 }), 0x11);
             files.extend(last.into_iter().map(|end| (chart.clone(), [&whole[..], &end].concat())));
         }
     }
     files
+}
+
+/// So many nodes that each test a step of their own and nothing else.
+pub(super) fn single_tests(count: usize) -> Vec<Node> {
+    (0..count).map(|step| Node { step: step as u16, lo: 1, hi: 0 }).collect()
 }
 
 /// A few random edits of a file.

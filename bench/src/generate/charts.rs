@@ -147,6 +147,13 @@ impl Shape {
     }
 }
 
+/// So many steps from one stage to another; without steps there is one stage.
+pub fn parallel(steps: usize) -> Chart {
+    let stages = if steps == 0 { 1 } else { 2 };
+    let step = Step { from: 0, to: 1, cost: 7 };
+    Chart { stages, start: 0, end: stages - 1, steps: vec![step; steps] }
+}
+
 /// A random chart of up to that many stages and steps.
 pub fn random_chart(random: &mut Random, stages: usize, steps: usize) -> Chart {
     Shape::random(random, stages, steps).chart(random)

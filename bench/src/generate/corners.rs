@@ -59,7 +59,7 @@ const YES: u16 = 1;
 
 /// Steps from each stage to the next, rounded all at the largest cost: the plan takes one of each stage.
 pub fn dearest_plan(random: &mut Random, size: Size) -> Problem {
-    Problem { chart: dear_chart(random, size), diagram: Diagram { root: YES, nodes: Vec::new() } }
+    Problem { chart: dear_chart(random, size), diagram: Diagram::YES }
 }
 
 /// The same under any diagram.
@@ -166,8 +166,9 @@ struct Fan {
 const FAN: Fan = Fan { direct: false, star: false, leaves_say: 0 };
 
 /// Parallel steps from the first stage to the second, each with a node of its own and a leaf below it,
-/// and ways on from there. The leaves' step is one of three at the end, and below their hi stands a node of
-/// another of the three: no way takes both, but the estimate doesn't know.
+/// and ways on from there. Each leaf has a step of its own at the end, and below their hi stands a node of
+/// the last step there: no way takes both, but the estimate doesn't know. The first step at the end is
+/// free, so that the leaves stand there too.
 fn fan(random: &mut Random, size: Size, fan: Fan) -> Problem {
     let Fan { direct, leaves_say, .. } = fan;
     let split = (size.nodes - 2 - usize::from(direct)) / 2;
@@ -175,7 +176,8 @@ fn fan(random: &mut Random, size: Size, fan: Fan) -> Problem {
     let steps = chart.steps.len() as u16;
     let mut nodes = vec![Node { step: steps - 1, lo: 0, hi: YES }];
     let leaves: Vec<u16> = (0..=split as u16).map(|leaf| leaf + 3).collect();
-    nodes.extend(leaves.iter().map(|_| Node { step: steps - 2, lo: leaves_say, hi: 2 }));
+    let own = |leaf: &u16| Node { step: steps + 1 - leaf, lo: leaves_say, hi: 2 };
+    nodes.extend(leaves.iter().map(own));
     let mut root = leaves[split];
     for at in (0..split).rev() {
         let step = at as u16 + u16::from(direct);
@@ -207,7 +209,7 @@ fn fan_chart(random: &mut Random, size: Size, parallel: usize, fan: Fan) -> Char
         let links = (1..last - 1).flat_map(|from| [from, from]);
         steps.extend(links.map(|from| to_next(from, cost(most))));
     }
-    steps.extend([0, 1, 2].map(|_| to_next(last - 1, cost(most))));
+    steps.extend((0..parallel + 2).map(|_| to_next(last - 1, cost(most))));
     Chart { stages: size.stages as u16, start: 0, end: last, steps }
 }
 
@@ -250,8 +252,8 @@ fn row_over(
     for step in steps.iter().rev() {
         let other = match random.below(4) {
             0 => 0,
-            1 => YES,
-            _ => random.between(0, nodes.len() + 1) as u16,
+            1 if next != YES => YES,
+            _ => random.below(next.into()) as u16,
         };
         let (lo, hi) = if by_lo(random) { (next, other) } else { (other, next) };
         nodes.push(Node { step: *step, lo, hi });

@@ -2,24 +2,46 @@
 
 use super::rules::{diagram_of, AllOf, AtMost, Both, ExactlyOne, Modulo, Needs, Rule};
 use super::Random;
-use crate::files::{Chart, Diagram, Node};
+use crate::files::{is_padding, Chart, Diagram, Node};
 
-/// A diagram of up to that many inner nodes: random nodes, random layers or a rule.
+/// Whether nodes may have equal children or be alike.
+#[derive(Clone, Copy, Debug, PartialEq, Eq)]
+pub enum Padding {
+    Without,
+    With,
+}
+
+/// Draws of a node after which it is left out.
+const DRAWS: usize = 40;
+
+impl Padding {
+    /// A node behind those that are there; none where all that are drawn are padding and may not be.
+    pub fn node(self, before: &[Node], mut draw: impl FnMut() -> Node) -> Option<Node> {
+        let may_be = |node: &Node| self == Padding::With || !is_padding(before, *node);
+        (0..DRAWS).map(|_| draw()).find(may_be)
+    }
+}
+
+/// A diagram of up to that many inner nodes without padding: random nodes, random layers or a rule.
 pub fn random_diagram(random: &mut Random, chart: &Chart, nodes: usize) -> Diagram {
+    drawn(random, chart, nodes, Padding::Without)
+}
+
+/// The same in which padding may come.
+pub fn drawn(random: &mut Random, chart: &Chart, nodes: usize, padding: Padding) -> Diagram {
     let steps = chart.steps.len();
     if steps == 0 || nodes == 0 {
         return constant(random);
     }
     match random.below(8) {
         0 => constant(random),
-        1 | 2 => scattered(random, steps, nodes),
-        3 => layered(random, steps, nodes),
+        1 | 2 => scattered(random, steps, nodes, padding),
+        3 => layered(random, steps, nodes, padding),
         _ => {
             let rule = random_rule(random, steps);
-            let padded = random.percent(30);
-            match diagram_of(rule.as_ref(), padded) {
+            match diagram_of(rule.as_ref(), padding) {
                 Some(diagram) if diagram.nodes.len() <= nodes => diagram,
-                _ => scattered(random, steps, nodes),
+                _ => scattered(random, steps, nodes, padding),
             }
         }
     }
@@ -30,9 +52,9 @@ fn constant(random: &mut Random) -> Diagram {
     Diagram { root: u16::from(random.percent(80)), nodes: Vec::new() }
 }
 
-/// Nodes with any steps and any children that the limits allow; alike ones and ones with equal
-/// children come by chance, and so do nodes that nothing leads to.
-pub fn scattered(random: &mut Random, steps: usize, nodes: usize) -> Diagram {
+/// Nodes with any steps and any children that the limits allow; those that nothing leads to come by
+/// chance, and so does padding where it may.
+pub fn scattered(random: &mut Random, steps: usize, nodes: usize, padding: Padding) -> Diagram {
     let count = random.between(1, nodes);
     let mut order: Vec<u16> = (0..count).map(|_| random.below(steps) as u16).collect();
     if random.percent(70) {
@@ -43,9 +65,8 @@ pub fn scattered(random: &mut Random, steps: usize, nodes: usize) -> Diagram {
     for step in order {
         let below: Vec<u16> =
             (0..all.len()).filter(|at| all[*at].step > step).map(|at| at as u16 + 2).collect();
-        let lo = child(random, &below, constants);
-        let hi = child(random, &below, constants);
-        all.push(Node { step, lo, hi });
+        let mut child = || child(random, &below, constants);
+        all.extend(padding.node(&all, || Node { step, lo: child(), hi: child() }));
     }
     let last = all.len() + 1;
     let root = if random.percent(80) { last } else { random.between(0, last) };
@@ -66,29 +87,49 @@ fn child(random: &mut Random, below: &[u16], constants: usize) -> u16 {
 }
 
 /// Layers of equal width over rising steps; every node's children lie in the layer after it.
-pub fn layered(random: &mut Random, steps: usize, nodes: usize) -> Diagram {
+fn layered(random: &mut Random, steps: usize, nodes: usize, padding: Padding) -> Diagram {
     let width = random.between(1, nodes.min(16));
     let layers = (nodes / width).min(steps);
     let chosen = random.subset(steps, layers);
-    layers_of_width(random, &chosen, width)
+    layers_of_width(random, &chosen, width, padding)
 }
 
-/// Layers of a given width, one for each of the rising steps.
-pub fn layers_of_width(random: &mut Random, steps: &[u16], width: usize) -> Diagram {
+/// Layers of a given width, one for each of the rising steps. Without padding the last ones are narrower,
+/// since they have few children to choose from, and constants are among these.
+pub fn layers_of_width(
+    random: &mut Random,
+    steps: &[u16],
+    width: usize,
+    padding: Padding,
+) -> Diagram {
     let mut all: Vec<Node> = Vec::new();
     let mut after = vec![0, 1, 1];
     for step in steps.iter().rev() {
         let first = all.len() + 2;
         for _ in 0..width {
-            let (lo, hi) = (random.pick(&after), random.pick(&after));
-            all.push(Node { step: *step, lo, hi });
+            let mut child = || random.pick(&after);
+            all.extend(padding.node(&all, || Node { step: *step, lo: child(), hi: child() }));
         }
         after = (first..all.len() + 2).map(|reference| reference as u16).collect();
-        if random.percent(30) {
+        if padding == Padding::Without && after.len() < width.max(2) {
+            after.extend([0, 1]);
+        } else if random.percent(30) {
             after.push(u16::from(random.percent(50)));
         }
     }
     Diagram { root: all.len() as u16 + 1, nodes: all }
+}
+
+/// How many layers of a width there is room for, without padding.
+pub fn layers_among(nodes: usize, width: usize) -> usize {
+    let (mut left, mut layer, mut layers) = (nodes, width.min(2), 0);
+    while layer <= left {
+        left -= layer;
+        layers += 1;
+        // Any two different ones of those after it and the constants.
+        layer = if layer < width { width.min((layer + 2) * (layer + 1)) } else { width };
+    }
+    layers
 }
 
 /// One of the rules with meaning, over random steps. There is at least one step.

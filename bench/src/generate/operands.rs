@@ -8,8 +8,8 @@ use super::Random;
 use crate::files::{Chart, Diagram, Node, Operands, Step, MAX_NODES, MAX_STEPS};
 use crate::reference::conjunction::Conjunction;
 
-const NO: Diagram = Diagram { root: 0, nodes: Vec::new() };
-const YES: Diagram = Diagram { root: 1, nodes: Vec::new() };
+const NO: Diagram = Diagram::NO;
+const YES: Diagram = Diagram::YES;
 
 /// Two diagrams over a chart of so many parallel steps; without steps it has one stage.
 fn over(steps: usize, first: Diagram, second: Diagram) -> Operands {
@@ -64,7 +64,7 @@ fn single_tests() -> Vec<Operands> {
 }
 
 fn rule(rule: &dyn Rule) -> Diagram {
-    diagram_of(rule, false).expect("at most 510 nodes")
+    diagram_of(rule, Padding::Without).expect("at most 510 nodes")
 }
 
 fn all_of(steps: impl Iterator<Item = usize>) -> Diagram {

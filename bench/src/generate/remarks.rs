@@ -1,12 +1,13 @@
 //! Remarks: between the fields of a sound file, and everywhere that they may or may not stand.
 
-use super::broken::{chart_fields, diagram_fields, Fields, Files};
+use super::broken::{chart_fields, diagram_fields, single_tests, Fields, Files};
+use super::charts::parallel;
 use super::long::near_longest;
 use super::mutate::fields;
 use super::Random;
 use crate::files::{
-    claiming, node_field, step_field, tagged, Chart, Diagram, Node, Problem, Step, FIRST_REMARK,
-    HEADER, LONGEST_FILE, MAX_NODES, MAX_STEPS,
+    claiming, node_field, step_field, tagged, Diagram, Node, Problem, Step, FIRST_REMARK, HEADER,
+    LONGEST_FILE, MAX_NODES, MAX_STEPS,
 };
 
 /// The tag below those of the remarks.
@@ -170,30 +171,25 @@ fn cut_remarks() -> Fields {
 /// As many steps and nodes as there may be, one less and one more, each behind a remark; and as many
 /// remarks as fit.
 pub fn at_limits() -> Vec<Files> {
-    let step = Step { from: 0, to: 1, cost: 5 };
-    let node = Node { step: 1, lo: 1, hi: 0 };
+    let full = parallel(MAX_STEPS);
     let mut files = Vec::new();
     for less in [1, 0] {
-        for more in endings(&step_field(step)) {
-            let chart = with_steps(vec![step; MAX_STEPS - less]);
-            files.push(([behind_remarks(&chart_fields(&chart)), more].concat(), yes()));
+        for more in endings(&step_field(full.steps[0])) {
+            let chart = chart_fields(&parallel(MAX_STEPS - less));
+            files.push(([behind_remarks(&chart), more].concat(), yes()));
         }
-        for more in endings(&node_field(node)) {
-            let diagram = Diagram { root: 1, nodes: vec![node; MAX_NODES - less] };
+        for more in endings(&node_field(Node { step: 1_000, lo: 1, hi: 0 })) {
+            let diagram = Diagram { root: 1, nodes: single_tests(MAX_NODES - less) };
             let rules = [behind_remarks(&diagram_fields(&diagram)), more].concat();
-            files.push((chart_fields(&with_steps(vec![step; 3])).concat(), rules));
+            files.push((chart_fields(&full).concat(), rules));
         }
     }
     files.extend(as_many_as_fit());
     files
 }
 
-fn with_steps(steps: Vec<Step>) -> Chart {
-    Chart { stages: 2, start: 0, end: 1, steps }
-}
-
 fn yes() -> Vec<u8> {
-    diagram_fields(&Diagram { root: 1, nodes: Vec::new() }).concat()
+    diagram_fields(&Diagram::YES).concat()
 }
 
 /// The fields with a remark before each but the head.
@@ -220,7 +216,7 @@ fn endings(field: &[u8]) -> Fields {
 /// Heads with remarks without a body up to the greatest length, and a byte, two bytes or one such
 /// remark more.
 fn as_many_as_fit() -> Vec<Files> {
-    let chart = chart_fields(&with_steps(Vec::new())).concat();
+    let chart = chart_fields(&parallel(0)).concat();
     let crowded = |head: &[u8]| {
         let count = (LONGEST_FILE - head.len()) / HEADER;
         [head, &tagged(0x80, &[]).repeat(count)].concat()

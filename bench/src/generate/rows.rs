@@ -43,7 +43,7 @@ pub fn systematic() -> Vec<Problem> {
 /// Without steps there are no nodes.
 fn single_stage() -> Problem {
     let chart = Chart { stages: 1, start: 0, end: 0, steps: Vec::new() };
-    Problem { chart, diagram: Diagram { root: 1, nodes: Vec::new() } }
+    Problem { chart, diagram: Diagram::YES }
 }
 
 /// By a stage amid them or by all of them; from the first stage, the second and the last; to the last
@@ -102,7 +102,7 @@ impl Route {
     /// stays at it, by the second it comes to the node below it, by others to low nodes.
     fn diagram(&self, references: u16) -> Diagram {
         if references == 2 {
-            return Diagram { root: 1, nodes: Vec::new() };
+            return Diagram::YES;
         }
         let first = self.fan as u16;
         let mut nodes = different_nodes(first + 2..first + FAN, usize::from(references) - 3);

@@ -2,6 +2,7 @@
 
 use std::collections::HashMap;
 
+use super::diagrams::Padding;
 use crate::files::{Diagram, Node, MAX_NODES};
 
 /// A property of sets of steps, judged step by step from state 0.
@@ -160,13 +161,13 @@ fn rising(mut steps: Vec<u16>) -> Vec<u16> {
     steps
 }
 
-/// The diagram of a rule, or none where it has more than 510 inner nodes. Padded ones have a node
+/// The diagram of a rule, or none where it has more than 510 inner nodes. With padding it has a node
 /// for each step and state, also where both children are the same or two nodes are alike.
-pub fn diagram_of(rule: &dyn Rule, padded: bool) -> Option<Diagram> {
+pub fn diagram_of(rule: &dyn Rule, padding: Padding) -> Option<Diagram> {
     let mut builder = Builder {
         rule,
         steps: rule.steps(),
-        padded,
+        padding,
         nodes: Vec::new(),
         by_state: HashMap::new(),
         by_content: HashMap::new(),
@@ -178,7 +179,7 @@ pub fn diagram_of(rule: &dyn Rule, padded: bool) -> Option<Diagram> {
 struct Builder<'a> {
     rule: &'a dyn Rule,
     steps: Vec<u16>,
-    padded: bool,
+    padding: Padding,
     nodes: Vec<Node>,
     by_state: HashMap<(usize, u64), u16>,
     by_content: HashMap<Node, u16>,
@@ -208,7 +209,7 @@ impl Builder<'_> {
     }
 
     fn node(&mut self, node: Node) -> Option<u16> {
-        if !self.padded {
+        if self.padding == Padding::Without {
             if node.lo == node.hi {
                 return Some(node.lo);
             }

@@ -103,7 +103,7 @@ pub fn broken(problem: &Problem) -> Vec<ThreeFiles> {
 
 /// Files at and beyond the limits, the diagram as the first and as the second.
 fn at_limits() -> Vec<ThreeFiles> {
-    let yes = write_diagram(&Diagram { root: 1, nodes: Vec::new() });
+    let yes = write_diagram(&Diagram::YES);
     let mut pairs = broken::at_limits();
     pairs.extend(remarks::at_limits());
     let pairs = pairs.into_iter().enumerate().step_by(3);

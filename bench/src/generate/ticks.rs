@@ -3,7 +3,7 @@
 
 use super::corners::{most_reached, Size};
 use super::costs::SOUND;
-use super::diagrams::random_diagram;
+use super::diagrams::{random_diagram, Padding};
 use super::rules::{diagram_of, Rule};
 use super::Random;
 use crate::files::{Chart, Diagram, Node, Problem, Step, MAX_COST, MAX_STAGES, TICK};
@@ -39,13 +39,11 @@ fn drawn_costs(random: &mut Random, total: usize) -> Vec<u32> {
     (0..links).map(|_| cost().min(MAX_COST)).collect()
 }
 
-const YES: Diagram = Diagram { root: 1, nodes: Vec::new() };
-
 /// One step of each cost, under no rule and under one that wants it, so that either estimate shows it.
 fn single_steps() -> Vec<Problem> {
     let wants_it = Diagram { root: 2, nodes: vec![Node { step: 0, lo: 0, hi: 1 }] };
     let chart = |cost| Chart { stages: 2, start: 0, end: 1, steps: vec![step(0, 1, cost)] };
-    let problem = |cost| [&YES, &wants_it].map(|rules| (chart(cost), rules.clone()));
+    let problem = |cost| [&Diagram::YES, &wants_it].map(|rules| (chart(cost), rules.clone()));
     let all = SOUND.into_iter().flat_map(problem);
     all.map(|(chart, diagram)| Problem { chart, diagram }).collect()
 }
@@ -107,7 +105,10 @@ fn two_routes(costs: [&[u32]; 2], is_ruled: bool) -> Problem {
     links.sort_by_key(|(_, step)| step.from);
     let route_of: Vec<usize> = links.iter().map(|(route, _)| *route).collect();
     let steps = links.into_iter().map(|(_, step)| step).collect();
-    let diagram = if is_ruled { diagram_of(&OneRoute(route_of), false) } else { Some(YES) };
+    let diagram = match is_ruled {
+        true => diagram_of(&OneRoute(route_of), Padding::Without),
+        false => Some(Diagram::YES),
+    };
     Problem {
         chart: Chart { stages: end as u16 + 1, start: 0, end: end as u16, steps },
         diagram: diagram.expect("few nodes"),
@@ -156,7 +157,7 @@ impl Rule for OneRoute {
 fn chains() -> Vec<Problem> {
     let chain = |cost: &dyn Fn(usize) -> u32| Problem {
         chart: grid(usize::from(MAX_STAGES) - 2, 1, cost),
-        diagram: YES,
+        diagram: Diagram::YES,
     };
     let mut problems: Vec<Problem> = SOUND.iter().map(|cost| chain(&|_| *cost)).collect();
     problems.push(chain(&|at| SOUND[at % SOUND.len()]));
@@ -201,7 +202,7 @@ pub fn ties() -> Vec<Problem> {
     const FANS: [Size; 3] =
         [Size { stages: 8, nodes: 8 }, Size { stages: 40, nodes: 100 }, Size::FULL];
     let grids = GRIDS.iter().flat_map(|(layers, width)| {
-        SPANS.map(|span| Problem { chart: grid(*layers, *width, |at| span.of(at)), diagram: YES })
+        SPANS.map(|span| Problem { chart: grid(*layers, *width, |at| span.of(at)), diagram: Diagram::YES })
     });
     let fans = FANS.iter().flat_map(|size| {
         let Problem { chart, diagram } = most_reached(&mut Random::new(1), *size);

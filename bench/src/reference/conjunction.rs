@@ -101,8 +101,8 @@ impl Reduced {
 }
 
 /// The steps that either diagram names, rising.
-pub fn named_steps(operands: &Operands) -> Vec<u16> {
-    let nodes = operands.first.nodes.iter().chain(&operands.second.nodes);
+pub fn named_steps(first: &Diagram, second: &Diagram) -> Vec<u16> {
+    let nodes = first.nodes.iter().chain(&second.nodes);
     nodes.map(|node| node.step).collect::<BTreeSet<u16>>().into_iter().collect()
 }
 
@@ -113,22 +113,27 @@ pub fn both_say_yes(operands: &Operands, present: &[bool]) -> bool {
 
 /// The reduced diagram by the verdicts on every set of the named steps; none where these are too many.
 pub fn by_truth(operands: &Operands) -> Option<Reduced> {
-    let steps = named_steps(operands);
+    let steps = named_steps(&operands.first, &operands.second);
     if steps.len() > STEPS_BY_TRUTH {
         return None;
     }
-    let says_yes = |set: usize| {
-        let mut present = vec![false; operands.chart.steps.len()];
-        // The first step is the highest bit, so that its lo is the first half of the row.
-        for (at, step) in steps.iter().rev().enumerate() {
-            present[usize::from(*step)] = set >> at & 1 == 1;
-        }
-        both_say_yes(operands, &present)
-    };
-    let row: Vec<bool> = (0..1 << steps.len()).map(says_yes).collect();
+    let sets = sets_of(operands.chart.steps.len(), &steps);
+    let row: Vec<bool> = sets.map(|set| both_say_yes(operands, &set)).collect();
     let mut tree = Tree { steps: &steps, references: HashMap::new(), nodes: Vec::new() };
     let root = tree.leave(&row);
     Some(Reduced { root, nodes: tree.nodes })
+}
+
+/// Every set of some of a chart's steps, as one flag for each of all. The first of some is the highest
+/// bit of a set's number, so that its lo is the first half of a row.
+pub fn sets_of(all: usize, some: &[u16]) -> impl Iterator<Item = Vec<bool>> + '_ {
+    (0..1_usize << some.len()).map(move |set| {
+        let mut present = vec![false; all];
+        for (at, step) in some.iter().rev().enumerate() {
+            present[usize::from(*step)] = set >> at & 1 == 1;
+        }
+        present
+    })
 }
 
 /// A decision tree whose subtrees are their rows of verdicts: equal rows are one node.

@@ -1,7 +1,7 @@
 //! The conjunction: depth first over pairs of references, each visited once, and a hashed table of the
-//! nodes that are there.
+//! nodes that are there. The reduction is that with a diagram that always says yes.
 
-use super::tables::{Inner, Tables, BY_NODE};
+use super::tables::{Inner, Padding, Tables, BY_NODE};
 use crate::planner::Answer;
 
 /// The entry of a pair that was not visited.
@@ -24,20 +24,36 @@ pub fn conjoin(
     file: &mut [u8],
 ) -> Answer {
     let mut first = Tables::new();
-    if let Err(refusal) = first.read_chart(chart).and_then(|()| first.read_rules(rules, 2)) {
+    let read = first.read_chart(chart).and_then(|()| first.read_rules(rules, 2, Padding::Refused));
+    if let Err(refusal) = read {
         return refusal;
     }
     let mut second = first.with_chart_alone();
-    if let Err(refusal) = second.read_rules(more, 3) {
+    if let Err(refusal) = second.read_rules(more, 3, Padding::Refused) {
         return refusal;
     }
-    let pairs = first.references * second.references;
-    if work.len() < pairs {
-        return Answer::refused(7, 0, 0);
+    product(&first, &second, work, file)
+}
+
+/// Writes the reduced diagram that says the same, whatever padding the file has.
+pub fn reduce(chart: &[u8], rules: &[u8], file: &mut [u8]) -> Answer {
+    let mut first = Tables::new();
+    let read = first.read_chart(chart).and_then(|()| first.read_rules(rules, 2, Padding::Taken));
+    if let Err(refusal) = read {
+        return refusal;
     }
-    let work = &mut work[..pairs];
+    let mut yes = Tables::new();
+    yes.say_yes();
+    product(&first, &yes, &mut [0; 2 * BY_NODE], file)
+}
+
+/// Conjoins both diagrams, in a work slice of any length, and writes the result.
+fn product(first: &Tables, second: &Tables, work: &mut [u32], file: &mut [u8]) -> Answer {
+    let Some(work) = work.get_mut(..first.references * second.references) else {
+        return Answer::refused(7, 0, 0);
+    };
     work.fill(UNSEEN);
-    let mut product = Product { first: &first, second: &second, work, made: Made::new() };
+    let mut product = Product { first, second, work, made: Made::new() };
     let Some(root) = product.visit(first.root, second.root) else {
         return Answer::refused(12, 0, 0);
     };

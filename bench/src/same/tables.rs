@@ -30,8 +30,15 @@ pub const BY_STAGE: usize = STAGES;
 /// One entry for each node reference.
 pub const BY_NODE: usize = NODES;
 
+/// Whether a node with equal children, or alike to an earlier one, is refused with 13.
+#[derive(Clone, Copy, PartialEq, Eq)]
+pub enum Padding {
+    Refused,
+    Taken,
+}
+
 /// An inner node in one number: nine bits for each child, lo lowest, the step above them.
-#[derive(Clone, Copy, Default)]
+#[derive(Clone, Copy, Default, PartialEq, Eq)]
 pub struct Inner(u32);
 
 impl Inner {
@@ -49,6 +56,39 @@ impl Inner {
 
     pub fn hi(self) -> usize {
         via_node(self.0 >> NODE_BITS)
+    }
+
+    /// The chain that it belongs to.
+    fn chain(self) -> usize {
+        (self.0.wrapping_mul(0x9e37_79b1) >> (u32::BITS - NODE_BITS)) as usize
+    }
+}
+
+/// The nodes of a file in chains of the same hash, the last one at the head.
+struct Chains {
+    heads: [u16; NODES],
+    /// By node reference: the one before it in its chain; 0 at the end.
+    links: [u16; NODES],
+}
+
+impl Chains {
+    fn new() -> Chains {
+        Chains { heads: [0; NODES], links: [0; NODES] }
+    }
+
+    /// Whether one of the nodes is alike; else the new one, which has the reference `own`, is put in.
+    fn has(&mut self, nodes: &[Inner; NODES], node: Inner, own: usize) -> bool {
+        let head = &mut self.heads[node.chain()];
+        let mut at = usize::from(*head);
+        while at != 0 {
+            if nodes[at] == node {
+                return true;
+            }
+            at = usize::from(self.links[at]);
+        }
+        self.links[own] = *head;
+        *head = own as u16;
+        false
     }
 }
 
@@ -148,14 +188,28 @@ impl Tables {
         Tables { stages: self.stages, steps: self.steps, ..Tables::new() }
     }
 
-    /// Fills the diagram's tables from the file with a mark; the chart's are filled already.
-    pub fn read_rules(&mut self, file: &[u8], mark: u32) -> Result<(), Answer> {
-        let head: &[u8; 2] = first_body(file, 0x11, mark)?;
-        self.root = number(head[0], head[1]);
+    /// Makes the diagram one that always says yes.
+    pub fn say_yes(&mut self) {
+        self.root = 1;
+        self.references = 2;
         self.nodes[..2].fill(Inner::new(NO_STEP, 0, 0));
+    }
+
+    /// Fills the diagram's tables from the file with a mark; the chart's are filled already.
+    pub fn read_rules(&mut self, file: &[u8], mark: u32, padding: Padding) -> Result<(), Answer> {
+        let head: &[u8; 2] = first_body(file, 0x11, mark)?;
+        self.say_yes();
+        self.root = number(head[0], head[1]);
+        let mut chains = Chains::new();
         let mut own = 2;
         each_field::<NODE_FIELD>(&file[RULES_HEAD..], |field| {
-            self.read_node(field, own)?;
+            let node = self.read_node(field, own)?;
+            if padding == Padding::Refused
+                && (node.lo() == node.hi() || chains.has(&self.nodes, node, own))
+            {
+                return Err(13);
+            }
+            self.nodes[own] = node;
             own += 1;
             Ok(())
         })
@@ -167,8 +221,8 @@ impl Tables {
         Ok(())
     }
 
-    /// Reads a node, which has the reference `own`.
-    fn read_node(&mut self, field: &[u8], own: usize) -> Result<(), u32> {
+    /// Reads a node within the limits, which is to have the reference `own`.
+    fn read_node(&self, field: &[u8], own: usize) -> Result<Inner, u32> {
         let [s0, s1, l0, l1, h0, h1] = *body(field, 0x12)?;
         let step = u16::from_le_bytes([s0, s1]);
         let (lo, hi) = (u16::from_le_bytes([l0, l1]), u16::from_le_bytes([h0, h1]));
@@ -181,8 +235,7 @@ impl Tables {
         if !fits(lo) || !fits(hi) {
             return Err(6);
         }
-        self.nodes[own] = Inner::new(step, lo, hi);
-        Ok(())
+        Ok(Inner::new(step, lo, hi))
     }
 
     /// Row starts by stage, so that no search multiplies.

@@ -7,13 +7,13 @@ use mathlib.Core.List.{List, [], _∷_, _++_}
 use native.Mathlib.Omega.{arith}
 use lib.ListN.{length, getD, length-append, length-map, List·getD-map}
 use Rattle.definitions.specs.Diagrams.{InnerNode, noNode}
-use Rattle.theory.specs.Basics.{true-not-false}
+use Rattle.theory.specs.Basics.{fails, true-not-false}
 use Rattle.diagram_fields.specs.Words.{wordOf, unpacked, node-word, word-node}
 use Rattle.unique_table.specs.Nodes.{nodes-long, node-listed}
 use Rattle.unique_table.specs.Tables.{innerNode, nodeAt, countIn, nodesIn, Table, Lacks, Interns, alone, found, full, added}
 use Rattle.definitions.specs.Reductions.{Tree, mk, no-leaf, yes-leaf, branch, member, position, postorder, ref, numbered, nodesOf}
 use Rattle.reduction_theory.specs.Growth.{held-kid, ref-apart, nodes-snoc, post-held, post-node, settled}
-use Rattle.reduction_theory.specs.Numbering.{held, member-position, member-last, getD-member, ref-more, ref-at, member-held, not-true, post-new, Good, Posted, post-laws}
+use Rattle.reduction_theory.specs.Numbering.{held, member-position, member-last, getD-member, ref-more, ref-at, member-held, post-new, Good, Posted, post-laws}
 use Rattle.reduction_theory.specs.Trees.{Canon, clash, mk-same, mk-apart}
 
 nodes-length : (ts : List Tree) → length (nodesOf ts) ≡ length ts
@@ -76,7 +76,7 @@ module _ (t : List ℕ) (ts : List Tree) (g : Good ts) (holds : nodesIn t ≡ no
 
     pub lacks-member : Table t → Lacks t (wordOf (innerNode v (ref ts l) (ref ts h))) → member (branch v l h) ts ≡ false
     lacks-member w f =
-        not-true (member (branch v l h) ts) (λ m.
+        fails (member (branch v l h) ts) (λ m.
         let x = member-position (branch v l h) ts m in
         let at = position (branch v l h) ts + 2 in
         let q : at - 2 ≡ position (branch v l h) ts = omega arith in
@@ -124,7 +124,7 @@ module _ (ts : List Tree) (g : Good ts) (v : ℕ) (l h : Tree) (cl : Canon (suc 
         → (postorder (mk v l h) ts ≡ ts₂ ++ branch v l h ∷ []) × (member (branch v l h) ts₂ ≡ false)
     new-node n f =
         let out = lacks-member t ts₂ (good₂ .good) holds v small l h (lo-held .0) hi-held w f in
-        let before : member (branch v l h) ts ≡ false = not-true (member (branch v l h) ts) (λ m.
+        let before : member (branch v l h) ts ≡ false = fails (member (branch v l h) ts) (λ m.
         let k = held-kid ts g v l h m in
         let y : ts₂ ≡ ts = settled ts g v l h cl ch (k .0) (k .1) in
         true-not-false (sym m ∙ ap (member (branch v l h)) (sym y) ∙ out)) in

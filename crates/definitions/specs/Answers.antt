@@ -8,7 +8,7 @@ use lib.Dec.{leb, ltb, eqb}
 use lib.ListN.{length, drop}
 use Rattle.definitions.specs.Basics.{pick, every}
 use Rattle.definitions.specs.Charts.{Chart, readChart}
-use Rattle.definitions.specs.Diagrams.{Diagram, size, readDiagram}
+use Rattle.definitions.specs.Diagrams.{Diagram, size, strict, readDiagram}
 use Rattle.definitions.specs.declared.Answer.{Answer}
 
 -- both files and the space pass, or a refusal: its number, file and place
@@ -27,11 +27,11 @@ planNeed c = c .stages - 1
 abbrev pub spaceFits : Chart → Diagram → List ℕ → ℕ → Bool
 spaceFits c d works plan = every (leb (workNeed c d)) works && leb (planNeed c) plan
 
--- the chart (file 1), then the diagram (file 2)
-unfoldable pub readFiles : List ℕ → List ℕ → Load
-readFiles chart rules =
+-- the chart (file 1), then the diagram (file 2), which is read in one of the two ways: strictly by every call but the reduction
+unfoldable pub readFiles : Bool → List ℕ → List ℕ → Load
+readFiles mode chart rules =
     let c = readChart chart in
-    let d = readDiagram rules (length (c .chart .steps)) in
+    let d = readDiagram mode rules (length (c .chart .steps)) in
     pick (not (eqb (c .number) 0)) (refused (c .number) 1 (c .place))
     (pick (not (eqb (d .number) 0)) (refused (d .number) 2 (d .place))
     (ready (c .chart) (d .diagram)))
@@ -43,7 +43,7 @@ withSpace works plan (ready c d) = pick (spaceFits c d works plan) (ready c d) (
 
 -- all checks of a search
 unfoldable pub load : List ℕ → List ℕ → List ℕ → ℕ → Load
-load chart rules works plan = withSpace works plan (readFiles chart rules)
+load chart rules works plan = withSpace works plan (readFiles strict chart rules)
 
 -- a refusal has cost 0 and length 0
 abbrev pub refusal : ℕ → ℕ → ℕ → ℕ → Answer
@@ -68,7 +68,7 @@ pairNeed d e = size d * size e
 abbrev pub withMore : List ℕ → Load → LoadTwo
 withMore more (refused number file place) = refusedTwo number file place
 withMore more (ready c d) =
-    let e = readDiagram more (length (c .steps)) in
+    let e = readDiagram strict more (length (c .steps)) in
     pick (not (eqb (e .number) 0)) (refusedTwo (e .number) 3 (e .place)) (readyTwo c d (e .diagram))
 
 -- then the space (7)
@@ -77,7 +77,7 @@ withPairSpace work (refusedTwo number file place) = refusedTwo number file place
 withPairSpace work (readyTwo c d e) = pick (leb (pairNeed d e) work) (readyTwo c d e) (refusedTwo 7 0 0)
 
 unfoldable pub loadTwo : List ℕ → List ℕ → List ℕ → ℕ → LoadTwo
-loadTwo chart rules more work = withPairSpace work (withMore more (readFiles chart rules))
+loadTwo chart rules more work = withPairSpace work (withMore more (readFiles strict chart rules))
 
 -- ---- a file in a lent buffer, after every other check
 

@@ -51,6 +51,11 @@ abbrev pub every {ℓ} : {A : Type ℓ} → (A → Bool) → List A → Bool
 every p [] = true
 every p (x ∷ xs) = cond (p x) (every p xs) false
 
+-- some member passes a test
+abbrev pub any {ℓ} : {A : Type ℓ} → (A → Bool) → List A → Bool
+any p [] = false
+any p (x ∷ xs) = p x || any p xs
+
 -- f of each member, joined
 abbrev pub each {ℓ κ} : {A : Type ℓ} {B : Type κ} → (A → List B) → List A → List B
 each f [] = []

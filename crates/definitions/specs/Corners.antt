@@ -10,7 +10,7 @@ use lib.ListN.{length, getD, take, drop, replicate}
 use Rattle.definitions.specs.Basics.{pick, smaller, larger, sumOf}
 use Rattle.definitions.specs.Fields.{only, orRemark, fieldAt, firstField, onField, scan}
 use Rattle.definitions.specs.Charts.{ChartStep, headFault, stepFault, readChart}
-use Rattle.definitions.specs.Diagrams.{nodeFault, readDiagram}
+use Rattle.definitions.specs.Diagrams.{nodeFault, padding, nodeFaultAfter, readDiagram}
 use Rattle.definitions.specs.Bytes.{field, bodyOfStep, bodyOfNode, headBytes, stepBytes, chartBytes, diagramBytes}
 use Rattle.definitions.specs.Answers.{readFiles, load}
 use Rattle.definitions.specs.Pairs.{rowStart, rowStarts}
@@ -131,7 +131,7 @@ heads =
     ∷ []
 
 pub heads-hold : heads ≡ (1 ∷ 0 ∷ []) ∷ (2 ∷ 0 ∷ []) ∷ (3 ∷ 0 ∷ []) ∷ (1 ∷ 0 ∷ []) ∷ (2 ∷ 0 ∷ []) ∷ (2 ∷ 5 ∷ []) ∷ []
-unfolding heads pick only orRemark fieldAt firstField onField scan nodeFault readDiagram
+unfolding heads pick only orRemark fieldAt firstField onField scan nodeFault nodeFaultAfter padding readDiagram
 heads-hold = refl
 
 -- number, file and place: the chart's second step cut, the diagram's second node cut, its second node beyond a limit; a faulty chart before a faulty diagram
@@ -144,7 +144,7 @@ places =
     ∷ []
 
 pub places-hold : places ≡ (1 ∷ 1 ∷ 20 ∷ []) ∷ (1 ∷ 2 ∷ 14 ∷ []) ∷ (6 ∷ 2 ∷ 14 ∷ []) ∷ (1 ∷ 1 ∷ 20 ∷ []) ∷ []
-unfolding places pick only orRemark fieldAt firstField onField scan headFault stepFault readChart nodeFault readDiagram readFiles load
+unfolding places pick only orRemark fieldAt firstField onField scan headFault stepFault readChart nodeFault nodeFaultAfter padding readDiagram readFiles load
 places-hold = refl
 
 -- a child that is the node itself, at lo and at hi; a child that does not test a later step, and one that does; a third step that leaves a stage below the second's
@@ -158,7 +158,7 @@ neighbours =
     ∷ []
 
 pub neighbours-hold : neighbours ≡ (6 ∷ 5 ∷ []) ∷ (6 ∷ 5 ∷ []) ∷ (6 ∷ 23 ∷ []) ∷ (0 ∷ 0 ∷ []) ∷ (5 ∷ 31 ∷ []) ∷ []
-unfolding neighbours pick only orRemark fieldAt firstField onField scan headFault stepFault readChart nodeFault readDiagram
+unfolding neighbours pick only orRemark fieldAt firstField onField scan headFault stepFault readChart nodeFault nodeFaultAfter padding readDiagram
 neighbours-hold = refl
 
 -- row starts: the first of five stages with three nodes, and of one stage; the last of 256 stages, and of 255; two in between; all tables are as long

@@ -1,11 +1,11 @@
 -- The rule diagram (an ordered binary decision diagram), its file (REFERENCE 2.3, 2.4), and how it is walked (4.3, 4.6, 4.7).
 -- Assumes nothing.
 use Prim.Native.Nat.{ℕ, zero, suc, _+_, _-_}
-use mathlib.Core.Bool.{Bool, not, _&&_, _||_}
+use mathlib.Core.Bool.{Bool, true, false, not, _&&_, _||_}
 use mathlib.Core.List.{List, []}
 use lib.Dec.{leb, ltb, eqb}
 use lib.ListN.{length, getD}
-use Rattle.definitions.specs.Basics.{pick}
+use Rattle.definitions.specs.Basics.{pick, any}
 use Rattle.definitions.specs.Fields.{two, part, only, firstField, onField, Grammar, Scan, scan}
 
 -- an inner node
@@ -49,8 +49,27 @@ nodeFault steps stepAt count b =
 abbrev pub innerNodeOf : List ℕ → InnerNode
 innerNodeOf b = record { step = two b 0; lo = two b 2; hi = two b 4 }
 
-abbrev pub nodeFaultAfter : ℕ → List InnerNode → List ℕ → ℕ
-nodeFaultAfter steps before b = nodeFault steps (λ r. getD before (r - 2) noNode .step) (length before) b
+-- the two ways of reading a diagram file: padding is refused, or taken, as it is by the reduction alone
+abbrev pub strict : Bool
+strict = true
+
+abbrev pub lenient : Bool
+lenient = false
+
+-- step, lo and hi of two nodes are all equal
+abbrev pub alikeNodes : InnerNode → InnerNode → Bool
+alikeNodes x y = eqb (x .step) (y .step) && (eqb (x .lo) (y .lo) && eqb (x .hi) (y .hi))
+
+-- a node is padding behind the nodes before it: its lo equals its hi, or an earlier node is alike
+unfoldable pub padding : List InnerNode → InnerNode → Bool
+padding before x = eqb (x .lo) (x .hi) || any (alikeNodes x) before
+
+-- what is wrong with a node's body behind the nodes before it, read in one of the two ways; 0: nothing. Padding (13) comes after the limits (6)
+unfoldable pub nodeFaultAfter : Bool → ℕ → List InnerNode → List ℕ → ℕ
+nodeFaultAfter mode steps before b =
+    let beyond = nodeFault steps (λ r. getD before (r - 2) noNode .step) (length before) b in
+    pick (not (eqb beyond 0)) beyond
+    (pick (mode && padding before (innerNodeOf b)) 13 0)
 
 -- A diagram file, read: the refusal's number and place, 0 and 0 where it is accepted, and the diagram as far as its fields passed
 pub record DiagramRead : Type 0 where
@@ -72,18 +91,18 @@ withNodes root x =
     (diagramRead 0 0 root (x .passed)))
 
 -- after the head: nodes, of tag 12 (hexadecimal) and length 6, over a chart of so many steps
-abbrev pub nodeGrammar : ℕ → Grammar InnerNode
-nodeGrammar steps = record { kind = λ before. only 18 6; fault = λ before tag. nodeFaultAfter steps before; holds = λ before tag. innerNodeOf }
+abbrev pub nodeGrammar : Bool → ℕ → Grammar InnerNode
+nodeGrammar mode steps = record { kind = λ before. only 18 6; fault = λ before tag. nodeFaultAfter mode steps before; holds = λ before tag. innerNodeOf }
 
 -- the nodes of a diagram file, from a place on
-abbrev pub scanNodes : List ℕ → ℕ → ℕ → Scan InnerNode
-scanNodes s steps at = scan s (nodeGrammar steps) (length s) at []
+abbrev pub scanNodes : Bool → List ℕ → ℕ → ℕ → Scan InnerNode
+scanNodes mode s steps at = scan s (nodeGrammar mode steps) (length s) at []
 
--- the head first, once; then nodes to the file's end. An empty file is 2 at place 0. (Before the head no field is passed over)
-unfoldable pub readDiagram : List ℕ → ℕ → DiagramRead
-readDiagram s steps =
+-- The head first, once; then nodes to the file's end. An empty file is 2 at place 0. (Before the head no field is passed over.) `mode`: strict or lenient
+unfoldable pub readDiagram : Bool → List ℕ → ℕ → DiagramRead
+readDiagram mode s steps =
     onField (firstField s (only 17 2)) (diagramRefused 2 0) diagramRefused (λ end. diagramRefused 2 0)
-    (λ place start end. withNodes (two (part s start end) 0) (scanNodes s steps end))
+    (λ place start end. withNodes (two (part s start end) 0) (scanNodes mode s steps end))
 
 -- ---- the walk
 

@@ -9,7 +9,7 @@ use lib.ListN.{length, getD, take}
 use Rattle.definitions.specs.Basics.{pick, each}
 use Rattle.definitions.specs.Fields.{Kind, foreign, exactly, atLeast, only, orRemark, fieldAt, firstField, onField, Grammar, scan, fieldBytes, refusedField}
 use Rattle.definitions.specs.Charts.{ChartStep, headFault, stepFault, readChart}
-use Rattle.definitions.specs.Diagrams.{Diagram, InnerNode, nodeFault, readDiagram}
+use Rattle.definitions.specs.Diagrams.{Diagram, InnerNode, nodeFault, strict, padding, nodeFaultAfter, readDiagram}
 use Rattle.definitions.specs.Bytes.{headBytes, stepBytes, chartBytes, diagramBytes}
 use Rattle.definitions.specs.Answers.{Load, ready, refused, readFiles, load}
 use Rattle.definitions.specs.Marked.{st, nd, values, chart, rules}
@@ -25,7 +25,7 @@ abbrev pub chartRefusal : List ℕ → List ℕ
 chartRefusal s = readChart s .number ∷ readChart s .place ∷ []
 
 abbrev pub rulesRefusal : List ℕ → ℕ → List ℕ
-rulesRefusal s count = readDiagram s count .number ∷ readDiagram s count .place ∷ []
+rulesRefusal s count = readDiagram strict s count .number ∷ readDiagram strict s count .place ∷ []
 
 abbrev pub loadRefusal : Load → List ℕ
 loadRefusal (ready c d) = []
@@ -35,8 +35,8 @@ pub whole-chart : readChart (chartBytes values) ≡ record { number = 0; place =
 unfolding pick only orRemark fieldAt firstField onField scan headFault stepFault readChart
 whole-chart = refl
 
-pub whole-diagram : readDiagram (diagramBytes rules) 6 ≡ record { number = 0; place = 0; diagram = rules }
-unfolding pick only orRemark fieldAt firstField onField scan nodeFault readDiagram
+pub whole-diagram : readDiagram strict (diagramBytes rules) 6 ≡ record { number = 0; place = 0; diagram = rules }
+unfolding pick only orRemark fieldAt firstField onField scan nodeFault nodeFaultAfter padding readDiagram
 whole-diagram = refl
 
 pub computed : List (List ℕ)
@@ -98,7 +98,7 @@ expected =
     ∷ []
 
 pub refusals-hold : computed ≡ expected
-unfolding computed expected pick only orRemark fieldAt firstField onField scan headFault stepFault readChart nodeFault readDiagram fieldBytes refusedField
+unfolding computed expected pick only orRemark fieldAt firstField onField scan headFault stepFault readChart nodeFault nodeFaultAfter padding readDiagram fieldBytes refusedField
 refusals-hold = refl
 
 -- the space: 5 × 4 entries for each work slice and 4 for the plan
@@ -112,7 +112,7 @@ loads =
     ∷ []
 
 pub loads-hold : loads ≡ [] ∷ (7 ∷ 0 ∷ 0 ∷ []) ∷ (7 ∷ 0 ∷ 0 ∷ []) ∷ (6 ∷ 2 ∷ 0 ∷ []) ∷ (1 ∷ 1 ∷ 0 ∷ []) ∷ []
-unfolding loads pick only orRemark fieldAt firstField onField scan headFault stepFault readChart nodeFault readDiagram readFiles load
+unfolding loads pick only orRemark fieldAt firstField onField scan headFault stepFault readChart nodeFault nodeFaultAfter padding readDiagram readFiles load
 loads-hold = refl
 
 -- ---- each kind of field. Of a small file, remarks aside: 34 has at least 4 bytes, and an even number of them; another tag has as many bytes as its number

@@ -11,13 +11,13 @@ use lib.Dec.{ltb, eqb}
 use lib.ListN.{length, getD, take, drop}
 use Rattle.definitions.specs.Basics.{NONE, pick, upto}
 use Rattle.definitions.specs.Charts.{Chart}
-use Rattle.definitions.specs.Diagrams.{Diagram}
+use Rattle.definitions.specs.Diagrams.{Diagram, lenient}
 use Rattle.definitions.specs.Ways.{Graph, wayCost}
 use Rattle.definitions.specs.Pairs.{Automaton, Estimate, pair, pairs, stageOf, nodeOf, leastCost, goal, sum, reachedPairs}
 use Rattle.definitions.specs.Plans.{graph, automaton, Legal, cheapest, estimate}
-use Rattle.definitions.specs.Answers.{Load, ready, refused, load, workNeed, refusal, accepted, LoadTwo, readyTwo, refusedTwo, loadTwo, pairNeed, fileAnswer, fileBuffer}
+use Rattle.definitions.specs.Answers.{Load, ready, refused, readFiles, load, workNeed, refusal, accepted, LoadTwo, readyTwo, refusedTwo, loadTwo, pairNeed, fileAnswer, fileBuffer, Filed}
 use Rattle.definitions.specs.Bytes.{diagramBytes}
-use Rattle.definitions.specs.Reductions.{conjunction}
+use Rattle.definitions.specs.Reductions.{reduction, conjunction}
 use Rattle.definitions.specs.declared.Answer.{Answer}
 
 -- ---- the plan slice, for both searches
@@ -209,3 +209,14 @@ ConjoinPromise (readyTwo c d e) before after r =
 
 abbrev pub ConjoinCall : List ℕ → List ℕ → List ℕ → ConjoinSlices → ConjoinSlices → Answer → Type 0
 ConjoinCall chart rules more before after r = ConjoinPromise (loadTwo chart rules more (length (before .work))) before after r
+
+-- ---- the reduction of a diagram file, written as a file
+
+-- By what the checks give: a refused call leaves the buffer, else the reduction's file is written. A reduction never has too many nodes, and nothing is left free
+abbrev pub ReducePromise : Load → List ℕ → List ℕ → Answer → Type 0
+ReducePromise (refused number file place) out out′ r = (r ≡ refusal number file place 0) × (out′ ≡ out)
+ReducePromise (ready c d) out out′ r = Filed (diagramBytes (reduction (length (c .steps)) d)) out out′ r
+
+-- both files, of which padding in the diagram is taken, and the file buffer before and after
+abbrev pub ReduceCall : List ℕ → List ℕ → List ℕ → List ℕ → Answer → Type 0
+ReduceCall chart rules out out′ r = ReducePromise (readFiles lenient chart rules) out out′ r

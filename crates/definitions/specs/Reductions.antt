@@ -111,6 +111,10 @@ diagramOf t = record { root = ref (postorder t []) t; nodes = nodesOf (postorder
 unfoldable pub reducedOf : ℕ → ((ℕ → Bool) → Bool) → Diagram
 reducedOf steps f = diagramOf (treeOf f steps 0 (λ j. false))
 
+-- the reduction of a diagram over a chart of so many steps: yes exactly to the sets to which it says yes
+unfoldable pub reduction : ℕ → Diagram → Diagram
+reduction steps d = reducedOf steps (accepts d)
+
 -- the conjunction of two diagrams over a chart of so many steps: yes exactly to the sets to which both say yes
 unfoldable pub conjunction : ℕ → Diagram → Diagram → Diagram
 conjunction steps d e = reducedOf steps (λ set. accepts d set && accepts e set)

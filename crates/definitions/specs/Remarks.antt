@@ -2,7 +2,7 @@
 -- Assumes nothing.
 use Prim.Native.Nat.{ℕ, _+_, _≤_, _<_}
 use mathlib.Core.Path.{_≡_, refl, sym, _∙_}
-use mathlib.Core.Bool.{false}
+use mathlib.Core.Bool.{Bool, false}
 use mathlib.Core.List.{List, [], _∷_, _++_, map}
 use native.Mathlib.Omega.{arith}
 use native.Mathlib.Decide.{decLt}
@@ -12,7 +12,7 @@ use borrow.Author.Tests.{lt-leb, le-leb}
 use Rattle.definitions.specs.Basics.{pick, each}
 use Rattle.definitions.specs.Fields.{Kind, passedOver, only, orRemark, fieldAt, longest, firstField, onField, scan}
 use Rattle.definitions.specs.Charts.{headFault, stepFault, chartRefused, readChart}
-use Rattle.definitions.specs.Diagrams.{nodeFault, diagramRefused, readDiagram}
+use Rattle.definitions.specs.Diagrams.{nodeFault, strict, padding, nodeFaultAfter, diagramRefused, readDiagram}
 use Rattle.definitions.specs.Bytes.{headBytes, field, stepBytes, rootBytes, nodeBytes, chartBytes, diagramBytes}
 use Rattle.definitions.specs.Answers.{refused, readFiles, load}
 use Rattle.definitions.specs.Marked.{st, nd, values, chart, rules}
@@ -34,8 +34,8 @@ pub chart-noted : readChart chartNoted ≡ record { number = 0; place = 0; chart
 unfolding pick only orRemark fieldAt firstField onField scan headFault stepFault readChart
 chart-noted = refl
 
-pub rules-noted : readDiagram rulesNoted 6 ≡ record { number = 0; place = 0; diagram = rules }
-unfolding pick only orRemark fieldAt firstField onField scan nodeFault readDiagram
+pub rules-noted : readDiagram strict rulesNoted 6 ≡ record { number = 0; place = 0; diagram = rules }
+unfolding pick only orRemark fieldAt firstField onField scan nodeFault nodeFaultAfter padding readDiagram
 rules-noted = refl
 
 -- a chart file of a head, and a diagram file of a head, with these bytes behind
@@ -80,7 +80,7 @@ remarks =
     ∷ []
 
 pub remarks-hold : map (λ x. x .0) remarks ≡ map (λ x. x .1) remarks
-unfolding remarks pick only orRemark fieldAt firstField onField scan headFault stepFault nodeFault readChart readDiagram readFiles load
+unfolding remarks pick only orRemark fieldAt firstField onField scan headFault stepFault nodeFault nodeFaultAfter padding readChart readDiagram readFiles load
 remarks-hold = refl
 
 -- mistakes: a remark before the head let through, a step number taken, tag 7F let through, a cut body let through, a remark's length judged
@@ -94,7 +94,7 @@ remarkMistakes =
     ∷ []
 
 pub remark-mistakes-refuted : map (λ x. alike (x .0) (x .1)) remarkMistakes ≡ map (λ x. false) remarkMistakes
-unfolding remarkMistakes pick only orRemark fieldAt firstField onField scan headFault stepFault nodeFault readChart readDiagram readFiles load
+unfolding remarkMistakes pick only orRemark fieldAt firstField onField scan headFault stepFault nodeFault nodeFaultAfter padding readChart readDiagram readFiles load
 remark-mistakes-refuted = refl
 
 -- after a head every tag from 128 on is passed over, and no other for that reason
@@ -125,23 +125,23 @@ module _ (s : List ℕ) (long : longest < length s) where
   unfolding readChart onField
   long-chart-read = rw (long-first _)
 
-  long-rules-read : (steps : ℕ) → readDiagram s steps ≡ diagramRefused 9 longest
+  long-rules-read : (mode : Bool) (steps : ℕ) → readDiagram mode s steps ≡ diagramRefused 9 longest
   unfolding readDiagram onField
-  long-rules-read steps = rw (long-first _)
+  long-rules-read mode steps = rw (long-first _)
 
   -- the chart's length is judged before its fields, and before the diagram
-  pub long-chart : (rules : List ℕ) → readFiles s rules ≡ refused 9 1 longest
+  pub long-chart : (mode : Bool) (rules : List ℕ) → readFiles mode s rules ≡ refused 9 1 longest
   unfolding readFiles pick
-  long-chart rules = rw long-chart-read
+  long-chart mode rules = rw long-chart-read
 
   -- the diagram's before its fields, and after the chart's fields
-  pub long-rules : readFiles (chartBytes values) s ≡ refused 9 2 longest
+  pub long-rules : (mode : Bool) → readFiles mode (chartBytes values) s ≡ refused 9 2 longest
   unfolding readFiles pick
-  long-rules = rw (whole-chart, long-rules-read 6)
+  long-rules mode = rw (whole-chart, long-rules-read mode 6)
 
-  pub long-rules-later : readFiles (9 ∷ []) s ≡ refused 1 1 0
+  pub long-rules-later : (mode : Bool) → readFiles mode (9 ∷ []) s ≡ refused 1 1 0
   unfolding pick only orRemark fieldAt firstField onField readChart readFiles
-  long-rules-later = refl
+  long-rules-later mode = refl
 
 -- 32,768 bytes are not too long
 pub short-first : (s : List ℕ) → length s ≤ longest → (kind : ℕ → Kind) → firstField s kind ≡ fieldAt s 0 kind
@@ -159,9 +159,11 @@ cut-first s A short long = go (decLt longest (length s))
 cut-chart : (s : List ℕ) → readChart (take (longest + 1) s) ≡ readChart s
 cut-chart s = cut-first s (λ t. readChart t ≡ readChart s) (λ l. refl) (λ c l. long-chart-read (take (longest + 1) s) c ∙ sym (long-chart-read s l))
 
-cut-rules : (s : List ℕ) (steps : ℕ) → readDiagram (take (longest + 1) s) steps ≡ readDiagram s steps
-cut-rules s steps = cut-first s (λ t. readDiagram t steps ≡ readDiagram s steps) (λ l. refl) (λ c l. long-rules-read (take (longest + 1) s) c steps ∙ sym (long-rules-read s l steps))
+cut-rules : (mode : Bool) (s : List ℕ) (steps : ℕ) → readDiagram mode (take (longest + 1) s) steps ≡ readDiagram mode s steps
+cut-rules mode s steps =
+    cut-first s (λ t. readDiagram mode t steps ≡ readDiagram mode s steps) (λ l. refl)
+    (λ c l. long-rules-read (take (longest + 1) s) c mode steps ∙ sym (long-rules-read s l mode steps))
 
-pub cut-files : (chart rules : List ℕ) → readFiles (take (longest + 1) chart) (take (longest + 1) rules) ≡ readFiles chart rules
+pub cut-files : (mode : Bool) (chart rules : List ℕ) → readFiles mode (take (longest + 1) chart) (take (longest + 1) rules) ≡ readFiles mode chart rules
 unfolding readFiles
-cut-files chart rules = rw (cut-chart chart, cut-rules rules (length (readChart chart .chart .steps)))
+cut-files mode chart rules = rw (cut-chart chart, cut-rules mode rules (length (readChart chart .chart .steps)))

@@ -1,18 +1,21 @@
 -- A diagram that the reader accepts is within the limits: it is ordered, its steps exist, it has at most 510 inner nodes, and its root is one of its nodes; and it stands in the table.
+-- Read strictly it holds no padding.
 -- Assumes nothing.
 use Prim.Native.Nat.{ℕ, _+_, _-_, _≤_, _<_}
-use mathlib.Core.Path.{_≡_, refl, sym, ap}
+use mathlib.Core.Path.{_≡_, refl, sym, _∙_, ap}
 use mathlib.Core.Bool.{Bool, true, false}
 use mathlib.Core.List.{List, [], _∷_, _++_}
 use lib.Dec.{leb, eqb}
 use lib.ListN.{length, getD, length-append, List·getD-append, List·getD-eq-default}
 use lib.Seq.{getD-append-seam}
+use mathlib.Core.Logic.{_⊎_, inl, inr}
 use native.Mathlib.Omega.{arith}
 use borrow.Author.Tests.{leb-false, eqb-false}
 use Rattle.definitions.specs.Basics.{pick}
 use Rattle.definitions.specs.Fields.{two, part, only, firstField, onField, Scan}
-use Rattle.definitions.specs.Diagrams.{Diagram, InnerNode, noNode, inner, innerNodeOf, DiagramRead, diagramRefused, withNodes, nodeGrammar, scanNodes, readDiagram}
-use Rattle.theory.specs.Limits.{Ordered, Sound}
+use Rattle.definitions.specs.Diagrams.{Diagram, InnerNode, noNode, size, inner, innerNodeOf, strict, DiagramRead, diagramRefused, withNodes, nodeGrammar, scanNodes, readDiagram}
+use Rattle.theory.specs.Limits.{Ordered, Sound, Unpadded}
+use Rattle.theory.specs.Padding.{unpadded, fault-none}
 use Rattle.definitions.specs.declared.Field.{Field}
 use Rattle.definitions.specs.declared.Field.the-variants.{Absent, Faulty, Passed, Whole}
 use Rattle.fields.specs.Scans.{scan-keeps}
@@ -100,11 +103,11 @@ module _ (root steps : ℕ) where
           few = omega (arith, length-append xs (x ∷ []));
         }
 
-  scanned : (s : List ℕ) (at : ℕ) → Limited root steps (scanNodes s steps at .passed)
-  scanned s at =
-      scan-keeps s (nodeGrammar steps) (Limited root steps)
+  scanned : (mode : Bool) (s : List ℕ) (at : ℕ) → Limited root steps (scanNodes mode s steps at .passed)
+  scanned mode s at =
+      scan-keeps s (nodeGrammar mode steps) (Limited root steps)
       (λ at q a e before w t was.
-      let f = node-fits steps (λ r. getD before (r - 2) noNode .step) (length before) (part s a e) (sym t) in
+      let f = node-fits steps (λ r. getD before (r - 2) noNode .step) (length before) (part s a e) (sym (fault-none mode steps before (part s a e) t .0)) in
       node-added before (innerNodeOf (part s a e)) was (f .few) (f .exists) (f .lo) (f .hi))
       (length s) at [] none-limited
 
@@ -118,24 +121,87 @@ module _ (root steps : ℕ) where
       go true p true q = let z : _≡_ {A = ℕ} 6 0 = rw (p, q) at e in absurd (omega arith)
       go true p false q = rw (p, q) (record { ordered = l .ordered; exist = l .exist; few = l .few; root-inside = leb-false (length (x .passed) + 2) root q })
 
-abbrev readFrom : List ℕ → ℕ → Field → DiagramRead
-readFrom s steps r =
-    onField r (diagramRefused 2 0) diagramRefused (λ end. diagramRefused 2 0) (λ place start end. withNodes (two (part s start end) 0) (scanNodes s steps end))
+abbrev readFrom : Bool → List ℕ → ℕ → Field → DiagramRead
+readFrom mode s steps r =
+    onField r (diagramRefused 2 0) diagramRefused (λ end. diagramRefused 2 0) (λ place start end. withNodes (two (part s start end) 0) (scanNodes mode s steps end))
 
-from-field : (s : List ℕ) (steps : ℕ) (r : Field) → readFrom s steps r .number ≡ 0 → Sound steps (readFrom s steps r .diagram)
+from-field : (mode : Bool) (s : List ℕ) (steps : ℕ) (r : Field) → readFrom mode s steps r .number ≡ 0 → Sound steps (readFrom mode s steps r .diagram)
 unfolding onField
-from-field s steps Absent e = absurd (omega arith)
-from-field s steps (Passed p) e = absurd (omega arith)
-from-field s steps (Faulty k p) e =
+from-field mode s steps Absent e = absurd (omega arith)
+from-field mode s steps (Passed p) e = absurd (omega arith)
+from-field mode s steps (Faulty k p) e =
     let l = none-limited 0 steps in
     record { ordered = l .ordered; exist = l .exist; few = l .few; root-inside = omega arith }
-from-field s steps (Whole p a b) e = rooted (two (part s a b) 0) steps (scanNodes s steps b) (scanned (two (part s a b) 0) steps s b) e
+from-field mode s steps (Whole p a b) e = rooted (two (part s a b) 0) steps (scanNodes mode s steps b) (scanned (two (part s a b) 0) steps mode s b) e
 
-pub diagram-accepted : (s : List ℕ) (steps : ℕ) → readDiagram s steps .number ≡ 0 → Sound steps (readDiagram s steps .diagram)
+pub diagram-accepted : (mode : Bool) (s : List ℕ) (steps : ℕ) → readDiagram mode s steps .number ≡ 0 → Sound steps (readDiagram mode s steps .diagram)
 unfolding readDiagram
-diagram-accepted s steps = from-field s steps (firstField s (only 17 2))
+diagram-accepted mode s steps = from-field mode s steps (firstField s (only 17 2))
 
 -- an accepted diagram stands in the table
-pub accepted-filled : (s : List ℕ) (steps : ℕ) → readDiagram s steps .number ≡ 0 → steps ≤ 1024 → (words words′ : List ℕ)
-    → words′ ≡ tableWith (readDiagram s steps .diagram .nodes) words → Filled (readDiagram s steps .diagram .nodes) words′
-accepted-filled s steps passes few words words′ e = rw e (table-filled steps (readDiagram s steps .diagram) (diagram-accepted s steps passes) few words)
+pub accepted-filled : (mode : Bool) (s : List ℕ) (steps : ℕ) → readDiagram mode s steps .number ≡ 0 → steps ≤ 1024 → (words words′ : List ℕ)
+    → words′ ≡ tableWith (readDiagram mode s steps .diagram .nodes) words → Filled (readDiagram mode s steps .diagram .nodes) words′
+accepted-filled mode s steps passes few words words′ e =
+    rw e (table-filled steps (readDiagram mode s steps .diagram) (diagram-accepted mode s steps passes) few words)
+
+-- ---- what is read strictly holds no padding
+
+module _ (root : ℕ) where
+  none-unpadded : Unpadded (diagram root [])
+  none-unpadded = record { unlike = λ m n g h i j e. absurd (omega arith); forked = λ n g h e. omega arith }
+
+  module _ (xs : List InnerNode) (x : InnerNode) (was : Unpadded (diagram root xs)) (apart : x .lo ≡ x .hi → ⊥)
+      (new : (i : ℕ) → i < length xs → getD xs i noNode ≡ x → ⊥) where
+    abbrev grown : Diagram
+    grown = diagram root (xs ++ x ∷ [])
+
+    -- an inner node is one of those before, or the new one
+    which : (n : ℕ) → 2 ≤ n → n < size grown → ((n < length xs + 2) × (inner grown n ≡ inner (diagram root xs) n)) ⊎ ((n ≡ length xs + 2) × (inner grown n ≡ x))
+    which n g h =
+        either (lt-or-le n (length xs + 2)) (λ l. inl (l, List·getD-append xs (x ∷ []) noNode (n - 2) (omega arith)))
+        (λ l. let q : n ≡ length xs + 2 = omega (arith, length-append xs (x ∷ [])) in
+        let r : n - 2 ≡ length xs = omega arith in
+        inr (q, rw r (getD-append-seam xs x [] noNode)))
+
+    unlike-grown : (m n : ℕ) → 2 ≤ m → m < size grown → 2 ≤ n → n < size grown → inner grown m ≡ inner grown n → m ≡ n
+    unlike-grown m n g h i j e =
+        either (which m g h)
+        (λ a. either (which n i j) (λ b. was .unlike m n g (a .0) i (b .0) (sym (a .1) ∙ e ∙ b .1)) (λ b. absurd (new (m - 2) (omega (arith, a .0)) (sym (a .1) ∙ e ∙ b .1))))
+        (λ a. either (which n i j) (λ b. absurd (new (n - 2) (omega (arith, b .0)) (sym (b .1) ∙ sym e ∙ a .1))) (λ b. omega (arith, a .0, b .0)))
+
+    pub unpadded-grown : Unpadded (diagram root (xs ++ x ∷ []))
+    unpadded-grown = record {
+      unlike = unlike-grown;
+      forked = λ n g h e.
+          either (which n g h) (λ a. was .forked n g (a .0) (ap (λ (y : InnerNode). y .lo) (sym (a .1)) ∙ e ∙ ap (λ (y : InnerNode). y .hi) (a .1)))
+          (λ a. apart (ap (λ (y : InnerNode). y .lo) (sym (a .1)) ∙ e ∙ ap (λ (y : InnerNode). y .hi) (a .1)));
+    }
+
+  strictly : (s : List ℕ) (steps at : ℕ) → Unpadded (diagram root (scanNodes strict s steps at .passed))
+  strictly s steps at =
+      scan-keeps s (nodeGrammar strict steps) (λ xs. Unpadded (diagram root xs))
+      (λ at q a e before w t was.
+      let x = innerNodeOf (part s a e) in
+      let u = unpadded before x (fault-none strict steps before (part s a e) t .1) in
+      unpadded-grown before x was (u .0) (u .1))
+      (length s) at [] none-unpadded
+
+  with-unpadded : (x : Scan InnerNode) → Unpadded (diagram root (x .passed)) → Unpadded (withNodes root x .diagram)
+  unfolding pick
+  with-unpadded x u = go (eqb (x .number) 0) refl (leb (length (x .passed) + 2) root) refl
+    where
+      go : (t : Bool) → eqb (x .number) 0 ≡ t → (v : Bool) → leb (length (x .passed) + 2) root ≡ v → Unpadded (withNodes root x .diagram)
+      go false p v q = rw p u
+      go true p true q = rw (p, q) u
+      go true p false q = rw (p, q) u
+
+field-unpadded : (s : List ℕ) (steps : ℕ) (r : Field) → Unpadded (readFrom strict s steps r .diagram)
+unfolding onField
+field-unpadded s steps Absent = none-unpadded 0
+field-unpadded s steps (Passed p) = none-unpadded 0
+field-unpadded s steps (Faulty k p) = none-unpadded 0
+field-unpadded s steps (Whole p a b) = with-unpadded (two (part s a b) 0) (scanNodes strict s steps b) (strictly (two (part s a b) 0) s steps b)
+
+pub diagram-unpadded : (s : List ℕ) (steps : ℕ) → Unpadded (readDiagram strict s steps .diagram)
+unfolding readDiagram
+diagram-unpadded s steps = field-unpadded s steps (firstField s (only 17 2))

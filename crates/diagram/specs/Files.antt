@@ -2,7 +2,7 @@
 -- Assumes nothing.
 use Prim.Native.Nat.{ℕ, _+_}
 use mathlib.Core.Path.{_≡_}
-use mathlib.Core.Bool.{false}
+use mathlib.Core.Bool.{Bool, false}
 use mathlib.Core.List.{List, _∷_, _++_, map}
 use lib.ListN.{length, drop}
 use Rattle.definitions.specs.Fields.{Scan}
@@ -37,7 +37,7 @@ nodesAnswer x = record { number = x .number; place = x .place; nodes = length (x
 abbrev pub diagramAnswer : diagrams.DiagramRead → DiagramRead
 diagramAnswer x = record { number = x .number; place = x .place; root = x .diagram .root; nodes = length (x .diagram .nodes) }
 
--- the diagram file s over a chart of so many steps is read into the table
-pub record Reads (s : List ℕ) (steps : ℕ) (words words′ : List ℕ) (r : DiagramRead) : Type 0 where
-  pub answer : r ≡ diagramAnswer (readDiagram s steps)
-  pub table : Room words → words′ ≡ tableWith (readDiagram s steps .diagram .nodes) words
+-- the diagram file s over a chart of so many steps is read into the table, strictly or not
+pub record Reads (mode : Bool) (s : List ℕ) (steps : ℕ) (words words′ : List ℕ) (r : DiagramRead) : Type 0 where
+  pub answer : r ≡ diagramAnswer (readDiagram mode s steps)
+  pub table : words′ ≡ tableWith (readDiagram mode s steps .diagram .nodes) words

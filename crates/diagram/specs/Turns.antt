@@ -2,53 +2,59 @@
 -- Assumes nothing.
 use Prim.Native.Nat.{ℕ, _+_, _≤_}
 use mathlib.Core.Path.{_≡_}
+use mathlib.Core.Bool.{Bool}
 use mathlib.Core.List.{List, _++_, map}
 use lib.ListN.{length, take, drop}
 use Rattle.definitions.specs.Diagrams.{InnerNode, nodeGrammar, scanNodes}
 use Rattle.fields.specs.Scans.{Reading}
 use Rattle.fields.specs.Turns.{Stands, Turn}
 use Rattle.diagram_fields.specs.Words.{wordOf}
+use Rattle.unique_table.specs.Tables.{uniqueTable, Table, countIn, nodesIn}
 use Rattle.diagram.specs.Files.{Room, nodesAnswer}
 use Rattle.diagram.specs.declared.reader.NodesRead.{NodesRead}
 
--- a table so far: from 2 on stands what `entry` is of each node, what stood before them and behind them stays
-pub record Stored (entry : InnerNode → ℕ) (before : List InnerNode) (table₀ table : List ℕ) : Type 0 where
-  pub front : take (length before + 2) table ≡ take 2 table₀ ++ map entry before
-  pub rest : drop (length before + 2) table ≡ drop (length before + 2) table₀
-  pub room : Room table
+-- the table so far: from 2 on the nodes before, each in one number; what stood before them and behind them stays
+pub record Stored (before : List InnerNode) (words₀ words : List ℕ) : Type 0 where
+  pub front : take (length before + 2) words ≡ take 2 words₀ ++ map wordOf before
+  pub rest : drop (length before + 2) words ≡ drop (length before + 2) words₀
+  pub room : Room words
 
--- a node's entry in the table of steps
-abbrev pub stepIn : InnerNode → ℕ
-stepIn x = x .step
-
--- What is read so far, and that the rest of the walk is still to come. Two tables are filled: `step` has the step of each node before, for the checks
--- of those to come, and `words` the nodes. (What a table holds is said of one with room, as its type says)
-pub record Halfway (s : List ℕ) (first steps : ℕ) (step₀ words₀ step words : List ℕ) (at count : ℕ) : Type 0 where
+-- What is read so far, and that the rest of the walk is still to come: the table and its chains hold the nodes before, so that the checks of those to come find their
+-- steps, and one that is alike
+pub record SoFar (mode : Bool) (s : List ℕ) (first steps : ℕ) (words₀ chains words : List ℕ) (at count : ℕ) : Type 0 where
+  pub chart : steps ≤ 1024
   pub before : List InnerNode
-  pub reading : Reading s (nodeGrammar steps) first at before
+  pub reading : Reading s (nodeGrammar mode steps) first at before
   pub counted : length before ≡ count
-  pub known : Stored stepIn before step₀ step
-  pub stored : Room words₀ → Stored wordOf before words₀ words
+  pub table : Table (uniqueTable words chains)
+  pub nodes : nodesIn (uniqueTable words chains) ≡ before
+  pub stored : Stored before words₀ words
 
--- the same of a table of steps with room
-pub record SoFar (s : List ℕ) (first steps : ℕ) (step₀ words₀ step words : List ℕ) (at count : ℕ) : Type 0 where
-  pub few : count ≤ 510
-  pub halfway : Room step₀ → Halfway s first steps step₀ words₀ step words at count
+-- before the walk: a table without nodes, for a chart of so many steps
+pub record Fresh (steps : ℕ) (chains words : List ℕ) : Type 0 where
+  pub chart : steps ≤ 1024
+  pub table : Table (uniqueTable words chains)
+  pub none : countIn (uniqueTable words chains) ≡ 0
 
--- the walk is over: the answer, and what the tables hold. (The table of steps is said for the contract's sake: nobody reads it then)
-pub record Over (s : List ℕ) (first steps : ℕ) (step₀ words₀ step words : List ℕ) (r : NodesRead) : Type 0 where
+-- the walk is over: the answer, and what the table holds. (The chains are said for the contract's sake: nobody reads them then)
+pub record Over (mode : Bool) (s : List ℕ) (first steps : ℕ) (words₀ chains words : List ℕ) (r : NodesRead) : Type 0 where
   pub few : r .nodes ≤ 510
-  pub answer : Room step₀ → r ≡ nodesAnswer (scanNodes s steps first)
-  pub known : Room step₀ → Stored stepIn (scanNodes s steps first .passed) step₀ step
-  pub stored : Room step₀ → Room words₀ → Stored wordOf (scanNodes s steps first .passed) words₀ words
+  pub answer : r ≡ nodesAnswer (scanNodes mode s steps first)
+  pub chained : nodesIn (uniqueTable words chains) ≡ scanNodes mode s steps first .passed
+  pub stored : Stored (scanNodes mode s steps first .passed) words₀ words
 
--- by its origin, the first place and both tables then: what is read so far at r, and where the walk stands
-abbrev pub SoFarAt : List ℕ → ℕ → List ℕ → List ℕ → NodesRead → ℕ × List ℕ × List ℕ → Type 0
-SoFarAt s steps step words r o = SoFar s (o .0) steps (o .1) (o .2) step words (r .place) (r .nodes)
+-- by its origin, the first place and the table then: what is read so far at r, and where the walk stands
+abbrev pub SoFarAt : Bool → List ℕ → ℕ → List ℕ → List ℕ → NodesRead → ℕ × List ℕ → Type 0
+SoFarAt mode s steps chains words r o = SoFar mode s (o .0) steps (o .1) chains words (r .place) (r .nodes)
 
-abbrev pub StandsAt : List ℕ → ℕ → List ℕ → List ℕ → NodesRead → ℕ × List ℕ × List ℕ → Type 0
-StandsAt s steps step words r o = Stands (r .going) (SoFarAt s steps step words r o) (Over s (o .0) steps (o .1) (o .2) step words r)
+abbrev pub StandsAt : Bool → List ℕ → ℕ → List ℕ → List ℕ → NodesRead → ℕ × List ℕ → Type 0
+StandsAt mode s steps chains words r o = Stands (r .going) (SoFarAt mode s steps chains words r o) (Over mode s (o .0) steps (o .1) chains words r)
+
+-- the walk is underway, whatever its origin
+abbrev pub Underway : Bool → List ℕ → ℕ → List ℕ → List ℕ → NodesRead → Type 0
+Underway mode s steps chains words r = (o : ℕ × List ℕ) × SoFarAt mode s steps chains words r o
 
 -- from t to r, by one field or by a run of them
-abbrev pub Takes : List ℕ → ℕ → NodesRead → List ℕ → List ℕ → List ℕ → List ℕ → NodesRead → Type 0
-Takes s steps t step words step′ words′ r = Turn s (t .place) (r .place) (r .going) (SoFarAt s steps step words t) (StandsAt s steps step′ words′ r)
+abbrev pub Takes : Bool → List ℕ → ℕ → NodesRead → List ℕ → List ℕ → List ℕ → List ℕ → NodesRead → Type 0
+Takes mode s steps t chains words chains′ words′ r =
+    Turn s (t .place) (r .place) (r .going) (SoFarAt mode s steps chains words t) (StandsAt mode s steps chains′ words′ r)

@@ -1,15 +1,15 @@
--- One law for each way out of `child_fits`, of `node_fault` and of `store_node`, with the tests of the code as premises.
+-- One law for each way out of `child_fits` and of `node_fault`, with the tests of the code as premises.
 use Prim.Native.Nat.{ℕ, _+_, _≤_, _<_}
-use mathlib.Core.Path.{_≡_, ap}
+use mathlib.Core.Path.{_≡_}
 use mathlib.Core.Bool.{Bool, true, false, not}
 use mathlib.Core.List.{List}
 use lib.Dec.{ltb}
-use lib.ListN.{getD, set}
+use lib.ListN.{getD}
 use Rattle.definitions.specs.Basics.{pick}
 use Rattle.definitions.specs.Fields.{two}
-use Rattle.definitions.specs.Diagrams.{childFits, nodeFault, innerNodeOf}
+use Rattle.definitions.specs.Diagrams.{childFits, nodeFault}
 use Rattle.theory.specs.Choices.{tests}
-use Rattle.diagram_fields.specs.Words.{wordOf}
+use Rattle.diagram_fields.specs.Words.{stepOf}
 
 module _ (stepAt : ℕ → ℕ) (own key child : ℕ) where
   pub child-past : own ≤ child → false ≡ childFits stepAt own key child
@@ -18,11 +18,11 @@ module _ (stepAt : ℕ → ℕ) (own key child : ℕ) where
   pub child-leaf : child < own → child < 2 → true ≡ childFits stepAt own key child
   child-leaf p q = simp tests
 
-pub child-inner : (step : List ℕ) (own key child : ℕ) → child < own → 2 ≤ child
-    → ltb key (getD step child 0) ≡ childFits (λ k. getD step k 0) own key child
-child-inner step own key child p q = simp tests
+pub child-inner : (words : List ℕ) (own key child : ℕ) → child < own → 2 ≤ child → (step : ℕ) → step ≡ stepOf (getD words child 0)
+    → ltb key step ≡ childFits (λ k. stepOf (getD words k 0)) own key child
+child-inner words own key child p q step e = rw (← e) (simp tests)
 
-pub ruleset child-value-laws = (child-past, child-leaf, child-inner)
+pub ruleset child-value-laws = (child-past, child-leaf)
 
 module _ (b : List ℕ) (steps : ℕ) (stepAt : ℕ → ℕ) (count : ℕ) where
   pub node-full : 510 ≤ count → 6 ≡ nodeFault steps stepAt count b
@@ -49,13 +49,3 @@ module _ (b : List ℕ) (steps : ℕ) (stepAt : ℕ → ℕ) (count : ℕ) where
         node-good p q n m = simp (← ek, ← el, ← eh, ← ev, ← ew, n, m, tests)
 
 pub ruleset node-value-laws = (node-full, node-step, node-lo, node-hi, node-good)
-
-module _ (b : List ℕ) (own key low high : ℕ) (ek : key ≡ two b 0) where
-  pub storing-step : (step : List ℕ) → set step own key ≡ set step own (two b 0)
-  storing-step step = ap (set step own) ek
-
-  pub storing-word : (words : List ℕ) (w : ℕ) → w ≡ wordOf (record { step = key; lo = low; hi = high }) → low ≡ two b 2 → high ≡ two b 4
-      → set words own w ≡ set words own (wordOf (innerNodeOf b))
-  storing-word words w ew el eh = ap (set words own) (rw (← ek, ← el, ← eh) ew)
-
-pub ruleset storing = (storing-step, storing-word)

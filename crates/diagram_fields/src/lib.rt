@@ -3,7 +3,7 @@ mod bodies;
 mod words;
 
 pub use bodies::node_fault;
-pub use bodies::store_node;
+pub use bodies::node_word;
 pub use words::hi_at;
 pub use words::hi_of;
 pub use words::leaf_word;

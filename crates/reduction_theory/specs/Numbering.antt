@@ -11,7 +11,7 @@ use lib.ListN.{length, getD, length-append, List·getD-append, List·getD-eq-def
 use lib.Seq.{getD-append-seam}
 use Rattle.definitions.specs.Basics.{pick}
 use Rattle.definitions.specs.Reductions.{member, position, postorder, ref, Tree, alike, no-leaf, yes-leaf, branch}
-use Rattle.theory.specs.Basics.{pick-true, pick-false, either, lt-or-le}
+use Rattle.theory.specs.Basics.{pick-true, pick-false, or-right, fails, either, lt-or-le}
 use Rattle.reduction_theory.specs.Trees.{Canon, clash, alike-equal, alike-self, canon-weaken}
 
 -- a tree has a reference among the nodes
@@ -19,11 +19,6 @@ unfoldable pub held : List Tree → Tree → Bool
 held acc no-leaf = true
 held acc yes-leaf = true
 held acc (branch v l h) = member (branch v l h) acc
-
--- a disjunction
-pub or-right : (a b : Bool) → b ≡ true → (a || b) ≡ true
-or-right true b e = refl
-or-right false b e = e
 
 or-true : (a b : Bool) → (a || b) ≡ true → (a ≡ true) ⊎ (b ≡ true)
 or-true true b e = inl refl
@@ -162,15 +157,11 @@ post-adds (branch v l h) u acc e =
         (λ m. either (ih m) (λ m′. either (il m′) inl (λ s. inr (in-lo s))) (λ s. inr (in-hi s)))
         (λ m. inr (subst (λ (x : Tree). Sub u x) (member-one u (branch v l h) m) whole))
 
-pub not-true : (b : Bool) → (b ≡ true → ⊥) → b ≡ false
-not-true true n = absurd (n refl)
-not-true false n = refl
-
 -- a node is not among what its children's walks add
 pub post-new : (v : ℕ) (l h : Tree) (acc : List Tree) → member (branch v l h) acc ≡ false → member (branch v l h) (postorder h (postorder l acc)) ≡ false
 unfolding weight
 post-new v l h acc n =
-    not-true _ (λ e.
+    fails _ (λ e.
     either (post-adds h (branch v l h) (postorder l acc) e)
     (λ m. either (post-adds l (branch v l h) acc m) (λ m′. clash (sym m′ ∙ n)) (λ s. absurd (omega (arith, sub-weight s))))
     (λ s. absurd (omega (arith, sub-weight s))))

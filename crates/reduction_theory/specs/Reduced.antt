@@ -14,10 +14,10 @@ use Rattle.definitions.specs.Basics.{pick, run, has}
 use Rattle.definitions.specs.Diagrams.{InnerNode, Diagram, noNode, size, inner}
 use Rattle.definitions.specs.Reductions.{member, position, postorder, ref, numbered, nodesOf, diagramOf, walk, Reduced, Arrives, at-root, at-lo, at-hi, Tree, alike, no-leaf, branch}
 use Rattle.theory.specs.Limits.{Ordered}
-use Rattle.theory.specs.Basics.{pick-true, pick-false, either, lt-or-le, length-map-run, getD-map-run}
+use Rattle.theory.specs.Basics.{or-right, pick-true, pick-false, either, lt-or-le, length-map-run, getD-map-run}
 use Rattle.theory.specs.Diagrams.{induction, descend-leaf, descend-inner}
 use Rattle.reduction_theory.specs.Trees.{leafTree, tree, reduction, Canon, clash, alike-same, apart-alike, mk-apart}
-use Rattle.reduction_theory.specs.Numbering.{or-right, treeAt-inner, branch-inj}
+use Rattle.reduction_theory.specs.Numbering.{treeAt-inner, branch-inj}
 use Rattle.reduction_theory.specs.Reduction.{leaf-not-branch, ref-leaf, tree-leaf, tree-inner, of-ordered, of-tree, of-rooted, of-unlike, of-forked, of-length, of-number}
 
 module _ (d : Diagram) (o : Ordered d) where

@@ -12,9 +12,9 @@ use Rattle.definitions.specs.Marked.{values, rules}
 use Rattle.space.specs.Space.{spaceNeeded}
 
 pub needed : spaceNeeded (readFiles (chartBytes values) (diagramBytes rules)) ≡ record { number = 0; file = 0; place = 0; work = 20; plan = 4 }
-unfolding pick only orRemark fieldAt firstField onField scan headFault stepFault readChart nodeFault readDiagram readFiles
+unfolding pick only orRemark fieldAt firstField onField scan headFault stepFault readChart nodeFault nodeFaultAfter padding readDiagram readFiles
 needed = refl
 
 pub needed-refused : spaceNeeded (readFiles (chartBytes values) (17 ∷ [])) ≡ record { number = 1; file = 2; place = 0; work = 0; plan = 0 }
-unfolding pick only orRemark fieldAt firstField onField scan headFault stepFault readChart nodeFault readDiagram readFiles
+unfolding pick only orRemark fieldAt firstField onField scan headFault stepFault readChart nodeFault nodeFaultAfter padding readDiagram readFiles
 needed-refused = refl

@@ -2,7 +2,7 @@
 -- Assumes nothing.
 use Prim.Native.Nat.{ℕ, zero, suc, _+_, _-_, _≤_, _<_, min, max}
 use mathlib.Core.Path.{_≡_, refl, sym, _∙_, ap}
-use mathlib.Core.Bool.{Bool, true, false, _&&_, cond, and-eq-true-iff}
+use mathlib.Core.Bool.{Bool, true, false, _&&_, _||_, cond, and-eq-true-iff}
 use mathlib.Core.List.{List, [], _∷_, _++_, map, List·Memᴰ, List·Memᴰ·head, List·Memᴰ·tail, List·Memᴰ·not-nil, List·Memᴰ·cases-cons, List·Memᴰ·append-cases, Memᴰ·append-left, Memᴰ·append-right}
 use mathlib.Core.Logic.{_⊎_, inl, inr}
 use mathlib.Core.Option.{Option, none, some}
@@ -12,7 +12,7 @@ use lib.Dec.{ltb}
 use lib.ListN.{length, getD, set, drop}
 use lib.Seq.{drop-set-lt, drop-drop}
 use borrow.Author.Tests.{ltb-true, ltb-false}
-use Rattle.definitions.specs.Basics.{pick, smaller, larger, sumOf, keep, each, run, upto, least}
+use Rattle.definitions.specs.Basics.{pick, smaller, larger, sumOf, keep, any, each, run, upto, least}
 
 -- ---- tests
 
@@ -33,6 +33,19 @@ pick-cases false x y z e = inr (refl, e)
 
 pub both : (a b : Bool) → (a && b) ≡ true → (a ≡ true) × (b ≡ true)
 both a b = and-eq-true-iff a b .0
+
+pub or-right : (a b : Bool) → b ≡ true → (a || b) ≡ true
+or-right true b e = refl
+or-right false b e = e
+
+pub neither : (a b : Bool) → (a || b) ≡ false → (a ≡ false) × (b ≡ false)
+neither true b e = absurd (let z : _≡_ {A = ℕ} 0 1 = cc in omega arith)
+neither false b e = (refl, e)
+
+-- a test that does not pass
+pub fails : (b : Bool) → (b ≡ true → ⊥) → b ≡ false
+fails true f = absurd (f refl)
+fails false f = refl
 
 pub true-not-false : true ≡ false → ⊥
 true-not-false e = let z : _≡_ {A = ℕ} 0 1 = cc in omega arith
@@ -262,3 +275,18 @@ pub least-in : (xs : List ℕ) {m : ℕ} → least xs ≡ some m → List·Mem�
 least-in [] e = absurd (none-not-some _ e)
 least-in (y ∷ ys) {m} e =
     either (smaller-cases (some y) (least ys) m e) (λ q. List·Memᴰ·head (some-inj m y (sym q))) (λ q. List·Memᴰ·tail (least-in ys q))
+
+-- ---- some member passes a test, by its place
+
+module _ {A : Type 0} (p : A → Bool) (z : A) where
+  pub any-at : (xs : List A) (i : ℕ) → i < length xs → p (getD xs i z) ≡ true → any p xs ≡ true
+  any-at [] i h e = absurd (omega arith)
+  any-at (x ∷ xs) zero h e = rw e
+  any-at (x ∷ xs) (suc i) h e = or-right (p x) (any p xs) (any-at xs i (omega arith) e)
+
+  pub any-not : (xs : List A) → any p xs ≡ false → (i : ℕ) → i < length xs → p (getD xs i z) ≡ true → ⊥
+  any-not xs e i h t = true-not-false (sym (any-at xs i h t) ∙ e)
+
+  pub any-none : (xs : List A) → ((i : ℕ) → i < length xs → p (getD xs i z) ≡ true → ⊥) → any p xs ≡ false
+  any-none [] n = refl
+  any-none (x ∷ xs) n = let first : p x ≡ false = fails (p x) (n 0 (omega arith)) in rw first (any-none xs (λ i h. n (suc i) (omega arith)))

@@ -3,6 +3,7 @@ pub mod Basics
 pub mod Choices
 pub mod Packing
 pub mod Diagrams
+pub mod Padding
 pub mod Least
 pub mod Ways
 pub mod Pairs

@@ -45,3 +45,8 @@ pub record Sound (steps : ℕ) (d : Diagram) : Type 0 where
   pub exist : (n : ℕ) → 2 ≤ n → n < size d → inner d n .step < steps
   pub few : length (d .nodes) ≤ 510
   pub root-inside : d .root < size d
+
+-- of a diagram without padding, as every one is that is read strictly: no two inner nodes are alike, and none has lo equal to hi
+pub record Unpadded (d : Diagram) : Type 0 where
+  pub unlike : (m n : ℕ) → 2 ≤ m → m < size d → 2 ≤ n → n < size d → inner d m ≡ inner d n → m ≡ n
+  pub forked : (n : ℕ) → 2 ≤ n → n < size d → inner d n .lo ≡ inner d n .hi → ⊥

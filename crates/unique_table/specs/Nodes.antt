@@ -7,9 +7,9 @@ use lib.ListN.{length, getD}
 use Rattle.definitions.specs.Diagrams.{noNode}
 use Rattle.theory.specs.Basics.{length-map-run, getD-map-upto}
 use Rattle.diagram_fields.specs.Words.{unpacked}
-use Rattle.unique_table.specs.Tables.{nodeAt, countIn, nodesIn}
+use Rattle.unique_table.specs.Tables.{UniqueTable, nodeAt, countIn, nodesIn}
 
-module _ (t : List ℕ) where
+module _ (t : UniqueTable) where
   pub nodes-long : length (nodesIn t) ≡ countIn t
   unfolding nodesIn
   nodes-long = length-map-run (λ (i : ℕ). unpacked (nodeAt t (i + 2))) 0 (countIn t)

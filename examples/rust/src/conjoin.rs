@@ -12,7 +12,7 @@ mod files;
 use std::ffi::OsString;
 use std::process::ExitCode;
 
-use files::{finish, read_file, show_field, PROGRAM};
+use files::{read_file, refuse, write_file, PROGRAM};
 
 fn main() -> ExitCode {
     let args: Vec<OsString> = std::env::args_os().skip(1).collect();
@@ -22,18 +22,7 @@ fn main() -> ExitCode {
     };
     let [chart, rules, more] = [chart, rules, more].map(|path| read_file(path));
     match planner::conjoin(&chart, &rules, &more) {
-        Ok(file) => match std::fs::write(out, file) {
-            Ok(()) => ExitCode::SUCCESS,
-            Err(error) => {
-                eprintln!("{PROGRAM}: {}: {error}", out.to_string_lossy());
-                ExitCode::from(2)
-            }
-        },
-        Err(refusal) => {
-            if refusal.field_place().is_some() {
-                show_field(refusal.field_of_three(&chart, &rules, &more));
-            }
-            finish(&format!("{refusal}\n"), 1)
-        }
+        Ok(file) => write_file(out, &file),
+        Err(refusal) => refuse(&refusal, refusal.field_of_three(&chart, &rules, &more), 1),
     }
 }

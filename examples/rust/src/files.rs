@@ -1,8 +1,10 @@
-//! What the examples share: whole files, refused fields, output.
+//! What the examples share: whole files, refusals, output.
 
 use std::ffi::OsStr;
 use std::io::{self, Write};
 use std::process::ExitCode;
+
+use planner::Refusal;
 
 /// The program's name, for its messages.
 pub const PROGRAM: &str = env!("CARGO_BIN_NAME");
@@ -12,8 +14,29 @@ pub fn read_file(path: &OsStr) -> Vec<u8> {
     std::fs::read(path).unwrap_or_default()
 }
 
+/// Writes a whole file. The exit status: 0, or 2 where it can't be written.
+#[allow(dead_code)] // plan-rust writes none.
+pub fn write_file(path: &OsStr, bytes: &[u8]) -> ExitCode {
+    match std::fs::write(path, bytes) {
+        Ok(()) => ExitCode::SUCCESS,
+        Err(error) => {
+            eprintln!("{PROGRAM}: {}: {error}", path.to_string_lossy());
+            ExitCode::from(2)
+        }
+    }
+}
+
+/// Prints a refusal and, where a file is at fault, the bytes of its field. The exit status as of
+/// [`finish`].
+pub fn refuse(refusal: &Refusal, field: &[u8], status: u8) -> ExitCode {
+    if refusal.field_place().is_some() {
+        show_field(field);
+    }
+    finish(&format!("{refusal}\n"), status)
+}
+
 /// The first bytes of a refused field, to standard error.
-pub fn show_field(field: &[u8]) {
+fn show_field(field: &[u8]) {
     let bytes: String = field.iter().take(32).map(|byte| format!(" {byte:02x}")).collect();
     eprintln!("field{bytes}{}", if field.len() > 32 { " .." } else { "" });
 }

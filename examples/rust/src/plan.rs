@@ -15,7 +15,7 @@ use std::process::ExitCode;
 
 use planner::Plan;
 
-use files::{finish, read_file, show_field, PROGRAM};
+use files::{finish, read_file, refuse, PROGRAM};
 
 fn main() -> ExitCode {
     let args: Vec<OsString> = std::env::args_os().skip(1).collect();
@@ -28,16 +28,10 @@ fn main() -> ExitCode {
         }
     };
     let (chart, rules) = (read_file(chart), read_file(rules));
-    let text = match planner::plan(&chart, &rules) {
-        Ok(plan) => lines(&plan),
-        Err(refusal) => {
-            if refusal.field_place().is_some() {
-                show_field(refusal.field(&chart, &rules));
-            }
-            format!("{refusal}\n")
-        }
-    };
-    finish(&text, 0)
+    match planner::plan(&chart, &rules) {
+        Ok(plan) => finish(&lines(&plan), 0),
+        Err(refusal) => refuse(&refusal, refusal.field(&chart, &rules), 0),
+    }
 }
 
 /// A plan's cost, its steps and both counts.

@@ -28,41 +28,38 @@ mul-head c = search needs
 element-copy-out-head : tie.Need-element-copy-out-head
 element-copy-out-head c = search needs
 
-mul-table : tie.Need-mul-table
-mul-table c = search needs
+mul-nodes : tie.Need-mul-nodes
+mul-nodes c = search needs
 
-element-write-table : tie.Need-element-write-table
-element-write-table c = search needs
+element-write-nodes : tie.Need-element-write-nodes
+element-write-nodes c = search needs
 
-add-table : tie.Need-add-table
-add-table c = search needs
+mul-chains : tie.Need-mul-chains
+mul-chains c = search needs
 
-mul-table-2 : tie.Need-mul-table-2
-mul-table-2 c = search needs
+element-write-chains : tie.Need-element-write-chains
+element-write-chains c = search needs
 
-element-write-table-2 : tie.Need-element-write-table-2
-element-write-table-2 c = search needs
+cast-chains : tie.Need-cast-chains
+cast-chains c = search needs
 
-cast-table : tie.Need-cast-table
-cast-table c = search needs
+add-chains : tie.Need-add-chains
+add-chains c = search needs
 
-add-table-2 : tie.Need-add-table-2
-add-table-2 c = search needs
+mul-chains-2 : tie.Need-mul-chains-2
+mul-chains-2 c = search needs
 
-mul-table-3 : tie.Need-mul-table-3
-mul-table-3 c = search needs
+element-write-chains-2 : tie.Need-element-write-chains-2
+element-write-chains-2 c = search needs
 
-element-write-table-3 : tie.Need-element-write-table-3
-element-write-table-3 c = search needs
+sub-chains : tie.Need-sub-chains
+sub-chains c = search needs
 
-sub-table : tie.Need-sub-table
-sub-table c = search needs
+cast-chains-2 : tie.Need-cast-chains-2
+cast-chains-2 c = search needs
 
-cast-table-2 : tie.Need-cast-table-2
-cast-table-2 c = search needs
-
-element-write-table-4 : tie.Need-element-write-table-4
-element-write-table-4 c = search needs
+element-write-chains-3 : tie.Need-element-write-chains-3
+element-write-chains-3 c = search needs
 
 returns : tie.Need-returns
 returns c = search stored-adds
@@ -78,16 +75,15 @@ add-spec =
     add-head
     mul-head
     element-copy-out-head
-    mul-table
-    element-write-table
-    add-table
-    mul-table-2
-    element-write-table-2
-    cast-table
-    add-table-2
-    mul-table-3
-    element-write-table-3
-    sub-table
-    cast-table-2
-    element-write-table-4
+    mul-nodes
+    element-write-nodes
+    mul-chains
+    element-write-chains
+    cast-chains
+    add-chains
+    mul-chains-2
+    element-write-chains-2
+    sub-chains
+    cast-chains-2
+    element-write-chains-3
     returns)

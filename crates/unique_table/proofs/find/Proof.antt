@@ -1,7 +1,7 @@
 -- `unique_table::find` meets its contract.
 use native.Mathlib.Omega.{arith}
-use Rattle.unique_table.specs.Chains.{Seeking, seeking-laws}
-use Rattle.unique_table.specs.Tables.{Table}
+use Rattle.unique_table.specs.Chains.{Seeking, seeking-falls, seeking-laws}
+use Rattle.unique_table.specs.Tables.{uniqueTable, Table}
 use borrow.Author.Needs.{needs}
 use Rattle.unique_table.proofs.find.Statement.{statement}
 use Rattle.unique_table.proofs.find.Tie as tie
@@ -10,10 +10,10 @@ use Rattle.unique_table.proofs.find.Lts as lts
 use Rattle.unique_table.proofs.chain.Reads as chain-reads
 
 abbrev Inv-loop : tie.InvT-loop
-Inv-loop table w first m₀ m = Table table × Seeking table w m
+Inv-loop nodes chains w first m₀ m = Table (uniqueTable nodes chains) × Seeking (uniqueTable nodes chains) w m
 
 abbrev μ-loop : tie.MeasureT-loop
-μ-loop table w first m₀ m = m
+μ-loop nodes chains w first m₀ m = m
 
 chain-requires : tie.Need-chain-requires Inv-loop μ-loop
 chain-requires c κs = search needs
@@ -45,9 +45,6 @@ element-copy-out-if1 c = search needs
 returns : tie.Need-returns Inv-loop μ-loop
 returns c = search seeking-laws
 
-add-m : tie.Need-add-m Inv-loop μ-loop
-add-m c = search needs
-
 mul-m-2 : tie.Need-mul-m-2 Inv-loop μ-loop
 mul-m-2 c = search needs
 
@@ -61,7 +58,10 @@ cast-m-2 c =
     omega (arith, head .loop .inv .0 .next-below (head .loop .m) (turn .loop-test .taken) (head .loop .inv .1 .inside), head .loop .inv .0 .few, head .loop .inv .1 .inside)
 
 loop-less : tie.Need-loop-less Inv-loop μ-loop
-loop-less c = search seeking-laws
+loop-less c =
+    let head : tie.At-loop Inv-loop μ-loop = search in
+    let turn : tie.In-loop Inv-loop μ-loop = search in
+    seeking-falls _ (head .loop .inv .0) _ _ (head .loop .inv .1) (turn .loop-test .taken)
 
 loop-again : tie.Need-loop-again Inv-loop μ-loop
 loop-again c = (search needs, search seeking-laws)
@@ -84,7 +84,6 @@ find-spec =
     mul-if1
     element-copy-out-if1
     returns
-    add-m
     mul-m-2
     element-copy-out-m-2
     cast-m-2

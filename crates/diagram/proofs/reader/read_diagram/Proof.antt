@@ -1,6 +1,6 @@
 -- `diagram::read_diagram` meets its contract.
 use Rattle.fields.specs.First.{first-laws}
-use Rattle.diagram.proofs.Whole.{whole-laws}
+use Rattle.diagram.proofs.Whole.{whole-fresh, whole-laws}
 use borrow.Author.Needs.{needs}
 use Rattle.diagram.proofs.reader.read_diagram.Statement.{statement}
 use Rattle.diagram.proofs.reader.read_diagram.Tie as tie
@@ -51,7 +51,7 @@ read-u16-requires : tie.Need-read-u16-requires
 read-u16-requires c κs = search whole-laws
 
 read-nodes-requires : tie.Need-read-nodes-requires
-read-nodes-requires c κs = search needs
+read-nodes-requires c κs = search whole-fresh
 
 returns : tie.Need-returns
 returns c = search whole-laws

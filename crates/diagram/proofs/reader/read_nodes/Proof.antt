@@ -29,8 +29,8 @@ use sound.WpLaws.{FmC, fmOf, WpFn-mono}
 use denote.RattleType.{RattleType, owns}
 use denote.Array.{Array}
 use denote.Laws.{Is, shows}
-use denote.Plain.{uint-makes, uint-vals, uint-tells}
-use denote.Builtin.{u8, u16, u32, usize}
+use denote.Plain.{uint-makes, uint-vals, uint-tells, bool-makes, bool-vals, bool-tells}
+use denote.Builtin.{u8, u16, u32, usize, bool}
 use denote.Ref.{RefT, NamedLft, MutRef, now, ptr-vals, mut-tells}
 use denote.Slice.{sliceTy, ShrSlice, slice-vals, shr-slice-tells, shr-slice-lawful, shr-slice-copy}
 use denote.Lend.{LentAgain, lends-again, comes-back}
@@ -43,14 +43,14 @@ use denote.Triple.Statement.{Contract, Triple}
 use denote.Triple.Call.{calls-at, calls-at-last}
 use denote.Triple.Clauses.{ensured, lasts}
 use denote.Triple.Table.{entered, cited}
-use denote.Triple.Walked.{says, Stays, stay-none, stay-none-slice, stay-ref, walkOf, goes-none, goes-none-slice, goes-ref, Walks, ends-at, walked, walk-meets}
+use denote.Triple.Walked.{says, needs, Stays, stay-none, stay-none-slice, stay-ref, walkOf, goes-none, goes-none-slice, goes-ref, Walks, ends-at, walked, walk-meets}
 use denote.Exit.{yes}
 use denote.Signature.{plain, namedLft}
 use Rattle.definitions.specs.Fields.{only, orRemark, fieldAt}
 use Rattle.definitions.specs.declared.Field.{Field}
 use Rattle.fields.specs.declared.reader.Reader.{Reader}
 use Rattle.diagram.specs.declared.reader.NodesRead.{NodesRead}
-use Rattle.diagram.specs.Turns.{Over, StandsAt, Takes}
+use Rattle.diagram.specs.Turns.{Fresh, Over, StandsAt, Underway, Takes}
 use Rattle.fields.specs.Scans.{leftOf}
 use Rattle.fields.specs.Turns.{stands-on, turn-less}
 use Rattle.fields.proofs.Calls.{B, fileVal, fileOwn, New, Moved, Next, to-new, goes-new, new-said, to-moved, goes-moved, moved-said, to-next, goes-next, next-said}
@@ -83,9 +83,9 @@ use Rattle.diagram.proofs.reader.read_nodes.Statement as stated
 use Rattle.diagram.proofs.reader.read_nodes.Code as code
 use Rattle.diagram.proofs.reader.read_nodes.Code.Mir as mir-of
 
--- the types of the two tables, of the steps and of the nodes, and the answer's
-abbrev TS : RattleType
-TS = Array u16 512
+-- the types of the chains and of the table of nodes, and the answer's
+abbrev TC : RattleType
+TC = Array u16 1024
 
 abbrev TN : RattleType
 TN = Array u32 512
@@ -94,21 +94,21 @@ abbrev SR : RattleType
 SR = R.the-row
 
 abbrev stayed : Stays (reads.ended .signature .params) (reads.ended .kept)
-stayed = (stay-none-slice (0 ∷ []) tt (plain (λ _. u8)) yes, (stay-none (λ _. usize) yes, (stay-none (λ _. usize) yes, (stay-ref (1 ∷ []) tt (plain (λ _. TS)), (stay-ref (2 ∷ []) tt (plain (λ _. TN)), tt)))))
+stayed = (stay-none-slice (0 ∷ []) tt (plain (λ _. u8)) yes, (stay-none (λ _. usize) yes, (stay-none (λ _. usize) yes, (stay-none (λ _. bool) yes, (stay-ref (1 ∷ []) tt (plain (λ _. TC)), (stay-ref (2 ∷ []) tt (plain (λ _. TN)), tt))))))
 
 -- the MIR types of the file and of the tables
 abbrev fileTy : Ty
 fileTy = sliceTy (tyRef (named 0) imm (tyInt w8))
 
-abbrev stepsTy : Ty
-stepsTy = tyArray (tyInt w16) 512
+abbrev chainsTy : Ty
+chainsTy = tyArray (tyInt w16) 1024
 
 abbrev nodesTy : Ty
 nodesTy = tyArray (tyInt w32) 512
 
 -- the code after the loop
 abbrev rest : Body
-rest = seq (assign (place 0 []) (rvOpd (copy (place 7 [])))) return
+rest = seq (assign (place 0 []) (rvOpd (copy (place 8 [])))) return
 
 module _ {M : Type 1} (𝓤 : URA M) (H : Heap 𝓤) (A : Atoms 𝓤) (mem : Memory → SProp 𝓤) (run : Routine → Fun 𝓤) where
   -- the contract of a turn
@@ -124,7 +124,7 @@ lowered-is : (r : NodesRead) (w : Val) → Is SR r (w ∷ []) → w ≡ R′.low
 lowered-is r w p = ap only-one (R′.lowers .val-is r (w ∷ []) p)
 
 module _ {M : Type 1} (𝓤 : URA M) (H : Heap 𝓤) (A : Atoms 𝓤) (W : Given 𝓤 H A) (mem : Memory → SProp 𝓤) (run : Routine → Fun 𝓤) (κ κ₁ κ₂ : Lft) (q q₁ q₂ : Share) (s : RefT (List ℕ))
-    (start steps : ℕ) (start-fits : start < 2 ^ 64) (steps-fits : steps < 2 ^ 64) (b₁ o₁ : ℕ) (γ₁ : GName) (us₁ : List ℕ) (b₂ o₂ : ℕ) (γ₂ : GName) (us₂ : List ℕ) where
+    (start steps : ℕ) (start-fits : start < 2 ^ 64) (steps-fits : steps < 2 ^ 64) (mode : Bool) (b₁ o₁ : ℕ) (γ₁ : GName) (us₁ : List ℕ) (b₂ o₂ : ℕ) (γ₂ : GName) (us₂ : List ℕ) (fresh : Fresh steps us₁ us₂) where
   -- the machine value of the file
   abbrev v : Val
   v = fileVal s
@@ -141,13 +141,13 @@ module _ {M : Type 1} (𝓤 : URA M) (H : Heap 𝓤) (A : Atoms 𝓤) (W : Given
   αᵉ = record { mir = erased; lft = κ }
 
   abbrev Arg : Type 0
-  Arg = RefT (List ℕ) × (ℕ × (ℕ × (RefT (List ℕ) × (RefT (List ℕ) × Unit {0}))))
+  Arg = RefT (List ℕ) × (ℕ × (ℕ × (Bool × (RefT (List ℕ) × (RefT (List ℕ) × Unit {0})))))
 
   abbrev a : Arg
-  a = (s, (start, (steps, (x₁ γ₁ us₁, (x₂ γ₂ us₂, tt)))))
+  a = (s, (start, (steps, (mode, (x₁ γ₁ us₁, (x₂ γ₂ us₂, tt))))))
 
-  abbrev vals : List Val × (List Val × (List Val × (List Val × (List Val × Unit {0}))))
-  vals = (v ∷ [], (vint w64 start ∷ [], (vint w64 steps ∷ [], (vptr b₁ o₁ ∷ [], (vptr b₂ o₂ ∷ [], tt)))))
+  abbrev vals : List Val × (List Val × (List Val × (List Val × (List Val × (List Val × Unit {0})))))
+  vals = (v ∷ [], (vint w64 start ∷ [], (vint w64 steps ∷ [], (vbool mode ∷ [], (vptr b₁ o₁ ∷ [], (vptr b₂ o₂ ∷ [], tt))))))
 
   abbrev Post : Val → SProp 𝓤
   Post = walkOf 𝓤 H A reads.ended stayed (reads.clauses 𝓤 H A mem run) .post (((κ, (κ₁, (κ₂, tt))), (q, (q₁, (q₂, tt))), tt, a, vals), tt)
@@ -157,36 +157,36 @@ module _ {M : Type 1} (𝓤 : URA M) (H : Heap 𝓤) (A : Atoms 𝓤) (W : Given
 
   -- the tables' borrows for a lifetime
   abbrev Own₁ : Lft → GName → List ℕ → Fml
-  Own₁ κ′ δ l = MutRef (named 1) κ′ TS .own (x₁ δ l) (vptr b₁ o₁ ∷ [])
+  Own₁ κ′ δ l = MutRef (named 1) κ′ TC .own (x₁ δ l) (vptr b₁ o₁ ∷ [])
 
   abbrev Own₂ : Lft → GName → List ℕ → Fml
   Own₂ κ′ δ l = MutRef (named 2) κ′ TN .own (x₂ δ l) (vptr b₂ o₂ ∷ [])
 
   -- the call of `take_nodes`: the field f, what is read so far, t, and the tables lent again for the lifetimes ν₁ and ν₂, under the names δ₁ and δ₂
-  abbrev with-take : GName → GName → Field → NodesRead → List ℕ → List ℕ → RefT (List ℕ) × (Field × (NodesRead × (ℕ × (RefT (List ℕ) × (RefT (List ℕ) × Unit {0})))))
-  with-take δ₁ δ₂ f t vs ws = (s, (f, (t, (steps, (x₁ δ₁ vs, (x₂ δ₂ ws, tt))))))
+  abbrev with-take : GName → GName → Field → NodesRead → List ℕ → List ℕ → RefT (List ℕ) × (Field × (NodesRead × (ℕ × (Bool × (RefT (List ℕ) × (RefT (List ℕ) × Unit {0}))))))
+  with-take δ₁ δ₂ f t vs ws = (s, (f, (t, (steps, (mode, (x₁ δ₁ vs, (x₂ δ₂ ws, tt)))))))
 
-  abbrev vals-take : Val → NodesRead → List Val × (List Val × (List Val × (List Val × (List Val × (List Val × Unit {0})))))
-  vals-take u t = (v ∷ [], (u ∷ [], (R′.lowered t ∷ [], (vint w64 steps ∷ [], (vptr b₁ o₁ ∷ [], (vptr b₂ o₂ ∷ [], tt))))))
+  abbrev vals-take : Val → NodesRead → List Val × (List Val × (List Val × (List Val × (List Val × (List Val × (List Val × Unit {0}))))))
+  vals-take u t = (v ∷ [], (u ∷ [], (R′.lowered t ∷ [], (vint w64 steps ∷ [], (vbool mode ∷ [], (vptr b₁ o₁ ∷ [], (vptr b₂ o₂ ∷ [], tt)))))))
 
   abbrev to-take : ℕ → ℕ → GName → GName → Field → Val → NodesRead → List ℕ → List ℕ → Take 𝓤 H A mem run .Ghost
   to-take ν₁ ν₂ δ₁ δ₂ f u t vs ws = (((κ, (ν₁ ∷ [], (ν₂ ∷ [], tt))), (q, (fullShare, (fullShare, tt))), tt, with-take δ₁ δ₂ f t vs ws, vals-take u t), tt)
 
-  asked-take : (ν₁ ν₂ : ℕ) (δ₁ δ₂ : GName) (f : Field) (u : Val) (t : NodesRead) (vs ws : List ℕ) → f ≡ fieldAt (now s) (t .place) (orRemark (only 18 6))
+  asked-take : (ν₁ ν₂ : ℕ) (δ₁ δ₂ : GName) (f : Field) (u : Val) (t : NodesRead) (vs ws : List ℕ) → f ≡ fieldAt (now s) (t .place) (orRemark (only 18 6)) → Underway mode (now s) steps vs ws t
       → ent 𝓤 (onEntry 𝓤 H A take.signature (κ, (ν₁ ∷ [], (ν₂ ∷ [], tt))) (q, (fullShare, (fullShare, tt))) (with-take δ₁ δ₂ f t vs ws) (vals-take u t)) (Take 𝓤 H A mem run .pre (to-take ν₁ ν₂ δ₁ δ₂ f u t vs ws))
-  asked-take ν₁ ν₂ δ₁ δ₂ f u t vs ws found =
+  asked-take ν₁ ν₂ δ₁ δ₂ f u t vs ws found sofar =
       qed W ((‵ (flft κ q) ⊛ ‵ (flft (ν₁ ∷ []) fullShare) ⊛ ‵ (flft (ν₂ ∷ []) fullShare) ⊛ ‵ ftrue)
-      ∷ ‵ (owns (ShrSlice (named 0) κ u8 ∷ S.the-row ∷ SR ∷ usize ∷ MutRef (named 1) (ν₁ ∷ []) TS ∷ MutRef (named 2) (ν₂ ∷ []) TN ∷ []) (with-take δ₁ δ₂ f t vs ws) (vals-take u t)) ∷ []) ∵
-      says ! found $ frame ! $ done !
+      ∷ ‵ (owns (ShrSlice (named 0) κ u8 ∷ S.the-row ∷ SR ∷ usize ∷ bool ∷ MutRef (named 1) (ν₁ ∷ []) TC ∷ MutRef (named 2) (ν₂ ∷ []) TN ∷ []) (with-take δ₁ δ₂ f t vs ws) (vals-take u t)) ∷ []) ∵
+      says ! (found, sofar) $ frame ! $ done !
 
-  exits : (t : NodesRead) (vs ws : List ℕ) → Is SR t (R′.lowered t ∷ []) → Over (now s) start steps us₁ us₂ vs ws t
+  exits : (t : NodesRead) (vs ws : List ℕ) → Is SR t (R′.lowered t ∷ []) → Over mode (now s) start steps us₂ vs ws t
       → ent 𝓤 (⋆ 𝓤 H A ((‵ (flft κ q) ⊛ ‵ ftrue) ∷ ‵ Own ∷ ‵ (Own₁ κ₁ γ₁ vs) ∷ ‵ (flft κ₁ q₁) ∷ ‵ (Own₂ κ₂ γ₂ ws) ∷ ‵ (flft κ₂ q₂) ∷ [])) (Post (R′.lowered t))
   exits t vs ws is over =
       qed W ((‵ (flft κ q) ⊛ ‵ ftrue) ∷ ‵ Own ∷ ‵ (Own₁ κ₁ γ₁ vs) ∷ ‵ (flft κ₁ q₁) ∷ ‵ (Own₂ κ₂ γ₂ ws) ∷ ‵ (flft κ₂ q₂) ∷ []) ∵
       suffices ! _ (ends-at 𝓤 H A reads.ended stayed (reads.clauses 𝓤 H A mem run) W (((κ, (κ₁, (κ₂, tt))), (q, (q₁, (q₂, tt))), tt, a, vals), tt) (R′.lowered t) t
-      (tt, (tt, (tt, (vs, (ws, tt))))) (tt, (tt, (tt, (tt, (tt, tt)))))) $ says ! over $
+      (tt, (tt, (tt, (tt, (vs, (ws, tt)))))) (tt, (tt, (tt, (tt, (tt, (tt, tt))))))) $ says ! over $
       split ! $ move ! (6 ∷ 1 ∷ []) $ join ! $ move ! (4 ∷ 0 ∷ []) $ join ! $ move ! (1 ∷ 0 ∷ []) $ join ! $ frame ! $
-      nothing ! $ move ! (3 ∷ 0 ∷ []) $ fjoin ! $ move ! (2 ∷ 0 ∷ []) $ fjoin ! $ owned ! usize (Is usize) (uint-makes 𝓤 H A W w64) steps _ (refl, steps-fits) $ fjoin ! $
+      nothing ! $ move ! (3 ∷ 0 ∷ []) $ fjoin ! $ move ! (2 ∷ 0 ∷ []) $ fjoin ! $ owned ! bool (Is bool) (bool-makes 𝓤 H A W) mode _ refl $ fjoin ! $ owned ! usize (Is usize) (uint-makes 𝓤 H A W w64) steps _ (refl, steps-fits) $ fjoin ! $
       owned ! usize (Is usize) (uint-makes 𝓤 H A W w64) start _ (refl, start-fits) $ fjoin ! $ move ! (1 ∷ 0 ∷ []) $ fjoin ! $ frame ! $
       owned ! SR (Is SR) ((LL.makes R.the-type R′.the-plain) 𝓤 H A) t _ is $ done !
 
@@ -198,7 +198,7 @@ module _ {M : Type 1} (𝓤 : URA M) (H : Heap 𝓤) (A : Atoms 𝓤) (W : Given
 
   -- what the loop carries: the reader and its machine value, what is read so far, and the tables
   abbrev State : Type 0
-  State = (d : Reader) × (u : Val) × (t : NodesRead) × (vs : List ℕ) × (ws : List ℕ) × Is (B (κ, tt)) d (u ∷ []) × Is SR t (R′.lowered t ∷ []) × (d .src ≡ s) × (d .at ≡ t .place) × StandsAt (now s) steps vs ws t (start, us₁, us₂)
+  State = (d : Reader) × (u : Val) × (t : NodesRead) × (vs : List ℕ) × (ws : List ℕ) × Is (B (κ, tt)) d (u ∷ []) × Is SR t (R′.lowered t ∷ []) × (d .src ≡ s) × (d .at ≡ t .place) × StandsAt mode (now s) steps vs ws t (start, us₂)
 
   abbrev left : State → ℕ
   left z = leftOf (z .2 .going) (length (now s) - z .2 .place)
@@ -216,7 +216,7 @@ module _ {M : Type 1} (𝓤 : URA M) (H : Heap 𝓤) (A : Atoms 𝓤) (W : Given
   begun-is = LL.owes R.the-type R′.the-laws begun ((refl, lit< tt), ((refl, start-fits), ((refl, lit< tt), (refl, tt))))
 
   module _ (𝓣 : Tables 𝓤 H) (known-new : Triple 𝓤 (𝓣 .C #fields·reader·new) (New 𝓤 H A mem run)) (known-next : Triple 𝓤 (𝓣 .C #fields·reader·next) (Next 𝓤 H A mem run)) (known-moved : Triple 𝓤 (𝓣 .C #fields·reader·moved) (Moved 𝓤 H A mem run))
-      (known-take : Triple 𝓤 (𝓣 .C #diagram·reader·take-nodes) (Take 𝓤 H A mem run)) (l₀ l₁ l₂ l₃ l₄ l₅ l₆ l₇ l₈ l₉ l₁₀ l₁₁ l₁₂ l₁₃ l₁₄ : ℕ) where
+      (known-take : Triple 𝓤 (𝓣 .C #diagram·reader·take-nodes) (Take 𝓤 H A mem run)) (l₀ l₁ l₂ l₃ l₄ l₅ l₆ l₇ l₈ l₉ l₁₀ l₁₁ l₁₂ l₁₃ l₁₄ l₁₅ : ℕ) where
     abbrev C : Calls 𝓤 H
     C = 𝓣 .C
 
@@ -227,17 +227,17 @@ module _ {M : Type 1} (𝓤 : URA M) (H : Heap 𝓤) (A : Atoms 𝓤) (W : Given
     fm = fmOf 𝓤 H (W .laws) 𝓣
 
     abbrev En : Env 𝓤 H
-    En = (R′.mir, l₀) ∷ (fileTy, l₁) ∷ (tyInt w64, l₂) ∷ (tyInt w64, l₃) ∷ (tyRef (named 1) mut stepsTy, l₄) ∷ (tyRef (named 2) mut nodesTy, l₅) ∷ (T′.mir erased, l₆) ∷ (R′.mir, l₇) ∷ (S′.mir, l₈) ∷ (T′.mir erased, l₉) ∷ (tyBool, l₁₀) ∷ (T′.mir erased, l₁₁)
-        ∷ (tyRef erased mut stepsTy, l₁₂) ∷ (tyRef erased mut nodesTy, l₁₃) ∷ (T′.mir erased, l₁₄) ∷ []
+    En = (R′.mir, l₀) ∷ (fileTy, l₁) ∷ (tyInt w64, l₂) ∷ (tyInt w64, l₃) ∷ (tyBool, l₄) ∷ (tyRef (named 1) mut chainsTy, l₅) ∷ (tyRef (named 2) mut nodesTy, l₆) ∷ (T′.mir erased, l₇) ∷ (R′.mir, l₈) ∷ (S′.mir, l₉) ∷ (T′.mir erased, l₁₀) ∷ (tyBool, l₁₁) ∷ (T′.mir erased, l₁₂)
+        ∷ (tyRef erased mut chainsTy, l₁₃) ∷ (tyRef erased mut nodesTy, l₁₄) ∷ (T′.mir erased, l₁₅) ∷ []
 
     -- the loop's invariant: what the reader owns, its token, what the file owns, the tables' borrows and their tokens, and the locals
     abbrev held : Reader → Val → NodesRead → List ℕ → List ℕ → List (Item 𝓤)
     held d u t vs ws = ‵ (B (κ, tt) .own d (u ∷ [])) ∷ (‵ (flft κ q) ⊛ ‵ ftrue) ∷ ‵ Own ∷ ‵ (Own₁ κ₁ γ₁ vs) ∷ ‵ (flft κ₁ q₁) ∷ ‵ (Own₂ κ₂ γ₂ ws) ∷ ‵ (flft κ₂ q₂)
-        ∷ ‵ (froom (T′.mir erased) l₁₄ 0) ∷ ‵ (fdies (T′.mir erased) l₁₄) ∷ ‵ (froom (tyRef erased mut nodesTy) l₁₃ 0) ∷ ‵ (fdies (tyRef erased mut nodesTy) l₁₃) ∷ ‵ (froom (tyRef erased mut stepsTy) l₁₂ 0) ∷ ‵ (fdies (tyRef erased mut stepsTy) l₁₂)
-        ∷ ‵ (froom (T′.mir erased) l₁₁ 0) ∷ ‵ (fdies (T′.mir erased) l₁₁) ∷ ‵ (froom tyBool l₁₀ 0) ∷ ‵ (fdies tyBool l₁₀) ∷ ‵ (froom (T′.mir erased) l₉ 0) ∷ ‵ (fdies (T′.mir erased) l₉) ∷ ‵ (froom S′.mir l₈ 0) ∷ ‵ (fdies S′.mir l₈)
-        ∷ ‵ (fat fullShare R′.mir l₇ 0 (R′.lowered t)) ∷ ‵ (fdies R′.mir l₇) ∷ ‵ (fat fullShare (T′.mir erased) l₆ 0 u) ∷ ‵ (fdies (T′.mir erased) l₆)
-        ∷ ‵ (fat fullShare (tyRef (named 2) mut nodesTy) l₅ 0 (vptr b₂ o₂)) ∷ ‵ (fdies (tyRef (named 2) mut nodesTy) l₅) ∷ ‵ (fat fullShare (tyRef (named 1) mut stepsTy) l₄ 0 (vptr b₁ o₁)) ∷ ‵ (fdies (tyRef (named 1) mut stepsTy) l₄)
-        ∷ ‵ (fat fullShare (tyInt w64) l₃ 0 (vint w64 steps)) ∷ ‵ (fdies (tyInt w64) l₃) ∷ ‵ (fat fullShare (tyInt w64) l₂ 0 (vint w64 start)) ∷ ‵ (fdies (tyInt w64) l₂) ∷ ‵ (fat fullShare fileTy l₁ 0 v) ∷ ‵ (fdies fileTy l₁)
+        ∷ ‵ (froom (T′.mir erased) l₁₅ 0) ∷ ‵ (fdies (T′.mir erased) l₁₅) ∷ ‵ (froom (tyRef erased mut nodesTy) l₁₄ 0) ∷ ‵ (fdies (tyRef erased mut nodesTy) l₁₄) ∷ ‵ (froom (tyRef erased mut chainsTy) l₁₃ 0) ∷ ‵ (fdies (tyRef erased mut chainsTy) l₁₃)
+        ∷ ‵ (froom (T′.mir erased) l₁₂ 0) ∷ ‵ (fdies (T′.mir erased) l₁₂) ∷ ‵ (froom tyBool l₁₁ 0) ∷ ‵ (fdies tyBool l₁₁) ∷ ‵ (froom (T′.mir erased) l₁₀ 0) ∷ ‵ (fdies (T′.mir erased) l₁₀) ∷ ‵ (froom S′.mir l₉ 0) ∷ ‵ (fdies S′.mir l₉)
+        ∷ ‵ (fat fullShare R′.mir l₈ 0 (R′.lowered t)) ∷ ‵ (fdies R′.mir l₈) ∷ ‵ (fat fullShare (T′.mir erased) l₇ 0 u) ∷ ‵ (fdies (T′.mir erased) l₇)
+        ∷ ‵ (fat fullShare (tyRef (named 2) mut nodesTy) l₆ 0 (vptr b₂ o₂)) ∷ ‵ (fdies (tyRef (named 2) mut nodesTy) l₆) ∷ ‵ (fat fullShare (tyRef (named 1) mut chainsTy) l₅ 0 (vptr b₁ o₁)) ∷ ‵ (fdies (tyRef (named 1) mut chainsTy) l₅)
+        ∷ ‵ (fat fullShare tyBool l₄ 0 (vbool mode)) ∷ ‵ (fdies tyBool l₄) ∷ ‵ (fat fullShare (tyInt w64) l₃ 0 (vint w64 steps)) ∷ ‵ (fdies (tyInt w64) l₃) ∷ ‵ (fat fullShare (tyInt w64) l₂ 0 (vint w64 start)) ∷ ‵ (fdies (tyInt w64) l₂) ∷ ‵ (fat fullShare fileTy l₁ 0 v) ∷ ‵ (fdies fileTy l₁)
         ∷ ‵ (froom R′.mir l₀ 0) ∷ ‵ (fdies R′.mir l₀) ∷ []
 
     abbrev At : State → List (Item 𝓤)
@@ -246,11 +246,11 @@ module _ {M : Type 1} (𝓤 : URA M) (H : Heap 𝓤) (A : Atoms 𝓤) (W : Given
     abbrev Turned : State → Out → SProp 𝓤
     Turned z = afterTurn 𝓤 H (Below 𝓤 H A Nearer At z) (afterBlock 𝓤 H (afterSeq 𝓤 H (Wp 𝓤 H C Λ En rest (atReturn 𝓤 H En Post)) (atReturn 𝓤 H En Post)))
 
-    more : (d : Reader) (u : Val) (t : NodesRead) (vs ws : List ℕ) (ud : Is (B (κ, tt)) d (u ∷ [])) (is : Is SR t (R′.lowered t ∷ [])) (src : d .src ≡ s) (at : d .at ≡ t .place) (g : StandsAt (now s) steps vs ws t (start, us₁, us₂))
+    more : (d : Reader) (u : Val) (t : NodesRead) (vs ws : List ℕ) (ud : Is (B (κ, tt)) d (u ∷ [])) (is : Is SR t (R′.lowered t ∷ [])) (src : d .src ≡ s) (at : d .at ≡ t .place) (g : StandsAt mode (now s) steps vs ws t (start, us₂))
         → t .going ≡ true → Sq W (held d u t vs ws) (runs C Λ En mir-of.turn-1 (anyQ (Turned (d, u, t, vs, ws, ud, is, src, at, g))))
     unfolding afterTurn
     more d u t vs ws ud is src at g going =
-        assigns ! (of-opd ! (load ! (from ! (fld ! refl (stop !))) (look-in ! 21 (sub ! 3 refl (whole !))))) (from ! (stop !)) (init ! 15 refl (tt, tt)) $ rewrite ! 15 (λ (y : Bool). ‵ (fat fullShare tyBool l₁₀ 0 (vbool y))) going refl $
+        assigns ! (of-opd ! (load ! (from ! (fld ! refl (stop !))) (look-in ! 21 (sub ! 3 refl (whole !))))) (from ! (stop !)) (init ! 15 refl (tt, tt)) $ rewrite ! 15 (λ (y : Bool). ‵ (fat fullShare tyBool l₁₁ 0 (vbool y))) going refl $
         stays ! (load ! (from ! (stop !)) (look ! 15 refl)) $
         -- the next field
         assigns ! (of-opd ! (load ! (from ! (stop !)) (look ! 23 refl))) (from ! (stop !)) (init ! 13 refl (LL.lawful (T.the-type αᵉ) (T′.the-laws αᵉ) 𝓤 H A W .typed d _ ud .0)) $ move ! (0 ∷ []) $
@@ -263,38 +263,38 @@ module _ {M : Type 1} (𝓤 : URA M) (H : Heap 𝓤) (A : Atoms 𝓤) (W : Given
         -- it is taken, the tables lent again for lifetimes ν₁ and ν₂ of the call
         assigns ! (addr ! (from ! (hop ! (look ! 28 refl) (stop !)))) (from ! (stop !)) (init ! 12 refl (tt, tt)) $ assigns ! (addr ! (from ! (hop ! (look ! 26 refl) (stop !)))) (from ! (stop !)) (init ! 10 refl (tt, tt)) $
         lft-new ! tt (λ ν₁. lft-new ! tt (λ ν₂. move ! (6 ∷ 7 ∷ []) $
-        use2 W (later (some (λ (δ : GName). ‵ (Own₁ (ν₁ ∷ []) δ vs) ⊛ ‵ (LentAgain TS κ₁ (ν₁ ∷ []) q₁ γ₁ b₁ o₁ δ vs)))) (lends-again 𝓤 H A W TS (named 1) κ₁ (ν₁ ∷ []) q₁ γ₁ b₁ o₁ (named 1) vs) $ await ! tt $ pick ! (λ δ₁. split ! $ move ! (8 ∷ 9 ∷ []) $
+        use2 W (later (some (λ (δ : GName). ‵ (Own₁ (ν₁ ∷ []) δ vs) ⊛ ‵ (LentAgain TC κ₁ (ν₁ ∷ []) q₁ γ₁ b₁ o₁ δ vs)))) (lends-again 𝓤 H A W TC (named 1) κ₁ (ν₁ ∷ []) q₁ γ₁ b₁ o₁ (named 1) vs) $ await ! tt $ pick ! (λ δ₁. split ! $ move ! (8 ∷ 9 ∷ []) $
         use2 W (later (some (λ (δ : GName). ‵ (Own₂ (ν₂ ∷ []) δ ws) ⊛ ‵ (LentAgain TN κ₂ (ν₂ ∷ []) q₂ γ₂ b₂ o₂ δ ws)))) (lends-again 𝓤 H A W TN (named 2) κ₂ (ν₂ ∷ []) q₂ γ₂ b₂ o₂ (named 2) ws) $ await ! tt $ pick ! (λ δ₂. split ! $ move ! (9 ∷ []) $
         use1 W (‵ Own ⊛ ‵ Own) (shr-slice-copy 𝓤 H A W (named 0) κ u8 .twice s (v ∷ [])) $ split ! $ nothing ! $ move ! (3 ∷ 0 ∷ []) $ fjoin ! $ move ! (4 ∷ 0 ∷ []) $ fjoin ! $
-        owned ! usize (Is usize) (uint-makes 𝓤 H A W w64) steps _ (refl, steps-fits) $ fjoin ! $ owned ! SR (Is SR) ((LL.makes R.the-type R′.the-plain) 𝓤 H A) t _ is $ fjoin ! $ move ! (7 ∷ 0 ∷ []) $ fjoin ! $ move ! (1 ∷ 0 ∷ []) $ fjoin ! $
+        owned ! bool (Is bool) (bool-makes 𝓤 H A W) mode _ refl $ fjoin ! $ owned ! usize (Is usize) (uint-makes 𝓤 H A W w64) steps _ (refl, steps-fits) $ fjoin ! $ owned ! SR (Is SR) ((LL.makes R.the-type R′.the-plain) 𝓤 H A) t _ is $ fjoin ! $ move ! (7 ∷ 0 ∷ []) $ fjoin ! $ move ! (1 ∷ 0 ∷ []) $ fjoin ! $
         move ! (6 ∷ []) $ split ! $ move ! (6 ∷ 1 ∷ []) $ join ! $ move ! (6 ∷ 0 ∷ []) $ join ! $ move ! (1 ∷ 0 ∷ []) $ join ! $ move ! (0 ∷ 1 ∷ []) $
-        use2 W (raw (Take 𝓤 H A mem run .pre (to-take ν₁ ν₂ δ₁ δ₂ f k t vs ws))) (asked-take ν₁ ν₂ δ₁ δ₂ f k t vs ws (found-at ef)) $
-        calls-at ! fm (Take 𝓤 H A mem run) known-take (to-take ν₁ ν₂ δ₁ δ₂ f k t vs ws) (and-then ! (load ! (from ! (stop !)) (look ! 31 refl)) (and-then ! (load ! (from ! (stop !)) (look ! 17 refl)) (and-then ! (load ! (from ! (stop !)) (look ! 19 refl))
-        (and-then ! (load ! (from ! (stop !)) (look ! 27 refl)) (and-then ! (load ! (from ! (stop !)) (look ! 9 refl)) (and-then ! (load ! (from ! (stop !)) (look ! 7 refl)) (no-more !))))))) (λ w.
+        use2 W (raw (Take 𝓤 H A mem run .pre (to-take ν₁ ν₂ δ₁ δ₂ f k t vs ws))) (asked-take ν₁ ν₂ δ₁ δ₂ f k t vs ws (found-at ef) ((start, us₂), g .goes going)) $
+        calls-at ! fm (Take 𝓤 H A mem run) known-take (to-take ν₁ ν₂ δ₁ δ₂ f k t vs ws) (and-then ! (load ! (from ! (stop !)) (look ! 33 refl)) (and-then ! (load ! (from ! (stop !)) (look ! 17 refl)) (and-then ! (load ! (from ! (stop !)) (look ! 19 refl))
+        (and-then ! (load ! (from ! (stop !)) (look ! 29 refl)) (and-then ! (load ! (from ! (stop !)) (look ! 27 refl)) (and-then ! (load ! (from ! (stop !)) (look ! 9 refl)) (and-then ! (load ! (from ! (stop !)) (look ! 7 refl)) (no-more !)))))))) (λ w.
         use1 W (later (some (λ (r : NodesRead). ((‵ (flft κ q) ⊛ ‵ (flft (ν₁ ∷ []) fullShare) ⊛ ‵ (flft (ν₂ ∷ []) fullShare) ⊛ ‵ ftrue) ⊛ ‵ (SR .own r (w ∷ [])))
         ⊛ raw (ensured 𝓤 H A take.ended (take.clauses 𝓤 H A mem run) (κ, (ν₁ ∷ [], (ν₂ ∷ [], tt))) (with-take δ₁ δ₂ f t vs ws) tt r)))) (id⊢ 𝓤 _) $ await ! tt $
         pick ! (λ r. split ! $ move ! (1 ∷ []) $
-        use1 W (some (λ (zs : Unit {0} × (Unit {0} × (Unit {0} × (Unit {0} × (List ℕ × (List ℕ × Unit {0})))))). ‵ (lasts take.ended (κ, (ν₁ ∷ [], (ν₂ ∷ [], tt))) (with-take δ₁ δ₂ f t vs ws) zs)
-        ⊛ raw (fact 𝓤 (Takes (now s) steps t vs ws (zs .1 .1 .1 .1 .0) (zs .1 .1 .1 .1 .1 .0) r)))) (id⊢ 𝓤 _) $
-        pick ! (λ zs. split ! $ move ! (1 ∷ []) $ heard ! (Takes (now s) steps t vs ws (zs .1 .1 .1 .1 .0) (zs .1 .1 .1 .1 .1 .0) r) (λ e. move ! (0 ∷ []) $ fsplit ! $ move ! (1 ∷ []) $ fsplit ! $ move ! (1 ∷ []) $ fsplit ! $ move ! (1 ∷ []) $ fsplit ! $
-        move ! (1 ∷ []) $ fsplit ! $ move ! (1 ∷ []) $ fsplit ! $ move ! (7 ∷ []) $ split ! $ move ! (1 ∷ []) $ peeks ! SR (Is SR) (shows 𝓤 H A SR) r (w ∷ []) (λ isw.
-        land ! (from ! (stop !)) (store ! 27 refl (LL.lawful R.the-type R′.the-laws 𝓤 H A W .typed r _ isw .0)) $ rewrite ! 27 (λ (y : Val). ‵ (fat fullShare R′.mir l₇ 0 y)) (lowered-is r w isw) refl $
+        use1 W (some (λ (zs : Unit {0} × (Unit {0} × (Unit {0} × (Unit {0} × (Unit {0} × (List ℕ × (List ℕ × Unit {0}))))))). ‵ (lasts take.ended (κ, (ν₁ ∷ [], (ν₂ ∷ [], tt))) (with-take δ₁ δ₂ f t vs ws) zs)
+        ⊛ raw (fact 𝓤 (Takes mode (now s) steps t vs ws (zs .1 .1 .1 .1 .1 .0) (zs .1 .1 .1 .1 .1 .1 .0) r)))) (id⊢ 𝓤 _) $
+        pick ! (λ zs. split ! $ move ! (1 ∷ []) $ heard ! (Takes mode (now s) steps t vs ws (zs .1 .1 .1 .1 .1 .0) (zs .1 .1 .1 .1 .1 .1 .0) r) (λ e. move ! (0 ∷ []) $ fsplit ! $ move ! (1 ∷ []) $ fsplit ! $ move ! (1 ∷ []) $ fsplit ! $ move ! (1 ∷ []) $ fsplit ! $
+        move ! (1 ∷ []) $ fsplit ! $ move ! (1 ∷ []) $ fsplit ! $ move ! (1 ∷ []) $ fsplit ! $ move ! (8 ∷ []) $ split ! $ move ! (1 ∷ []) $ peeks ! SR (Is SR) (shows 𝓤 H A SR) r (w ∷ []) (λ isw.
+        land ! (from ! (stop !)) (store ! 28 refl (LL.lawful R.the-type R′.the-laws 𝓤 H A W .typed r _ isw .0)) $ rewrite ! 28 (λ (y : Val). ‵ (fat fullShare R′.mir l₈ 0 y)) (lowered-is r w isw) refl $
         -- the lifetimes are ended, and the tables come back at what the call left
-        move ! (1 ∷ []) $ split ! $ move ! (1 ∷ []) $ split ! $ lft-end ! tt $ move ! (0 ∷ 13 ∷ 6 ∷ []) $
-        use3 W (later (‵ (Own₁ κ₁ γ₁ (zs .1 .1 .1 .1 .0)) ⊛ ‵ (flft κ₁ q₁))) (comes-back 𝓤 H A W TS (named 1) κ₁ (ν₁ ∷ []) q₁ γ₁ b₁ o₁ δ₁ vs (zs .1 .1 .1 .1 .0)) $ await ! tt $ split ! $
-        move ! (2 ∷ []) $ split ! $ lft-end ! tt $ move ! (0 ∷ 13 ∷ 6 ∷ []) $
-        use3 W (later (‵ (Own₂ κ₂ γ₂ (zs .1 .1 .1 .1 .1 .0)) ⊛ ‵ (flft κ₂ q₂))) (comes-back 𝓤 H A W TN (named 2) κ₂ (ν₂ ∷ []) q₂ γ₂ b₂ o₂ δ₂ ws (zs .1 .1 .1 .1 .1 .0)) $ await ! tt $ split ! $
+        move ! (1 ∷ []) $ split ! $ move ! (1 ∷ []) $ split ! $ lft-end ! tt $ move ! (0 ∷ 14 ∷ 6 ∷ []) $
+        use3 W (later (‵ (Own₁ κ₁ γ₁ (zs .1 .1 .1 .1 .1 .0)) ⊛ ‵ (flft κ₁ q₁))) (comes-back 𝓤 H A W TC (named 1) κ₁ (ν₁ ∷ []) q₁ γ₁ b₁ o₁ δ₁ vs (zs .1 .1 .1 .1 .1 .0)) $ await ! tt $ split ! $
+        move ! (2 ∷ []) $ split ! $ lft-end ! tt $ move ! (0 ∷ 14 ∷ 6 ∷ []) $
+        use3 W (later (‵ (Own₂ κ₂ γ₂ (zs .1 .1 .1 .1 .1 .1 .0)) ⊛ ‵ (flft κ₂ q₂))) (comes-back 𝓤 H A W TN (named 2) κ₂ (ν₂ ∷ []) q₂ γ₂ b₂ o₂ δ₂ ws (zs .1 .1 .1 .1 .1 .1 .0)) $ await ! tt $ split ! $
         move ! (5 ∷ 2 ∷ []) $ join ! $
         -- the reader is moved on
-        assigns ! (of-opd ! (load ! (from ! (stop !)) (look ! 29 refl))) (from ! (stop !)) (init ! 13 refl (LL.lawful (T.the-type αᵉ) (T′.the-laws αᵉ) 𝓤 H A W .typed d _ ud .0)) $ move ! (12 ∷ 0 ∷ []) $
+        assigns ! (of-opd ! (load ! (from ! (stop !)) (look ! 30 refl))) (from ! (stop !)) (init ! 14 refl (LL.lawful (T.the-type αᵉ) (T′.the-laws αᵉ) 𝓤 H A W .typed d _ ud .0)) $ move ! (13 ∷ 0 ∷ []) $
         use2 W (raw (Moved 𝓤 H A mem run .pre (to-moved 𝓤 H A W mem run κ q d u (r .place)))) (goes-moved 𝓤 H A W mem run κ q d u (r .place) (place-fits r w isw)) $
-        calls-at-last ! fm (Moved 𝓤 H A mem run) known-moved (to-moved 𝓤 H A W mem run κ q d u (r .place)) (and-then ! (load ! (from ! (stop !)) (look ! 12 refl)) (and-then ! (load ! (from ! (fld ! refl (stop !))) (look-in ! 26 (sub ! 1 refl (whole !)))) (no-more !))) (λ u′.
+        calls-at-last ! fm (Moved 𝓤 H A mem run) known-moved (to-moved 𝓤 H A W mem run κ q d u (r .place)) (and-then ! (load ! (from ! (stop !)) (look ! 13 refl)) (and-then ! (load ! (from ! (fld ! refl (stop !))) (look-in ! 27 (sub ! 1 refl (whole !)))) (no-more !))) (λ u′.
         use1 W (later (some (λ (m : Reader). ((‵ (flft κ q) ⊛ ‵ ftrue) ⊛ ‵ (B (κ, tt) .own m (u′ ∷ []))) ⊛ raw (ensured 𝓤 H A moved.ended (moved.clauses 𝓤 H A mem run) (κ, tt) (d, (r .place, tt)) tt m)))) (id⊢ 𝓤 _) $ await ! tt $
         pick ! (λ m. split ! $ move ! (1 ∷ []) $ use1 W (raw (fact 𝓤 ((m .src ≡ d .src) × (m .at ≡ r .place)))) (moved-said 𝓤 H A W mem run κ q d m (r .place)) $ heard ! ((m .src ≡ d .src) × (m .at ≡ r .place)) (λ em. move ! (0 ∷ []) $
-        split ! $ move ! (1 ∷ []) $ peeks ! (B (κ, tt)) (Is (B (κ, tt))) (shows 𝓤 H A (B (κ, tt))) m (u′ ∷ []) (λ um. land-last ! (from ! (stop !)) (store ! 29 refl (LL.lawful (T.the-type αᵉ) (T′.the-laws αᵉ) 𝓤 H A W .typed m _ um .0)) $
-        forget ! 25 refl $ forget ! 21 refl $ forget ! 19 refl $ forget ! 17 refl $ forget ! 15 refl $ forget ! 13 refl $
-        keep ! (0 ∷ 1 ∷ 12 ∷ 4 ∷ 5 ∷ 2 ∷ 3 ∷ 13 ∷ 14 ∷ 15 ∷ 16 ∷ 17 ∷ 18 ∷ 19 ∷ 20 ∷ 21 ∷ 22 ∷ 23 ∷ 24 ∷ 25 ∷ 26 ∷ 27 ∷ 28 ∷ 29 ∷ 30 ∷ 31 ∷ 32 ∷ 33 ∷ 34 ∷ 35 ∷ 36 ∷ 37 ∷ 38 ∷ 39 ∷ 40 ∷ 41 ∷ 42 ∷ []) $
-        again ! Nearer At z (m, u′, r, zs .1 .1 .1 .1 .0, zs .1 .1 .1 .1 .1 .0, um, lowers r w isw, em .0 ∙ src, em .1, e .stands (start, us₁, us₂) (g .goes going)) (turn-less going e))))))))))))))))))
+        split ! $ move ! (1 ∷ []) $ peeks ! (B (κ, tt)) (Is (B (κ, tt))) (shows 𝓤 H A (B (κ, tt))) m (u′ ∷ []) (λ um. land-last ! (from ! (stop !)) (store ! 30 refl (LL.lawful (T.the-type αᵉ) (T′.the-laws αᵉ) 𝓤 H A W .typed m _ um .0)) $
+        forget ! 26 refl $ forget ! 22 refl $ forget ! 20 refl $ forget ! 18 refl $ forget ! 16 refl $ forget ! 14 refl $
+        keep ! (0 ∷ 1 ∷ 13 ∷ 4 ∷ 5 ∷ 2 ∷ 3 ∷ 14 ∷ 15 ∷ 16 ∷ 17 ∷ 18 ∷ 19 ∷ 20 ∷ 21 ∷ 22 ∷ 23 ∷ 24 ∷ 25 ∷ 26 ∷ 27 ∷ 28 ∷ 29 ∷ 30 ∷ 31 ∷ 32 ∷ 33 ∷ 34 ∷ 35 ∷ 36 ∷ 37 ∷ 38 ∷ 39 ∷ 40 ∷ 41 ∷ 42 ∷ 43 ∷ 44 ∷ 45 ∷ []) $
+        again ! Nearer At z (m, u′, r, zs .1 .1 .1 .1 .1 .0, zs .1 .1 .1 .1 .1 .1 .0, um, lowers r w isw, em .0 ∙ src, em .1, e .stands (start, us₂) (g .goes going)) (turn-less going e))))))))))))))))))
       where
         z : State
         z = (d, u, t, vs, ws, ud, is, src, at, g)
@@ -302,14 +302,14 @@ module _ {M : Type 1} (𝓤 : URA M) (H : Heap 𝓤) (A : Atoms 𝓤) (W : Given
         found-at : {f : Field} → f ≡ fieldAt (now (d .src)) (d .at) (orRemark (only 18 6)) → f ≡ fieldAt (now s) (t .place) (orRemark (only 18 6))
         found-at e = e ∙ (ap (λ (y : RefT (List ℕ)). fieldAt (now y) (d .at) (orRemark (only 18 6))) src ∙ ap (λ (n : ℕ). fieldAt (now s) n (orRemark (only 18 6))) at)
 
-    ends : (d : Reader) (u : Val) (t : NodesRead) (vs ws : List ℕ) (ud : Is (B (κ, tt)) d (u ∷ [])) (is : Is SR t (R′.lowered t ∷ [])) (src : d .src ≡ s) (at : d .at ≡ t .place) (g : StandsAt (now s) steps vs ws t (start, us₁, us₂))
+    ends : (d : Reader) (u : Val) (t : NodesRead) (vs ws : List ℕ) (ud : Is (B (κ, tt)) d (u ∷ [])) (is : Is SR t (R′.lowered t ∷ [])) (src : d .src ≡ s) (at : d .at ≡ t .place) (g : StandsAt mode (now s) steps vs ws t (start, us₂))
         → t .going ≡ false → Sq W (held d u t vs ws) (runs C Λ En mir-of.turn-1 (anyQ (Turned (d, u, t, vs, ws, ud, is, src, at, g))))
     unfolding afterTurn
     ends d u t vs ws ud is src at g stopped =
-        assigns ! (of-opd ! (load ! (from ! (fld ! refl (stop !))) (look-in ! 21 (sub ! 3 refl (whole !))))) (from ! (stop !)) (init ! 15 refl (tt, tt)) $ rewrite ! 15 (λ (y : Bool). ‵ (fat fullShare tyBool l₁₀ 0 (vbool y))) stopped refl $
+        assigns ! (of-opd ! (load ! (from ! (fld ! refl (stop !))) (look-in ! 21 (sub ! 3 refl (whole !))))) (from ! (stop !)) (init ! 15 refl (tt, tt)) $ rewrite ! 15 (λ (y : Bool). ‵ (fat fullShare tyBool l₁₁ 0 (vbool y))) stopped refl $
         leaves-loop ! (load ! (from ! (stop !)) (look ! 15 refl)) $ exec ! C Λ En rest (atRet En Post) $
-        assigns ! (of-opd ! (load ! (from ! (stop !)) (look ! 21 refl))) (from ! (stop !)) (init ! 35 refl (LL.lawful R.the-type R′.the-laws 𝓤 H A W .typed t _ is .0)) $ returns ! (look ! 35 refl) $
-        forget ! 35 refl $ forget ! 33 refl $ forget ! 31 refl $ forget ! 29 refl $ forget ! 27 refl $ forget ! 25 refl $ forget ! 23 refl $ forget ! 21 refl $ forget ! 15 refl $ move ! (35 ∷ 36 ∷ []) $ free1 ! $
+        assigns ! (of-opd ! (load ! (from ! (stop !)) (look ! 21 refl))) (from ! (stop !)) (init ! 37 refl (LL.lawful R.the-type R′.the-laws 𝓤 H A W .typed t _ is .0)) $ returns ! (look ! 37 refl) $
+        forget ! 37 refl $ forget ! 35 refl $ forget ! 33 refl $ forget ! 31 refl $ forget ! 29 refl $ forget ! 27 refl $ forget ! 25 refl $ forget ! 23 refl $ forget ! 21 refl $ forget ! 15 refl $ move ! (37 ∷ 38 ∷ []) $ free1 ! $ move ! (35 ∷ 36 ∷ []) $ free1 ! $
         move ! (33 ∷ 34 ∷ []) $ free1 ! $ move ! (31 ∷ 32 ∷ []) $ free1 ! $ move ! (29 ∷ 30 ∷ []) $ free1 ! $ move ! (27 ∷ 28 ∷ []) $ free1 ! $ move ! (25 ∷ 26 ∷ []) $ free1 ! $ move ! (23 ∷ 24 ∷ []) $ free1 ! $
         move ! (21 ∷ 22 ∷ []) $ free1 ! $ move ! (19 ∷ 20 ∷ []) $ free1 ! $ move ! (17 ∷ 18 ∷ []) $ free1 ! $ move ! (15 ∷ 16 ∷ []) $ free1 ! $ move ! (13 ∷ 14 ∷ []) $ free1 ! $ move ! (11 ∷ 12 ∷ []) $ free1 ! $
         move ! (9 ∷ 10 ∷ []) $ free1 ! $ move ! (7 ∷ 8 ∷ []) $ free1 ! $ free0 ! $ keep ! (1 ∷ 2 ∷ 3 ∷ 4 ∷ 5 ∷ 6 ∷ []) $ by ! (exits t vs ws is (g .over stopped))
@@ -323,52 +323,52 @@ module _ {M : Type 1} (𝓤 : URA M) (H : Heap 𝓤) (A : Atoms 𝓤) (W : Given
 
     -- up to the loop
     begins : Sq W (‵ Own ∷ (‵ (flft κ q) ⊛ ‵ ftrue) ∷ ‵ (Own₁ κ₁ γ₁ us₁) ∷ ‵ (flft κ₁ q₁) ∷ ‵ (Own₂ κ₂ γ₂ us₂) ∷ ‵ (flft κ₂ q₂)
-        ∷ ‵ (froom (T′.mir erased) l₁₄ 0) ∷ ‵ (fdies (T′.mir erased) l₁₄) ∷ ‵ (froom (tyRef erased mut nodesTy) l₁₃ 0) ∷ ‵ (fdies (tyRef erased mut nodesTy) l₁₃) ∷ ‵ (froom (tyRef erased mut stepsTy) l₁₂ 0) ∷ ‵ (fdies (tyRef erased mut stepsTy) l₁₂)
-        ∷ ‵ (froom (T′.mir erased) l₁₁ 0) ∷ ‵ (fdies (T′.mir erased) l₁₁) ∷ ‵ (froom tyBool l₁₀ 0) ∷ ‵ (fdies tyBool l₁₀) ∷ ‵ (froom (T′.mir erased) l₉ 0) ∷ ‵ (fdies (T′.mir erased) l₉) ∷ ‵ (froom S′.mir l₈ 0) ∷ ‵ (fdies S′.mir l₈)
-        ∷ ‵ (froom R′.mir l₇ 0) ∷ ‵ (fdies R′.mir l₇) ∷ ‵ (froom (T′.mir erased) l₆ 0) ∷ ‵ (fdies (T′.mir erased) l₆)
-        ∷ ‵ (fat fullShare (tyRef (named 2) mut nodesTy) l₅ 0 (vptr b₂ o₂)) ∷ ‵ (fdies (tyRef (named 2) mut nodesTy) l₅) ∷ ‵ (fat fullShare (tyRef (named 1) mut stepsTy) l₄ 0 (vptr b₁ o₁)) ∷ ‵ (fdies (tyRef (named 1) mut stepsTy) l₄)
-        ∷ ‵ (fat fullShare (tyInt w64) l₃ 0 (vint w64 steps)) ∷ ‵ (fdies (tyInt w64) l₃) ∷ ‵ (fat fullShare (tyInt w64) l₂ 0 (vint w64 start)) ∷ ‵ (fdies (tyInt w64) l₂) ∷ ‵ (fat fullShare fileTy l₁ 0 v) ∷ ‵ (fdies fileTy l₁)
+        ∷ ‵ (froom (T′.mir erased) l₁₅ 0) ∷ ‵ (fdies (T′.mir erased) l₁₅) ∷ ‵ (froom (tyRef erased mut nodesTy) l₁₄ 0) ∷ ‵ (fdies (tyRef erased mut nodesTy) l₁₄) ∷ ‵ (froom (tyRef erased mut chainsTy) l₁₃ 0) ∷ ‵ (fdies (tyRef erased mut chainsTy) l₁₃)
+        ∷ ‵ (froom (T′.mir erased) l₁₂ 0) ∷ ‵ (fdies (T′.mir erased) l₁₂) ∷ ‵ (froom tyBool l₁₁ 0) ∷ ‵ (fdies tyBool l₁₁) ∷ ‵ (froom (T′.mir erased) l₁₀ 0) ∷ ‵ (fdies (T′.mir erased) l₁₀) ∷ ‵ (froom S′.mir l₉ 0) ∷ ‵ (fdies S′.mir l₉)
+        ∷ ‵ (froom R′.mir l₈ 0) ∷ ‵ (fdies R′.mir l₈) ∷ ‵ (froom (T′.mir erased) l₇ 0) ∷ ‵ (fdies (T′.mir erased) l₇)
+        ∷ ‵ (fat fullShare (tyRef (named 2) mut nodesTy) l₆ 0 (vptr b₂ o₂)) ∷ ‵ (fdies (tyRef (named 2) mut nodesTy) l₆) ∷ ‵ (fat fullShare (tyRef (named 1) mut chainsTy) l₅ 0 (vptr b₁ o₁)) ∷ ‵ (fdies (tyRef (named 1) mut chainsTy) l₅)
+        ∷ ‵ (fat fullShare tyBool l₄ 0 (vbool mode)) ∷ ‵ (fdies tyBool l₄) ∷ ‵ (fat fullShare (tyInt w64) l₃ 0 (vint w64 steps)) ∷ ‵ (fdies (tyInt w64) l₃) ∷ ‵ (fat fullShare (tyInt w64) l₂ 0 (vint w64 start)) ∷ ‵ (fdies (tyInt w64) l₂) ∷ ‵ (fat fullShare fileTy l₁ 0 v) ∷ ‵ (fdies fileTy l₁)
         ∷ ‵ (froom R′.mir l₀ 0) ∷ ‵ (fdies R′.mir l₀) ∷ []) (runs C Λ En mir-of.t-1 (atRet En Post))
     begins =
         move ! (0 ∷ []) $ use1 W (‵ Own ⊛ ‵ Own) (shr-slice-copy 𝓤 H A W (named 0) κ u8 .twice s (v ∷ [])) $ split ! $ move ! (0 ∷ 2 ∷ []) $
         use2 W (raw (New 𝓤 H A mem run .pre (to-new 𝓤 H A W mem run κ q s))) (goes-new 𝓤 H A W mem run κ q s) $
-        calls-at ! fm (New 𝓤 H A mem run) known-new (to-new 𝓤 H A W mem run κ q s) (and-then ! (load ! (from ! (stop !)) (look ! 32 refl)) (no-more !)) (λ k.
+        calls-at ! fm (New 𝓤 H A mem run) known-new (to-new 𝓤 H A W mem run κ q s) (and-then ! (load ! (from ! (stop !)) (look ! 34 refl)) (no-more !)) (λ k.
         use1 W (later (some (λ (r : Reader). ((‵ (flft κ q) ⊛ ‵ ftrue) ⊛ ‵ (B (κ, tt) .own r (k ∷ []))) ⊛ raw (ensured 𝓤 H A new.ended (new.clauses 𝓤 H A mem run) (κ, tt) (s, tt) tt r)))) (id⊢ 𝓤 _) $ await ! tt $ pick ! (λ r. split ! $
         move ! (1 ∷ []) $ use1 W (raw (fact 𝓤 ((r .src ≡ s) × (r .at ≡ 0)))) (new-said 𝓤 H A W mem run κ q s r) $ heard ! ((r .src ≡ s) × (r .at ≡ 0)) (λ er. move ! (0 ∷ []) $ split ! $ move ! (1 ∷ []) $
         peeks ! (B (κ, tt)) (Is (B (κ, tt))) (shows 𝓤 H A (B (κ, tt))) r (k ∷ []) (λ isr. land ! (from ! (stop !)) (init ! 17 refl (LL.lawful (T.the-type αᵉ) (T′.the-laws αᵉ) 𝓤 H A W .typed r _ isr .0)) $ move ! (0 ∷ 1 ∷ []) $
         use2 W (raw (Moved 𝓤 H A mem run .pre (to-moved 𝓤 H A W mem run κ q r k start))) (goes-moved 𝓤 H A W mem run κ q r k start start-fits) $
-        calls-at ! fm (Moved 𝓤 H A mem run) known-moved (to-moved 𝓤 H A W mem run κ q r k start) (and-then ! (load ! (from ! (stop !)) (look ! 16 refl)) (and-then ! (load ! (from ! (stop !)) (look ! 30 refl)) (no-more !))) (λ u.
+        calls-at ! fm (Moved 𝓤 H A mem run) known-moved (to-moved 𝓤 H A W mem run κ q r k start) (and-then ! (load ! (from ! (stop !)) (look ! 16 refl)) (and-then ! (load ! (from ! (stop !)) (look ! 32 refl)) (no-more !))) (λ u.
         use1 W (later (some (λ (d : Reader). ((‵ (flft κ q) ⊛ ‵ ftrue) ⊛ ‵ (B (κ, tt) .own d (u ∷ []))) ⊛ raw (ensured 𝓤 H A moved.ended (moved.clauses 𝓤 H A mem run) (κ, tt) (r, (start, tt)) tt d)))) (id⊢ 𝓤 _) $ await ! tt $ pick ! (λ d.
         split ! $ move ! (1 ∷ []) $ use1 W (raw (fact 𝓤 ((d .src ≡ r .src) × (d .at ≡ start)))) (moved-said 𝓤 H A W mem run κ q r d start) $ heard ! ((d .src ≡ r .src) × (d .at ≡ start)) (λ ed. move ! (0 ∷ []) $ split ! $
         move ! (1 ∷ []) $ peeks ! (B (κ, tt)) (Is (B (κ, tt))) (shows 𝓤 H A (B (κ, tt))) d (u ∷ []) (λ ud. land ! (from ! (stop !)) (init ! 23 refl (LL.lawful (T.the-type αᵉ) (T′.the-laws αᵉ) 𝓤 H A W .typed d _ ud .0)) $
-        assigns ! (agg ! (and-then ! (lit ! tt) (and-then ! (load ! (from ! (stop !)) (look ! 31 refl)) (and-then ! (lit ! tt) (and-then ! (true-lit !) (no-more !)))))) (from ! (stop !)) (init ! 21 refl (LL.lawful R.the-type R′.the-laws 𝓤 H A W .typed begun _ begun-is .0)) $
-        forget ! 17 refl $ keep ! (0 ∷ 1 ∷ 2 ∷ 3 ∷ 4 ∷ 5 ∷ 6 ∷ 7 ∷ 8 ∷ 9 ∷ 10 ∷ 11 ∷ 12 ∷ 13 ∷ 14 ∷ 15 ∷ 16 ∷ 17 ∷ 18 ∷ 19 ∷ 20 ∷ 21 ∷ 22 ∷ 23 ∷ 24 ∷ 25 ∷ 26 ∷ 27 ∷ 28 ∷ 29 ∷ 30 ∷ 31 ∷ 32 ∷ 33 ∷ 34 ∷ 35 ∷ 36 ∷ []) $
-        first ! $ blocks ! $ loops ! 𝓣 Nearer Nearer-wf At turns (d, u, begun, us₁, us₂, ud, begun-is, ed .0 ∙ er .0, ed .1, stands-on (nodes-start (now s) start steps us₁ us₂))))))))))
+        assigns ! (agg ! (and-then ! (lit ! tt) (and-then ! (load ! (from ! (stop !)) (look ! 33 refl)) (and-then ! (lit ! tt) (and-then ! (true-lit !) (no-more !)))))) (from ! (stop !)) (init ! 21 refl (LL.lawful R.the-type R′.the-laws 𝓤 H A W .typed begun _ begun-is .0)) $
+        forget ! 17 refl $ keep ! (0 ∷ 1 ∷ 2 ∷ 3 ∷ 4 ∷ 5 ∷ 6 ∷ 7 ∷ 8 ∷ 9 ∷ 10 ∷ 11 ∷ 12 ∷ 13 ∷ 14 ∷ 15 ∷ 16 ∷ 17 ∷ 18 ∷ 19 ∷ 20 ∷ 21 ∷ 22 ∷ 23 ∷ 24 ∷ 25 ∷ 26 ∷ 27 ∷ 28 ∷ 29 ∷ 30 ∷ 31 ∷ 32 ∷ 33 ∷ 34 ∷ 35 ∷ 36 ∷ 37 ∷ 38 ∷ []) $
+        first ! $ blocks ! $ loops ! 𝓣 Nearer Nearer-wf At turns (d, u, begun, us₁, us₂, ud, begun-is, ed .0 ∙ er .0, ed .1, stands-on (nodes-start mode (now s) start steps us₁ us₂ fresh))))))))))
 
   walk : Is (ShrSlice (named 0) κ u8) s (v ∷ []) → (𝓣 : Tables 𝓤 H) → Triple 𝓤 (𝓣 .C #fields·reader·new) (New 𝓤 H A mem run) → Triple 𝓤 (𝓣 .C #fields·reader·next) (Next 𝓤 H A mem run)
       → Triple 𝓤 (𝓣 .C #fields·reader·moved) (Moved 𝓤 H A mem run) → Triple 𝓤 (𝓣 .C #diagram·reader·take-nodes) (Take 𝓤 H A mem run)
-      → ent 𝓤 (onEntry 𝓤 H A reads.signature (κ, (κ₁, (κ₂, tt))) (q, (q₁, (q₂, tt))) a vals) (WpFn 𝓤 H (𝓣 .C) (𝓣 .Λ) code.function (v ∷ vint w64 start ∷ vint w64 steps ∷ vptr b₁ o₁ ∷ vptr b₂ o₂ ∷ []) Post)
+      → ent 𝓤 (onEntry 𝓤 H A reads.signature (κ, (κ₁, (κ₂, tt))) (q, (q₁, (q₂, tt))) a vals) (WpFn 𝓤 H (𝓣 .C) (𝓣 .Λ) code.function (v ∷ vint w64 start ∷ vint w64 steps ∷ vbool mode ∷ vptr b₁ o₁ ∷ vptr b₂ o₂ ∷ []) Post)
   walk p 𝓣 known-new known-next known-moved known-take =
-      qed W ((‵ (flft κ q) ⊛ ‵ (flft κ₁ q₁) ⊛ ‵ (flft κ₂ q₂) ⊛ ‵ ftrue) ∷ ‵ (owns (ShrSlice (named 0) κ u8 ∷ usize ∷ usize ∷ MutRef (named 1) κ₁ TS ∷ MutRef (named 2) κ₂ TN ∷ []) a vals) ∷ []) ∵
+      qed W ((‵ (flft κ q) ⊛ ‵ (flft κ₁ q₁) ⊛ ‵ (flft κ₂ q₂) ⊛ ‵ ftrue) ∷ ‵ (owns (ShrSlice (named 0) κ u8 ∷ usize ∷ usize ∷ bool ∷ MutRef (named 1) κ₁ TC ∷ MutRef (named 2) κ₂ TN ∷ []) a vals) ∷ []) ∵
       split ! $ move ! (1 ∷ []) $ split ! $ move ! (1 ∷ []) $ split ! $ move ! (3 ∷ 1 ∷ []) $ join ! $ move ! (3 ∷ []) $ fsplit ! $ move ! (1 ∷ []) $ fsplit ! $ move ! (0 ∷ []) $ drops ! $ move ! (0 ∷ []) $ fsplit ! $ move ! (0 ∷ []) $ drops ! $
-      move ! (0 ∷ []) $ fsplit ! $ move ! (1 ∷ []) $ fsplit ! $ move ! (1 ∷ []) $ drops ! $ enter ! (𝓣 .C) (𝓣 .Λ) code.function (v ∷ vint w64 start ∷ vint w64 steps ∷ vptr b₁ o₁ ∷ vptr b₂ o₂ ∷ []) _ $
-      alloc1 ! (λ l₀. alloc1 ! (λ l₁. alloc1 ! (λ l₂. alloc1 ! (λ l₃. alloc1 ! (λ l₄. alloc1 ! (λ l₅. alloc1 ! (λ l₆. alloc1 ! (λ l₇. alloc1 ! (λ l₈. alloc1 ! (λ l₉. alloc1 ! (λ l₁₀. alloc1 ! (λ l₁₁. alloc1 ! (λ l₁₂.
-      alloc1 ! (λ l₁₃. alloc1 ! (λ l₁₄. alloc0 ! $ params1 ! $ pass1 ! (init ! 26 refl (shr-slice-lawful 𝓤 H A W (named 0) κ u8 .typed s (v ∷ []) p .0)) $
-      pass1 ! (init ! 24 refl (tt, record { fits = start-fits })) $ pass1 ! (init ! 22 refl (tt, record { fits = steps-fits })) $ pass1 ! (init ! 20 refl (tt, tt)) $ pass1 ! (init ! 18 refl (tt, tt)) $ pass0 ! $
-      keep ! (32 ∷ 33 ∷ 31 ∷ 35 ∷ 30 ∷ 34 ∷ 0 ∷ 1 ∷ 2 ∷ 3 ∷ 4 ∷ 5 ∷ 6 ∷ 7 ∷ 8 ∷ 9 ∷ 10 ∷ 11 ∷ 12 ∷ 13 ∷ 14 ∷ 15 ∷ 16 ∷ 17 ∷ 18 ∷ 19 ∷ 20 ∷ 21 ∷ 22 ∷ 23 ∷ 24 ∷ 25 ∷ 26 ∷ 27 ∷ 28 ∷ 29 ∷ []) $
-      begins 𝓣 known-new known-next known-moved known-take l₀ l₁ l₂ l₃ l₄ l₅ l₆ l₇ l₈ l₉ l₁₀ l₁₁ l₁₂ l₁₃ l₁₄)))))))))))))))
+      move ! (0 ∷ []) $ fsplit ! $ move ! (0 ∷ []) $ drops ! $ move ! (0 ∷ []) $ fsplit ! $ move ! (1 ∷ []) $ fsplit ! $ move ! (1 ∷ []) $ drops ! $ enter ! (𝓣 .C) (𝓣 .Λ) code.function (v ∷ vint w64 start ∷ vint w64 steps ∷ vbool mode ∷ vptr b₁ o₁ ∷ vptr b₂ o₂ ∷ []) _ $
+      alloc1 ! (λ l₀. alloc1 ! (λ l₁. alloc1 ! (λ l₂. alloc1 ! (λ l₃. alloc1 ! (λ l₄. alloc1 ! (λ l₅. alloc1 ! (λ l₆. alloc1 ! (λ l₇. alloc1 ! (λ l₈. alloc1 ! (λ l₉. alloc1 ! (λ l₁₀. alloc1 ! (λ l₁₁. alloc1 ! (λ l₁₂. alloc1 ! (λ l₁₃.
+      alloc1 ! (λ l₁₄. alloc1 ! (λ l₁₅. alloc0 ! $ params1 ! $ pass1 ! (init ! 28 refl (shr-slice-lawful 𝓤 H A W (named 0) κ u8 .typed s (v ∷ []) p .0)) $
+      pass1 ! (init ! 26 refl (tt, record { fits = start-fits })) $ pass1 ! (init ! 24 refl (tt, record { fits = steps-fits })) $ pass1 ! (init ! 22 refl (tt, tt)) $ pass1 ! (init ! 20 refl (tt, tt)) $ pass1 ! (init ! 18 refl (tt, tt)) $ pass0 ! $
+      keep ! (34 ∷ 35 ∷ 33 ∷ 37 ∷ 32 ∷ 36 ∷ 0 ∷ 1 ∷ 2 ∷ 3 ∷ 4 ∷ 5 ∷ 6 ∷ 7 ∷ 8 ∷ 9 ∷ 10 ∷ 11 ∷ 12 ∷ 13 ∷ 14 ∷ 15 ∷ 16 ∷ 17 ∷ 18 ∷ 19 ∷ 20 ∷ 21 ∷ 22 ∷ 23 ∷ 24 ∷ 25 ∷ 26 ∷ 27 ∷ 28 ∷ 29 ∷ 30 ∷ 31 ∷ []) $
+      begins 𝓣 known-new known-next known-moved known-take l₀ l₁ l₂ l₃ l₄ l₅ l₆ l₇ l₈ l₉ l₁₀ l₁₁ l₁₂ l₁₃ l₁₄ l₁₅))))))))))))))))
 
 module _ {M : Type 1} (𝓤 : URA M) (H : Heap 𝓤) (A : Atoms 𝓤) (W : Given 𝓤 H A) (mem : Memory → SProp 𝓤) (run : Routine → Fun 𝓤) where
   reads-walks : (𝓣 : Tables 𝓤 H) → Triple 𝓤 (𝓣 .C #fields·reader·new) (New 𝓤 H A mem run) → Triple 𝓤 (𝓣 .C #fields·reader·next) (Next 𝓤 H A mem run)
       → Triple 𝓤 (𝓣 .C #fields·reader·moved) (Moved 𝓤 H A mem run) → Triple 𝓤 (𝓣 .C #diagram·reader·take-nodes) (Take 𝓤 H A mem run)
       → Walks 𝓤 H A reads.ended stayed (WpFn 𝓤 H (𝓣 .C) (𝓣 .Λ) code.function) (reads.clauses 𝓤 H A mem run)
   reads-walks 𝓣 known-new known-next known-moved known-take = walked 𝓤 H A reads.ended stayed (reads.clauses 𝓤 H A mem run) (WpFn 𝓤 H (𝓣 .C) (𝓣 .Λ) code.function)
-      (λ κs. (slice-vals, (uint-vals w64, (uint-vals w64, (ptr-vals, (ptr-vals, tt))))))
-      (λ κs. (shr-slice-tells (named 0) (κs .0) u8, (uint-tells w64, (uint-tells w64, (mut-tells (named 1) (κs .1 .0) TS, (mut-tells (named 2) (κs .1 .1 .0) TN, tt))))))
-      (λ κs qs bounds a g are. via 𝓤 _ (fst∗ 𝓤 _ (emp 𝓤))
-      (walk 𝓤 H A W mem run (κs .0) (κs .1 .0) (κs .1 .1 .0) (qs .0) (qs .1 .0) (qs .1 .1 .0) (a .0) (a .1 .0) (a .1 .1 .0) (are .1 .0 .1) (are .1 .1 .0 .1)
-      (a .1 .1 .1 .0 .ptr .0) (a .1 .1 .1 .0 .ptr .1) (a .1 .1 .1 .0 .name) (a .1 .1 .1 .0 .now) (a .1 .1 .1 .1 .0 .ptr .0) (a .1 .1 .1 .1 .0 .ptr .1) (a .1 .1 .1 .1 .0 .name) (a .1 .1 .1 .1 .0 .now)
-      (are .0) 𝓣 known-new known-next known-moved known-take))
+      (λ κs. (slice-vals, (uint-vals w64, (uint-vals w64, (bool-vals, (ptr-vals, (ptr-vals, tt)))))))
+      (λ κs. (shr-slice-tells (named 0) (κs .0) u8, (uint-tells w64, (uint-tells w64, (bool-tells, (mut-tells (named 1) (κs .1 .0) TC, (mut-tells (named 2) (κs .1 .1 .0) TN, tt)))))))
+      (λ κs qs bounds a g are. needs 𝓤 (Fresh (a .1 .1 .0) (a .1 .1 .1 .1 .0 .now) (a .1 .1 .1 .1 .1 .0 .now)) _ (λ fresh.
+      (walk 𝓤 H A W mem run (κs .0) (κs .1 .0) (κs .1 .1 .0) (qs .0) (qs .1 .0) (qs .1 .1 .0) (a .0) (a .1 .0) (a .1 .1 .0) (are .1 .0 .1) (are .1 .1 .0 .1) (a .1 .1 .1 .0)
+      (a .1 .1 .1 .1 .0 .ptr .0) (a .1 .1 .1 .1 .0 .ptr .1) (a .1 .1 .1 .1 .0 .name) (a .1 .1 .1 .1 .0 .now) (a .1 .1 .1 .1 .1 .0 .ptr .0) (a .1 .1 .1 .1 .1 .0 .ptr .1) (a .1 .1 .1 .1 .1 .0 .name) (a .1 .1 .1 .1 .1 .0 .now) fresh
+      (are .0) 𝓣 known-new known-next known-moved known-take)))
 
 reads-meets : {M : Type 1} (𝓤 : URA M) (H : Heap 𝓤) (A : Atoms 𝓤) → Given 𝓤 H A → (mem : Memory → SProp 𝓤) (run : Routine → Fun 𝓤) (𝓣 : Tables 𝓤 H) → Triple 𝓤 (𝓣 .C #fields·reader·new) (New 𝓤 H A mem run)
     → Triple 𝓤 (𝓣 .C #fields·reader·next) (Next 𝓤 H A mem run) → Triple 𝓤 (𝓣 .C #fields·reader·moved) (Moved 𝓤 H A mem run) → Triple 𝓤 (𝓣 .C #diagram·reader·take-nodes) (Take 𝓤 H A mem run)
@@ -380,7 +380,7 @@ reads-meets 𝓤 H A W mem run 𝓣 known-new known-next known-moved known-take 
         goes-none 𝓤 H A W 3 (λ _. usize) yes (λ κs x f. refl),
         (
           goes-none 𝓤 H A W 3 (λ _. usize) yes (λ κs x f. refl),
-          (goes-ref 𝓤 H A W 3 1 tt (plain (λ _. TS)), (goes-ref 𝓤 H A W 3 2 tt (plain (λ _. TN)), tt)),
+          (goes-none 𝓤 H A W 3 (λ _. bool) yes (λ κs x f. refl), (goes-ref 𝓤 H A W 3 1 tt (plain (λ _. TC)), (goes-ref 𝓤 H A W 3 2 tt (plain (λ _. TN)), tt))),
         ),
       ),
     )

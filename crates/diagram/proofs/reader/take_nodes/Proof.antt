@@ -24,7 +24,9 @@ enum-told-2 : tie.Need-enum-told-2
 enum-told-2 c = search needs
 
 put-nodes-requires : tie.Need-put-nodes-requires
-put-nodes-requires c κs = search whole-has
+put-nodes-requires c κs =
+    let start : tie.Start = search in
+    (search whole-has, start .pre .1)
 
 returns : tie.Need-returns
 returns c = search take-laws
