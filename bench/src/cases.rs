@@ -1,6 +1,6 @@
 //! The cases of the differential test: first the corners of the limits, among them those of rows and of
-//! ticks, then every systematic damage, then conjunctions in corners and of broken files, then random
-//! ones. A case is fixed by the seed and its number.
+//! ticks, then every systematic damage, then padding, then conjunctions in corners and of broken files,
+//! then random ones. A case is fixed by the seed and its number.
 
 use std::ops::Range;
 
@@ -10,22 +10,24 @@ use crate::files::{MAX_NODES, MAX_STAGES, MAX_STEPS};
 use crate::generate::broken::{at_limits, damaged, noise, systematic, Files};
 use crate::generate::charts::{long_steps, random_chart, Costs, Ends, Shape, Spans};
 use crate::generate::corners::{self, Size};
-use crate::generate::diagrams::{layers_of_width, random_diagram, scattered};
+use crate::generate::diagrams::{
+    layers_among, layers_of_width, random_diagram, scattered, Padding,
+};
 use crate::generate::load::load;
 use crate::generate::long::{self, near_longest};
 use crate::generate::mutate::mutated;
-use crate::generate::operands;
 use crate::generate::remarks::{self, with_remarks};
 use crate::generate::three_files::{self, ThreeFiles};
-use crate::generate::{rows, steps, ticks, Random};
+use crate::generate::{nodes, operands, padded, rows, steps, ticks, Random};
 
-/// Two or three files, and the seed from which the lent slices and their content are drawn.
+/// Two or three files, and the seed from which the lent slices and their content are drawn. Every diagram
+/// of a case is reduced as well.
 #[derive(Clone, Debug)]
 pub struct Case {
     pub kind: &'static str,
     pub chart: Vec<u8>,
     pub rules: Vec<u8>,
-    /// File 3, where the case is a conjunction; the other calls are then left out.
+    /// File 3, where the case is a conjunction; the searches are then left out.
     pub more: Option<Vec<u8>>,
     /// Where it is odd, no slice is too short.
     pub dirt: u64,
@@ -43,13 +45,18 @@ impl Case {
         Case { kind, chart, rules, more: Some(more), dirt }
     }
 
+    /// File 2, and file 3 where there is one.
+    pub fn diagrams(&self) -> impl Iterator<Item = &[u8]> {
+        [Some(&self.rules), self.more.as_ref()].into_iter().flatten().map(|file| &file[..])
+    }
+
     pub fn lends_enough(&self) -> bool {
         self.dirt % 2 == 1
     }
 }
 
 /// So many of a hundred random cases are conjunctions.
-const CONJUNCTIONS: usize = 8;
+const CONJUNCTIONS: usize = 9;
 
 /// All cases of one seed.
 pub struct Cases {
@@ -59,6 +66,8 @@ pub struct Cases {
     rows: Vec<Files>,
     ticks: Vec<Files>,
     systematic: Vec<Files>,
+    /// Nodes that are padding, or nearly, and padded diagrams.
+    padding: Vec<Files>,
     /// Each makes two cases: one that lends enough, and one that need not.
     conjunctions: Vec<ThreeFiles>,
     broken_conjunctions: Vec<ThreeFiles>,
@@ -76,7 +85,10 @@ impl Cases {
             files.extend(systematic(problem));
             files.extend(remarks::systematic(problem));
         }
-        let corners_of_conjunctions = operands::systematic(&mut random);
+        let mut padding = nodes::systematic();
+        padding.extend(padded::systematic(&mut random).iter().map(written));
+        let mut corners_of_conjunctions = operands::systematic(&mut random);
+        corners_of_conjunctions.extend(operands::with_padding(&mut random));
         let corner = |shape: &corners::Shape| written(&shape(&mut random, Size::FULL));
         Cases {
             seed,
@@ -84,6 +96,7 @@ impl Cases {
             rows: rows::systematic().iter().map(written).collect(),
             ticks: ticks::systematic().iter().map(written).collect(),
             systematic: files,
+            padding,
             conjunctions: corners_of_conjunctions.iter().map(three_files::written).collect(),
             broken_conjunctions: three_files::broken(&example_problem()),
         }
@@ -104,9 +117,15 @@ impl Cases {
         self.corners()..self.corners() + self.systematic.len()
     }
 
+    /// The cases of padding.
+    pub fn padding(&self) -> Range<usize> {
+        let first = self.systematic().end;
+        first..first + self.padding.len()
+    }
+
     /// The conjunctions in corners and of broken files.
     pub fn conjunctions(&self) -> Range<usize> {
-        let first = self.systematic().end;
+        let first = self.padding().end;
         first..first + 2 * self.conjunctions.len() + self.broken_conjunctions.len()
     }
 
@@ -133,8 +152,11 @@ impl Cases {
         if let Some(files) = self.systematic.get(number - self.corners()).cloned() {
             return Case::new("systematic damage", files, random.word());
         }
+        if let Some(files) = self.padding.get(number - self.padding().start).cloned() {
+            return Case::new("padding", files, random.word());
+        }
         match number.checked_sub(self.first_random()) {
-            None => self.conjunction(number - self.systematic().end, &mut random),
+            None => self.conjunction(number - self.conjunctions().start, &mut random),
             Some(_) => random_case(&mut random),
         }
     }
@@ -184,7 +206,7 @@ fn small_problem(random: &mut Random) -> Problem {
     };
     loop {
         let chart = shape.chart(random);
-        let diagram = scattered(random, chart.steps.len(), 4);
+        let diagram = scattered(random, chart.steps.len(), 4, Padding::Without);
         if diagram.nodes.len() >= 2 {
             return Problem { chart, diagram };
         }
@@ -222,6 +244,8 @@ fn plain_files(random: &mut Random) -> (&'static str, Files) {
         400..=449 => ("parallel", sized(random, 3, 30, 30)),
         450..=499 => ("bad steps", bad_steps(random)),
         500..=549 => ("ticks", written(&ticks::any(random))),
+        550..=599 => ("padded", written(&padded::any(random))),
+        600..=614 => ("damaged padded", damaged_padded(random)),
         _ => ("small", sized(random, 8, 14, 12)),
     }
 }
@@ -305,6 +329,16 @@ fn damaged_files(random: &mut Random) -> Files {
     (chart, rules)
 }
 
+/// A padded diagram spoiled anywhere.
+fn damaged_padded(random: &mut Random) -> Files {
+    let (chart, rules) = written(&padded::any(random));
+    let spoiled = match random.below(2) {
+        0 => damaged(random, &rules),
+        _ => mutated(random, &rules, &rules),
+    };
+    (chart, spoiled)
+}
+
 /// A chart and a diagram above 1,000 bytes, one or both spoiled anywhere.
 fn large_damaged(random: &mut Random) -> Files {
     let (steps, nodes) = (random.between(100, MAX_STEPS), random.between(120, MAX_NODES));
@@ -313,7 +347,7 @@ fn large_damaged(random: &mut Random) -> Files {
         Shape { stages, steps, costs: Costs::Wide, spans: Spans::Any, ends: Ends::Outermost };
     let chart = shape.chart(random);
     let row = random.subset(steps, nodes);
-    let rules = write_diagram(&layers_of_width(random, &row, 1));
+    let rules = write_diagram(&layers_of_width(random, &row, 1, Padding::Without));
     let chart = write_chart(&chart);
     match random.below(10) {
         0..=5 => (mutated(random, &chart, &rules), rules),
@@ -337,10 +371,11 @@ fn full_size(random: &mut Random) -> Files {
     let diagram = match random.below(4) {
         0 => {
             let width = random.pick(&[1, 2, 10, 51, 102]);
-            let steps = random.subset(chart.steps.len(), MAX_NODES / width);
-            layers_of_width(random, &steps, width)
+            let steps = random.subset(chart.steps.len(), layers_among(MAX_NODES, width));
+            let layers = layers_of_width(random, &steps, width, Padding::Without);
+            padded::filled_up(random, &layers, chart.steps.len(), MAX_NODES)
         }
-        1 => scattered(random, chart.steps.len(), MAX_NODES),
+        1 => scattered(random, chart.steps.len(), MAX_NODES, Padding::Without),
         _ => random_diagram(random, &chart, MAX_NODES),
     };
     (write_chart(&chart), write_diagram(&diagram))

@@ -1,18 +1,21 @@
 //! How far a case goes: its figures, and those that a whole run must reach.
 
 mod conjunctions;
+mod padding;
 
 pub use conjunctions::Conjoining;
+pub use padding::{Likeness, Reducing};
 
 use crate::cases::Case;
 use crate::compare::{Judgement, Outcome};
 use crate::files::{
-    Chart, Diagram, Problem, Refusal, CHART_FILE, DIAGRAM_FILE, LONGEST_FILE, MAX_COST, MAX_NODES,
-    MAX_STAGES, MORE_FILE, TICK,
+    read_chart, Chart, Diagram, Problem, Refusal, CHART_FILE, DIAGRAM_FILE, LONGEST_FILE, MAX_COST,
+    MAX_NODES, MAX_STAGES, MORE_FILE, TICK,
 };
 use crate::generate::costs::FIRST_TO_WRAP;
 use crate::generate::remarks::count_before;
 use crate::generate::steps::file_costs;
+use crate::nodes::NodeAtFault;
 use crate::reference::{Facts, Judged};
 use crate::steps::{StepAtFault, DEAR, ENDS, FALLS, SURPLUS};
 
@@ -65,8 +68,13 @@ pub struct Figures {
     pub fault_behind_remark: bool,
     /// The field at fault, where it is a step.
     pub step: Option<StepAtFault>,
+    /// The same where it is a node, of a conjunction too.
+    pub node: Option<NodeAtFault>,
     pub rounding: Rounding,
+    pub likeness: Likeness,
     pub conjunction: Conjoining,
+    /// Of each diagram.
+    pub reductions: [Reducing; 2],
 }
 
 /// What rounding changes, where searches run.
@@ -128,13 +136,24 @@ fn are_apart(a: (u32, u32), b: (u32, u32)) -> bool {
 
 impl Figures {
     pub fn of(case: &Case, outcome: &Outcome) -> Figures {
-        match &outcome.judgement {
-            Judgement::Searches(judged) => Figures::of_search_case(case, judged, outcome.enough),
-            Judgement::Conjunction(found) => {
-                let conjunction = Conjoining::of(case, found, &outcome.lent, outcome.enumerated);
+        let figures = match &outcome.judgement {
+            Judgement::Searches { judged, .. } => {
+                Figures::of_search_case(case, judged, outcome.enough)
+            }
+            Judgement::Conjunction { conjoined, reduced } => {
+                let calls = (&outcome.lent[..], outcome.enumerated);
+                let conjunction = Conjoining::of(case, conjoined, reduced, calls);
                 Figures { conjunction, ..Figures::default() }
             }
+        };
+        let mut reductions = [Reducing::default(); 2];
+        let made = outcome.judgement.reduced().iter().zip(&outcome.buffers);
+        for ((reduction, file), (reduced, buffers)) in
+            reductions.iter_mut().zip(case.diagrams()).zip(made)
+        {
+            *reduction = Reducing::of(file, reduced, buffers);
         }
+        Figures { node: node_at_fault(case, outcome.judgement.fault()), reductions, ..figures }
     }
 
     /// `enough`: both searches are lent what they need, and so run.
@@ -148,7 +167,9 @@ impl Figures {
             Err(fault) => return Figures::of_refusal(case, fault),
         };
         let remarks = remarks_passed(case, None);
-        Figures { bytes: (chart.len(), rules.len()), remarks, ..figures }
+        let likeness = judged.as_ref().map(|facts| Likeness::of(&facts.problem.diagram));
+        let likeness = likeness.unwrap_or_default();
+        Figures { bytes: (chart.len(), rules.len()), remarks, likeness, ..figures }
     }
 
     /// Of files that are refused.
@@ -180,6 +201,16 @@ impl Figures {
     fn step_is(&self, number: u32, such: impl Fn(&StepAtFault) -> bool) -> bool {
         let at_fault = |step: &StepAtFault| step.number == number && step.faults.set() != 0;
         self.step.is_some_and(|step| at_fault(&step) && such(&step))
+    }
+
+    /// Whether a node is refused with a number, and is such a one.
+    fn node_is(&self, number: u32, such: impl Fn(&NodeAtFault) -> bool) -> bool {
+        self.node.is_some_and(|node| node.number == number && such(&node))
+    }
+
+    /// How many reductions are such.
+    fn reduced(&self, such: impl Fn(&Reducing) -> bool) -> usize {
+        self.reductions.iter().filter(|reduction| such(reduction)).count()
     }
 
     /// Of sound files alone.
@@ -233,6 +264,13 @@ pub fn remarks_passed(case: &Case, fault: Option<&Refusal>) -> usize {
     let files = [Some(&case.chart), Some(&case.rules), case.more.as_ref()];
     let files = files.into_iter().zip([CHART_FILE, DIAGRAM_FILE, MORE_FILE]);
     files.filter_map(|(file, mark)| Some(count_before(file?, read_to(mark)))).sum()
+}
+
+/// The node field that is refused.
+fn node_at_fault(case: &Case, fault: Option<&Refusal>) -> Option<NodeAtFault> {
+    let fault = fault?;
+    let file = case.diagrams().nth((fault.file as usize).checked_sub(2)?)?;
+    NodeAtFault::of(file, read_chart(&case.chart).ok()?.steps.len(), fault)
 }
 
 fn cheapest_goal(facts: &Facts) -> Option<usize> {
@@ -304,7 +342,7 @@ impl Corner {
 }
 
 /// Most of the largest ones are what the limits allow.
-pub const CORNERS: [Corner; 100] = [
+pub const CORNERS: [Corner; 149] = [
     Corner::largest("plan cost", 255_000_000, |f| f.plan_cost),
     Corner::largest("plan length", 255, |f| f.plan_length),
     Corner::largest("sum of a reached pair", 765_000_000, |f| f.sum),
@@ -398,6 +436,13 @@ pub const CORNERS: [Corner; 100] = [
     Corner::largest("pairs of a conjunction", 262_144, |f| f.conjunction.pairs),
     Corner::largest("visited pairs of a conjunction", 130_000, |f| f.conjunction.visited),
     Corner::largest("depth of a conjunction", 1_020, |f| f.conjunction.depth),
+    Corner::largest("depth of a written conjunction", 1_019, |f| {
+        if f.conjunction.wrote(|_| true) {
+            f.conjunction.depth
+        } else {
+            0
+        }
+    }),
     Corner::largest("nodes of a written conjunction", MAX_NODES, |f| {
         if f.conjunction.wrote(|_| true) {
             f.conjunction.nodes
@@ -408,7 +453,9 @@ pub const CORNERS: [Corner; 100] = [
     Corner::largest("nodes of a conjunction that is too large", 10_000, |f| f.conjunction.nodes),
     Corner::count("sound conjunctions", 8_000, |f| f.conjunction.sound.into()),
     Corner::count("conjunctions compared by truth", 6_000, |f| f.conjunction.by_truth.into()),
-    Corner::count("conjunctions of padded diagrams", 4_000, |f| f.conjunction.padded.into()),
+    Corner::count("conjunctions of diagrams with strays or in another order", 4_000, |f| {
+        f.conjunction.disordered.into()
+    }),
     Corner::count("conjunctions that say no", 1_000, |f| {
         (f.conjunction.constant == Some(false)).into()
     }),
@@ -457,4 +504,107 @@ pub const CORNERS: [Corner; 100] = [
         (f.conjunction.fault.is_some() && f.conjunction.remarks > 0).into()
     }),
     Corner::largest("bytes of file 3", LONGEST_FILE, |f| f.conjunction.bytes),
+    Corner::count("sound files with nodes that differ in the step alone", 1, |f| {
+        f.likeness.but_step.into()
+    }),
+    Corner::count("in lo alone", 1, |f| f.likeness.but_lo.into()),
+    Corner::count("in hi alone", 1, |f| f.likeness.but_hi.into()),
+    Corner::count("in exchanged children alone", 1, |f| f.likeness.exchanged.into()),
+    Corner::count("in high bytes alone", 1, |f| f.likeness.low_bytes.into()),
+    Corner::count("sound files with nodes that nothing leads to", 1, |f| f.likeness.stray.into()),
+    Corner::count("sound files in another order than a walk's", 1, |f| {
+        f.likeness.disordered.into()
+    }),
+    Corner::count("13 for equal children in file 2", 1, |f| {
+        f.node_is(13, |n| n.file == DIAGRAM_FILE && n.faults.equal).into()
+    }),
+    Corner::count("13 for an alike node in file 2", 1, |f| {
+        f.node_is(13, |n| n.file == DIAGRAM_FILE && n.faults.twin.is_some()).into()
+    }),
+    Corner::count("13 for equal children in file 3", 1, |f| {
+        f.node_is(13, |n| n.file == MORE_FILE && n.faults.equal).into()
+    }),
+    Corner::count("13 for an alike node in file 3", 1, |f| {
+        f.node_is(13, |n| n.file == MORE_FILE && n.faults.twin.is_some()).into()
+    }),
+    Corner::count("13 for a node right behind its double", 1, |f| {
+        f.node_is(13, |n| n.faults.twin == Some(1)).into()
+    }),
+    Corner::count("13 for a node more than 255 behind its double", 1, |f| {
+        f.node_is(13, |n| n.faults.twin > Some(255)).into()
+    }),
+    Corner::largest("nodes from one to its double", MAX_NODES - 1, |f| {
+        if f.node_is(13, |_| true) {
+            f.node.and_then(|n| n.faults.twin).unwrap_or(0)
+        } else {
+            0
+        }
+    }),
+    Corner::count("13 at the 510th node", 1, |f| {
+        f.node_is(13, |n| n.before == MAX_NODES - 1).into()
+    }),
+    Corner::count("13 before a later field at fault", 1, |f| {
+        f.node_is(13, |n| n.hidden.is_some_and(|fault| fault.place > 0)).into()
+    }),
+    Corner::count("13 before the root at fault", 1, |f| {
+        f.node_is(13, |n| n.hidden.is_some_and(|fault| fault.place == 0)).into()
+    }),
+    Corner::count("13 behind a remark", 1, |f| {
+        (f.node_is(13, |_| true) && f.fault_behind_remark).into()
+    }),
+    Corner::count("6 for a node with equal children", 1, |f| {
+        f.node_is(6, |n| n.faults.equal && !n.faults.surplus).into()
+    }),
+    Corner::count("6 for the 511th with equal children", 1, |f| {
+        f.node_is(6, |n| n.faults.surplus && n.faults.equal && !n.faults.beyond).into()
+    }),
+    Corner::count("6 for the 511th, alike to another", 1, |f| {
+        f.node_is(6, |n| n.faults.surplus && n.faults.twin.is_some()).into()
+    }),
+    Corner::count("a wrong length and padding", 1, |f| {
+        f.node_is(3, |n| n.faults.is_padding()).into()
+    }),
+    Corner::count("a cut body and padding", 1, |f| {
+        f.node_is(1, |n| n.faults.is_padding()).into()
+    }),
+    Corner::count("reductions", 1, |f| f.reduced(|r| r.sound)),
+    Corner::count("reductions compared by truth", 1, |f| f.reduced(|r| r.by_truth)),
+    Corner::count("reductions of padded files", 1, |f| f.reduced(Reducing::is_padded)),
+    Corner::count("of files with nodes that nothing leads to", 1, |f| f.reduced(|r| r.stray)),
+    Corner::count("of padded files with remarks", 1, |f| {
+        f.reduced(|r| r.is_padded() && r.remarks > 0)
+    }),
+    Corner::count("of files that are reduced already", 1, |f| f.reduced(|r| r.unchanged)),
+    Corner::count("reductions to yes", 1, |f| f.reduced(|r| r.constant == Some(true))),
+    Corner::count("reductions to no", 1, |f| f.reduced(|r| r.constant == Some(false))),
+    Corner::largest("nodes of a reduction", MAX_NODES, |f| f.reductions[0].nodes),
+    Corner::largest("nodes that a reduction leaves out", MAX_NODES, |f| {
+        f.reductions[0].before - f.reductions[0].nodes
+    }),
+    Corner::largest("alike nodes of a reduced file", 254, |f| f.reductions[0].doubles),
+    Corner::largest("nodes with equal children of one", MAX_NODES, |f| f.reductions[0].equal),
+    Corner::count("reductions of 510 nodes to 100 and more", 1, |f| {
+        f.reduced(|r| r.is_padded() && r.before == MAX_NODES && r.nodes >= 100)
+    }),
+    Corner::count("reductions accepted", 1, |f| sum(f, |r| r.accepted)),
+    Corner::count("reductions in just the bytes needed", 1, |f| sum(f, |r| r.exact)),
+    Corner::count("7 for the buffer of a reduction", 1, |f| sum(f, |r| r.short)),
+    Corner::count("7 for one byte of it", 1, |f| sum(f, |r| r.one_byte)),
+    Corner::count("reductions refused with 1", 1, |f| f.reduced(|r| r.refuses(1))),
+    Corner::count("reductions refused with 2", 1, |f| f.reduced(|r| r.refuses(2))),
+    Corner::count("reductions refused with 3", 1, |f| f.reduced(|r| r.refuses(3))),
+    Corner::count("reductions refused with 6", 1, |f| f.reduced(|r| r.refuses(6))),
+    Corner::count("reductions refused with 9", 1, |f| f.reduced(|r| r.refuses(9))),
+    Corner::count("pairs of diagrams that mean the same", 1, |f| f.conjunction.same.into()),
+    Corner::count("pairs of different files that mean the same", 1, |f| {
+        f.conjunction.same_differs.into()
+    }),
+    Corner::count("pairs that do not, with as many nodes", 1, |f| {
+        f.conjunction.other_as_large.into()
+    }),
 ];
+
+/// Over all reductions of a case.
+fn sum(figures: &Figures, of: fn(&Reducing) -> usize) -> usize {
+    figures.reductions.iter().map(of).sum()
+}

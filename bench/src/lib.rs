@@ -4,6 +4,7 @@
 pub mod files;
 pub mod guard;
 pub mod lent;
+pub mod nodes;
 pub mod planner;
 pub mod steps;
 

@@ -1,7 +1,9 @@
 //! Planners that are spoiled in one corner: the differential test must find each of them.
 
 mod conjunctions;
+mod padding;
 mod readings;
+mod reductions;
 mod rows;
 mod steps;
 mod ticks;
@@ -12,6 +14,8 @@ use crate::files::{read_chart, LONGEST_FILE};
 use crate::planner::{self, Answer, ConjoinSlices, GuidedSlices, Planner, Space, SweepSlices};
 use crate::steps::{StepAtFault, StepFaults};
 use conjunctions::{Call, Conjoiner, SpoilConjoined};
+use padding::Misreading;
+use reductions::SpoilReduced;
 use rows::Rows;
 use ticks::Ticks;
 
@@ -54,6 +58,12 @@ enum Spoil {
     Conjoiner(Conjoiner),
     /// The answer and the slices of a conjunction.
     Conjoined(SpoilConjoined),
+    /// How diagrams are read for padding.
+    Padding(Misreading),
+    /// How a diagram is reduced.
+    Reducer(Conjoiner),
+    /// The answer and the buffer of a reduction.
+    Reduced(SpoilReduced),
 }
 
 /// Whether a step's values have some fault.
@@ -82,7 +92,12 @@ const fn new(name: &'static str, spoil: Spoil) -> Sabotage {
 
 /// Every sabotage.
 pub fn all() -> impl Iterator<Item = &'static Sabotage> {
-    searches().chain(ticks()).chain(readings()).chain(conjunctions())
+    searches().chain(ticks()).chain(readings()).chain(conjunctions()).chain(padding())
+}
+
+/// Wrong readings of padding, and wrong reductions.
+pub fn padding() -> impl Iterator<Item = &'static Sabotage> {
+    padding::PADDING.iter().chain(&reductions::REDUCTIONS)
 }
 
 /// Wrong conjunctions.
@@ -251,6 +266,7 @@ impl Spoiled {
         match &self.sabotage.spoil {
             Spoil::SweepRows(rows) => rows.sweep(chart, rules, lent),
             Spoil::SweepTicks(ticks) => ticks.sweep(chart, rules, lent),
+            Spoil::Padding(padding) => padding.sweep(chart, rules, lent),
             _ => None,
         }
     }
@@ -260,6 +276,7 @@ impl Spoiled {
         match &self.sabotage.spoil {
             Spoil::GuidedRows(rows) => rows.guided(chart, rules, lent),
             Spoil::GuidedTicks(ticks) => ticks.guided(chart, rules, lent),
+            Spoil::Padding(padding) => padding.guided(chart, rules, lent),
             _ => None,
         }
     }
@@ -318,6 +335,11 @@ impl Planner for Spoiled {
         guided: &mut GuidedSlices,
     ) -> Option<(Answer, Answer)> {
         let (chart, rules) = self.read(chart, rules);
+        if let Spoil::Padding(padding) = &self.sabotage.spoil {
+            if let Some(answers) = padding.both(&chart, &rules, sweep, guided) {
+                return Some(answers);
+            }
+        }
         let (swept, found) = self.planner.both(&chart, &rules, sweep, guided)?;
         let swept = self.spoil_sweep(&chart, swept, sweep);
         Some((swept, self.spoil_guided(&chart, found, guided)))
@@ -325,6 +347,11 @@ impl Planner for Spoiled {
 
     fn space_needed(&self, chart: &[u8], rules: &[u8]) -> Option<Space> {
         let (chart, rules) = self.read(chart, rules);
+        if let Spoil::Padding(padding) = &self.sabotage.spoil {
+            if let Some(space) = padding.space_needed(&chart, &rules) {
+                return Some(space);
+            }
+        }
         let mut space = self.planner.space_needed(&chart, &rules)?;
         space.number = self.number(&chart, space.number);
         if let Spoil::Space(spoil) = self.sabotage.spoil {
@@ -361,13 +388,34 @@ impl Planner for Spoiled {
         lent: &mut ConjoinSlices,
     ) -> Option<Answer> {
         let (chart, rules) = self.read(chart, rules);
-        if let Spoil::Conjoiner(conjoiner) = &self.sabotage.spoil {
-            return Some(conjoiner.conjoin([&chart, &rules, more], lent));
+        let other = match &self.sabotage.spoil {
+            Spoil::Conjoiner(conjoiner) => {
+                let ConjoinSlices { work, file } = &mut *lent;
+                Some(conjoiner.conjoin([&chart, &rules, more], work.len(), file))
+            }
+            Spoil::Padding(padding) => padding.conjoin([&chart, &rules, more], lent),
+            _ => None,
+        };
+        if other.is_some() {
+            return other;
         }
         let mut answer = self.planner.conjoin(&chart, &rules, more, lent)?;
         answer.number = self.number(&chart, answer.number);
         if let Spoil::Conjoined(spoil) = self.sabotage.spoil {
             spoil(&Call::new([&chart, &rules, more]), &mut answer, lent);
+        }
+        Some(answer)
+    }
+
+    fn reduce(&self, chart: &[u8], rules: &[u8], file: &mut [u8]) -> Option<Answer> {
+        let (chart, rules) = self.read(chart, rules);
+        if let Spoil::Reducer(reducer) = &self.sabotage.spoil {
+            return Some(reducer.conjoin([&chart, &rules, &[]], file.len(), file));
+        }
+        let mut answer = self.planner.reduce(&chart, &rules, file)?;
+        answer.number = self.number(&chart, answer.number);
+        if let Spoil::Reduced(spoil) = self.sabotage.spoil {
+            spoil(&rules, &mut answer, file);
         }
         Some(answer)
     }

@@ -13,8 +13,9 @@ use planner_bench::tally::Tally;
 
 const HELP: &str = "\
 difftest: runs every call of every implementation (sweep, guided search, both in one, the space
-needed, the refused field, the conjunction of two diagrams) on many chart and diagram files and holds
-each result against the reference. Files and slices are lent beside pages that fault when touched.
+needed, the refused field, the conjunction of two diagrams, the reduction of one) on many chart and
+diagram files and holds each result against the reference. Files and slices are lent beside pages that
+fault when touched.
 
 usage: difftest [--cases N] [--seed N] [--first N] [--save DIR] [--save-each] [--sabotage NAME]
        difftest --replay DIR
@@ -210,8 +211,8 @@ fn replay(folder: &Path, planners: &[Box<dyn Planner>]) -> ExitCode {
 }
 
 /// Runs this program with each sabotage, since some of them end it. Wrong costs show where rounding
-/// decides, wrong readings in files that come behind the corners, wrong conjunctions in cases of their
-/// own.
+/// decides, wrong readings in files that come behind the corners, wrong conjunctions, and what is wrong
+/// about padding, in cases of their own.
 fn sabotage_all() -> ExitCode {
     let cases = Cases::new(FIXED_SEED);
     let searches = sabotage::searches().map(|sabotage| (sabotage, 0));
@@ -219,8 +220,10 @@ fn sabotage_all() -> ExitCode {
     let readings = sabotage::readings().map(|sabotage| (sabotage, cases.corners()));
     let conjunctions =
         sabotage::conjunctions().map(|sabotage| (sabotage, cases.conjunctions().start));
+    let padding = sabotage::padding().map(|sabotage| (sabotage, cases.padding().start));
     let mut missed = 0;
-    for (sabotage, first) in searches.chain(ticks).chain(readings).chain(conjunctions) {
+    let all = searches.chain(ticks).chain(readings).chain(conjunctions).chain(padding);
+    for (sabotage, first) in all {
         match caught(sabotage.name, first) {
             Ok(line) => println!("{}: {line}", sabotage.name),
             Err(text) => {

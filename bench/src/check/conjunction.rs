@@ -91,9 +91,7 @@ pub fn is_reduced(diagram: &Diagram) -> Checked {
         demand(node.lo != node.hi, NO_EQUAL, || format!("{node:?}"))?;
         demand(different.insert(*node), NO_DOUBLES, || format!("{node:?}"))?;
     }
-    let mut walked = vec![false; diagram.references()];
-    let mut left = Vec::new();
-    walk(diagram, diagram.root, &mut walked, &mut left);
+    let left = walked(diagram);
     demand(left.len() == diagram.nodes.len(), ARRIVED, || {
         format!("{diagram:?}, only at {left:?}")
     })?;
@@ -101,14 +99,22 @@ pub fn is_reduced(diagram: &Diagram) -> Checked {
     demand(in_order, WALK, || format!("a walk leaves {left:?}"))
 }
 
+/// The inner nodes in the order in which a walk from the root leaves them.
+pub fn walked(diagram: &Diagram) -> Vec<u16> {
+    let mut seen = vec![false; diagram.references()];
+    let mut left = Vec::new();
+    walk(diagram, diagram.root, &mut seen, &mut left);
+    left
+}
+
 /// Goes on from a node, unless the walk was there, and notes its inner nodes as it leaves them.
-fn walk(diagram: &Diagram, reference: u16, walked: &mut [bool], left: &mut Vec<u16>) {
+fn walk(diagram: &Diagram, reference: u16, seen: &mut [bool], left: &mut Vec<u16>) {
     let Some(node) = diagram.inner(reference) else { return };
-    if std::mem::replace(&mut walked[usize::from(reference)], true) {
+    if std::mem::replace(&mut seen[usize::from(reference)], true) {
         return;
     }
-    walk(diagram, node.lo, walked, left);
-    walk(diagram, node.hi, walked, left);
+    walk(diagram, node.lo, seen, left);
+    walk(diagram, node.hi, seen, left);
     left.push(reference);
 }
 

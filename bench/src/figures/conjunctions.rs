@@ -23,8 +23,8 @@ pub struct Conjoining {
     pub constant: Option<bool>,
     /// More nodes than either diagram has.
     pub grown: bool,
-    /// A diagram has doubles, equal children, nodes that nothing leads to, or another order.
-    pub padded: bool,
+    /// A diagram has nodes that nothing leads to, or another order.
+    pub disordered: bool,
     /// Compared with the verdicts on every set.
     pub by_truth: bool,
     pub calls: Calls,
@@ -35,6 +35,12 @@ pub struct Conjoining {
     pub remarks: usize,
     /// Bytes of a second diagram that passes.
     pub bytes: usize,
+    /// Both diagrams, padded or not, say yes to the same sets.
+    pub same: bool,
+    /// So they do, but their files differ.
+    pub same_differs: bool,
+    /// They do not, but their reductions have as many nodes.
+    pub other_as_large: bool,
 }
 
 /// How many calls on one case ended so.
@@ -86,11 +92,11 @@ impl Conjoining {
     pub fn of(
         case: &Case,
         conjoined: &Conjoined,
-        lent: &[(usize, usize)],
-        by_truth: bool,
+        reduced: &[Conjoined; 2],
+        (lent, by_truth): (&[(usize, usize)], bool),
     ) -> Conjoining {
         let more = case.more.as_deref().unwrap_or_default();
-        match conjoined {
+        let found = match conjoined {
             Err(fault) => Conjoining::of_refusal(case, more, fault),
             Ok(found) => Conjoining {
                 by_truth,
@@ -99,6 +105,14 @@ impl Conjoining {
                 bytes: more.len(),
                 ..Conjoining::of_operands(found)
             },
+        };
+        let [Ok(first), Ok(second)] = reduced else { return found };
+        let same = first.reduced == second.reduced;
+        Conjoining {
+            same,
+            same_differs: same && case.rules != more,
+            other_as_large: !same && first.reduced.nodes.len() == second.reduced.nodes.len(),
+            ..found
         }
     }
 
@@ -113,7 +127,7 @@ impl Conjoining {
             nodes,
             constant: (nodes == 0).then_some(found.reduced.root == 1),
             grown: operands.iter().all(|operand| nodes > operand.nodes.len()),
-            padded: operands.iter().any(|operand| is_reduced(operand).is_err()),
+            disordered: operands.iter().any(|operand| is_reduced(operand).is_err()),
             ..Conjoining::default()
         }
     }

@@ -6,6 +6,7 @@ use crate::generate::charts::random_chart;
 use crate::generate::diagrams::random_diagram;
 use crate::generate::long::near_longest;
 use crate::generate::mutate::mutated;
+use crate::generate::padded::over_chart;
 use crate::generate::three_files::{spoiled, written, ThreeFiles};
 use crate::generate::Random;
 
@@ -84,9 +85,13 @@ impl Corpus {
     }
 }
 
+/// A chart and two diagrams; one of twelve of these is padded.
 fn sound(random: &mut Random, [stages, steps, nodes]: [usize; 3]) -> ThreeFiles {
     let chart = random_chart(random, stages, steps);
-    let [first, second] = [(); 2].map(|()| random_diagram(random, &chart, nodes));
+    let [first, second] = [(); 2].map(|()| match random.below(12) {
+        0 => over_chart(random, &chart, nodes),
+        _ => random_diagram(random, &chart, nodes),
+    });
     written(&Operands { chart, first, second })
 }
 

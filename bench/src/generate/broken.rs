@@ -138,6 +138,14 @@ fn two_faults(before: &[Vec<u8>], field: &[u8], head_tag: u8) -> Vec<Vec<u8>> {
     files
 }
 
+/// A field with each of some tags, each of some lengths, and every cut.
+pub(super) fn spoiled_fields(field: &[u8], tags: &[u8], lengths: &[u16]) -> Fields {
+    let tags = tags.iter().map(|tag| with_bytes(field, 0, &[*tag]));
+    let lengths = lengths.iter().map(|length| with_bytes(field, 1, &length.to_le_bytes()));
+    let cuts = (1..field.len()).map(|end| field[..end].to_vec());
+    tags.chain(lengths).chain(cuts).collect()
+}
+
 /// Heads missing, doubled, in the wrong place, and doubled with a wrong length.
 fn moved_heads(fields: &Fields) -> Vec<Vec<u8>> {
     let head = &fields[0];

@@ -1,11 +1,16 @@
-//! Charts with two diagrams over them, for conjunctions of every size and shape.
+//! Charts with two diagrams over them, for conjunctions of every size and shape. None of them has padding
+//! but those that are said to.
 
-use super::charts::random_chart;
-use super::diagrams::{layers_of_width, random_diagram, scattered};
-use super::padded::{complement, padded};
-use super::rules::{diagram_of, AllOf, AtMost, ExactlyOne, Modulo, Needs, Rule};
+use super::charts::{parallel, random_chart};
+use super::diagrams::{layers_of_width, random_diagram, scattered, Padding};
+use super::padded::{self, comb, complement, rearranged};
+use super::rules::{AllOf, AtMost, Both, ExactlyOne, Needs};
+use super::shapes::{
+    all_of, eight_needs, even, idle, none_of, odd, parity, rule, tree, tree_of_doubles,
+    tree_of_leaves, LAST,
+};
 use super::Random;
-use crate::files::{Chart, Diagram, Node, Operands, Step, MAX_NODES, MAX_STEPS};
+use crate::files::{Diagram, Node, Operands, MAX_NODES, MAX_STEPS};
 use crate::reference::conjunction::Conjunction;
 
 const NO: Diagram = Diagram::NO;
@@ -13,10 +18,7 @@ const YES: Diagram = Diagram::YES;
 
 /// Two diagrams over a chart of so many parallel steps; without steps it has one stage.
 fn over(steps: usize, first: Diagram, second: Diagram) -> Operands {
-    let step = Step { from: 0, to: 1, cost: 7 };
-    let stages = if steps == 0 { 1 } else { 2 };
-    let chart = Chart { stages, start: 0, end: stages - 1, steps: vec![step; steps] };
-    Operands { chart, first, second }
+    Operands { chart: parallel(steps), first, second }
 }
 
 /// Both orders of two diagrams over as many steps as there may be.
@@ -53,8 +55,7 @@ fn constants() -> Vec<Operands> {
 /// One node in each, of the first step, the last or one amid them.
 fn single_tests() -> Vec<Operands> {
     let steps = [0, 1, 255, 256, MAX_STEPS as u16 - 1];
-    let children = [(0, 0), (0, 1), (1, 0), (1, 1)];
-    let tests = steps.iter().flat_map(|step| children.map(|(lo, hi)| (*step, lo, hi)));
+    let tests = steps.iter().flat_map(|step| [(0, 1), (1, 0)].map(|(lo, hi)| (*step, lo, hi)));
     let tests: Vec<Diagram> = tests
         .map(|(step, lo, hi)| Diagram { root: 2, nodes: vec![Node { step, lo, hi }] })
         .chain([NO, YES])
@@ -63,42 +64,24 @@ fn single_tests() -> Vec<Operands> {
     pairs.map(|(a, b)| over(MAX_STEPS, a.clone(), b.clone())).collect()
 }
 
-fn rule(rule: &dyn Rule) -> Diagram {
-    diagram_of(rule, Padding::Without).expect("at most 510 nodes")
-}
-
-fn all_of(steps: impl Iterator<Item = usize>) -> Diagram {
-    rule(&AllOf(steps.map(|step| step as u16).collect()))
-}
-
-fn none_of(steps: impl Iterator<Item = usize>) -> Diagram {
-    rule(&AtMost { most: 0, steps: steps.map(|step| step as u16).collect() })
-}
-
-/// The number of the steps from one on is even or odd.
-fn parity(from: u16, steps: u16, rest: u64) -> Diagram {
-    rule(&Modulo { divisor: 2, rest, steps: (from..from + steps).collect() })
-}
-
-/// 510 nodes: each of eight steps needs one that comes behind all of them.
-fn eight_needs() -> Diagram {
-    rule(&Needs((0..8).map(|at| (100 * at, 1_000 + 2 * at)).collect()))
-}
-
-/// A diagram with itself, its complement, padded copies of both and the constants.
-fn same_and_opposite(random: &mut Random) -> Vec<Operands> {
-    let some = [
+/// Diagrams of up to 510 nodes.
+fn some(random: &mut Random) -> [Diagram; 5] {
+    [
         parity(3, 255, 1),
         eight_needs(),
         rule(&ExactlyOne((0..255).map(|at| 4 * at).collect())),
-        layers_of_width(random, &(400..500).collect::<Vec<u16>>(), 4),
-        scattered(random, MAX_STEPS, 200),
-    ];
+        layers_of_width(random, &(400..500).collect::<Vec<u16>>(), 4, Padding::Without),
+        scattered(random, MAX_STEPS, 200, Padding::Without),
+    ]
+}
+
+/// A diagram with itself, its complement, copies of both in another order and the constants.
+fn same_and_opposite(random: &mut Random) -> Vec<Operands> {
     let mut all = Vec::new();
-    for diagram in some {
+    for diagram in some(random) {
         let opposite = complement(&diagram);
-        let copies = [(); 2].map(|()| padded(random, &diagram, MAX_STEPS, MAX_NODES));
-        let other = padded(random, &opposite, MAX_STEPS, MAX_NODES);
+        let copies = [(); 2].map(|()| rearranged(random, &diagram, MAX_STEPS, MAX_NODES));
+        let other = rearranged(random, &opposite, MAX_STEPS, MAX_NODES);
         let mut with = |other: &Diagram| all.extend(either(&diagram, other));
         with(&diagram);
         with(&opposite);
@@ -110,25 +93,6 @@ fn same_and_opposite(random: &mut Random) -> Vec<Operands> {
         all.extend(either(&copies[0], &other));
     }
     all
-}
-
-/// Tests that change nothing, one after the other.
-fn idle(steps: impl DoubleEndedIterator<Item = usize>, end: u16) -> Diagram {
-    let mut nodes: Vec<Node> = Vec::new();
-    let mut next = end;
-    for step in steps.rev() {
-        nodes.push(Node { step: step as u16, lo: next, hi: next });
-        next = nodes.len() as u16 + 1;
-    }
-    Diagram { root: next, nodes }
-}
-
-fn even(count: usize) -> impl DoubleEndedIterator<Item = usize> {
-    (0..count).map(|at| 2 * at)
-}
-
-fn odd(count: usize) -> impl DoubleEndedIterator<Item = usize> {
-    (0..count).map(|at| 2 * at + 1)
 }
 
 /// Nodes of two rows; together they have 509, 510, 511 or far more.
@@ -158,16 +122,21 @@ fn chains() -> Vec<Operands> {
         all.push(over(MAX_STEPS, none_of(behind(second)), none_of(0..first)));
         all.push(over(MAX_STEPS, none_of(even(first)), all_of(odd(second))));
     }
-    for end in [0, 1] {
-        let idle_even = idle(even(510), end);
-        all.extend(either(&idle_even, &all_of(odd(510))));
-        all.extend(either(&idle_even, &none_of(odd(510))));
-        all.extend(either(&idle_even, &idle(odd(510), 1)));
-    }
+    let (first, second) = deep();
+    all.extend(either(&first, &second));
+    all.extend(either(&complement(&first), &second));
     all.extend(either(&all_of(0..510), &none_of(0..510)));
     all.extend(either(&all_of(0..510), &all_of(0..510)));
     all.extend(either(&none_of(514..1_024), &complement(&none_of(514..1_024))));
     all
+}
+
+/// Rows of 510 nodes, over every other step, that exclude each other by the last step alone: 1,019 deep.
+fn deep() -> (Diagram, Diagram) {
+    let every_other = AllOf(odd(509).map(|step| step as u16).collect());
+    let without_last = AtMost { most: 0, steps: vec![LAST] };
+    let second = Both(Box::new(every_other), Box::new(without_last));
+    (all_of(even(509).chain([LAST.into()])), rule(&second))
 }
 
 /// Results with just so many nodes, and with about as many.
@@ -181,7 +150,7 @@ fn of_size(random: &mut Random) -> Vec<Operands> {
 fn of_nodes(random: &mut Random, nodes: usize) -> Option<(Diagram, Diagram)> {
     let (width, layers) = (random.pick(&[1, 2, 5, 20]), random.between(20, 300));
     let steps: Vec<u16> = (520..1_024).take(layers.min(500 / width)).collect();
-    let behind = layers_of_width(random, &steps, width);
+    let behind = layers_of_width(random, &steps, width, Padding::Without);
     let reduced = Conjunction::of(over(MAX_STEPS, behind.clone(), YES)).reduced;
     let in_front =
         nodes.checked_sub(reduced.nodes.len()).filter(|count| (1..=510).contains(count))?;
@@ -190,67 +159,79 @@ fn of_nodes(random: &mut Random, nodes: usize) -> Option<(Diagram, Diagram)> {
     (reduced.root > 1).then_some((front, behind))
 }
 
-/// A tree over eight steps from one on, and 255 leaves below it, the last of them twice.
-fn tree(first: u16, leaf: impl FnMut(usize) -> Node) -> Diagram {
-    const LEAVES: usize = 255;
-    let mut nodes: Vec<Node> = (0..LEAVES).map(leaf).collect();
-    let mut row: Vec<u16> = (0..=LEAVES).map(|at| at.min(LEAVES - 1) as u16 + 2).collect();
-    for step in (first..first + 8).rev() {
-        row = row
-            .chunks(2)
-            .map(|below| {
-                nodes.push(Node { step, lo: below[0], hi: below[1] });
-                nodes.len() as u16 + 1
-            })
-            .collect();
-    }
-    Diagram { root: row[0], nodes }
-}
+/// A node that wants the last step, and one that forbids it.
+const WANTS_LAST: Node = Node { step: LAST, lo: 0, hi: 1 };
+const FORBIDS_LAST: Node = Node { step: LAST, lo: 1, hi: 0 };
 
-const LAST: u16 = MAX_STEPS as u16 - 1;
-
-/// A tree whose leaves all want one step.
-fn tree_of_doubles(first: u16, step: u16) -> Diagram {
-    tree(first, |_| Node { step, lo: 0, hi: 1 })
-}
-
-/// A tree whose leaves are all alike, over a reduced diagram of 509 nodes: the result has 510, and half
-/// of all pairs are visited, nearly all of them to find a node that is there already.
+/// A tree with different leaves that all say yes where the last step is taken, over a reduced diagram of
+/// 510 nodes that wants it, which is the result. Half of all pairs are visited, nearly all of them to
+/// find a node that is there already.
 pub fn most_pairs() -> Operands {
-    let mut second = parity(8, 255, 1);
-    // Nothing leads to the 510th.
-    second.nodes.push(Node { step: 5, lo: 0, hi: 1 });
-    over(MAX_STEPS, tree_of_doubles(0, LAST), second)
+    let first = tree_of_leaves(0, LAST, WANTS_LAST, 1);
+    // An odd number of 255 steps, and then the last step in the place of "yes".
+    let Diagram { root, nodes } = parity(8, 255, 1);
+    let last = |reference: u16| if reference == 0 { 0 } else { reference + 1 };
+    let behind = nodes.iter().map(|node| Node { lo: last(node.lo), hi: last(node.hi), ..*node });
+    let second = Diagram { root: last(root), nodes: [WANTS_LAST].into_iter().chain(behind).collect() };
+    over(MAX_STEPS, first, second)
+}
+
+/// Two trees that exclude each other by the last step alone: as many pairs, and the result is "no".
+fn trees() -> (Diagram, Diagram) {
+    (tree_of_leaves(0, LAST, WANTS_LAST, 0), tree_of_leaves(8, LAST - 300, FORBIDS_LAST, 0))
 }
 
 /// Trees over each other: most pairs that are come to, with small results and with large ones.
 fn many_pairs(random: &mut Random) -> Vec<Operands> {
-    let mut tree_of_few = |first: u16, steps: usize| {
-        tree(first, |_| {
+    let mut tree_of_any = |first: u16| {
+        let steps = random.subset(900, 255).into_iter();
+        let mut leaf = |step: u16| {
             let lo = random.below(2) as u16;
-            Node { step: LAST - random.below(steps) as u16, lo, hi: 1 - lo }
-        })
+            Node { step: LAST - step, lo, hi: 1 - lo }
+        };
+        tree(first, steps.map(&mut leaf).collect(), |at| if at < 255 { at as u16 + 2 } else { 0 })
     };
-    let doubles = tree_of_doubles(0, LAST);
-    let many = tree_of_few(8, 900);
-    let others = [
-        most_pairs().second,
-        tree_of_doubles(8, LAST),
-        tree_of_doubles(8, LAST - 1),
-        complement(&tree_of_doubles(8, LAST)),
-        tree_of_few(8, 2),
-        tree(8, |at| Node { step: 20 + at as u16, lo: 1, hi: 0 }),
-    ];
-    // Nodes of one step and one hi whose other children lie far apart.
-    let comb = tree(8, |at| match at % 2 {
-        0 => Node { step: 20 + at as u16, lo: 1, hi: 0 },
-        _ => Node { step: LAST, lo: 0, hi: 1 },
-    });
-    let mut all: Vec<_> = others.iter().flat_map(|other| either(&doubles, other)).collect();
-    all.extend(either(&comb, &YES));
-    all.extend(either(&comb, &comb));
-    all.extend(either(&doubles, &many));
-    all.extend(either(&tree_of_few(0, 900), &many));
+    let many = [0, 8].map(&mut tree_of_any);
+    let Operands { first, second, .. } = most_pairs();
+    let (wants, forbids) = trees();
+    let mut all: Vec<_> = either(&first, &second).into();
+    all.extend(either(&wants, &forbids));
+    all.extend(either(&first, &forbids));
+    all.extend(either(&wants, &second));
+    all.extend(either(&comb(), &YES));
+    all.extend(either(&comb(), &comb()));
+    all.extend(either(&many[0], &many[1]));
+    all.extend(either(&first, &many[1]));
+    all
+}
+
+/// Pairs of which one or both have padding, to be refused and to be reduced: such that mean the same, the
+/// opposite, or something else.
+pub fn with_padding(random: &mut Random) -> Vec<Operands> {
+    let mut all = Vec::new();
+    for diagram in some(random) {
+        let opposite = complement(&diagram);
+        let copies = [(); 2].map(|()| padded::padded(random, &diagram, MAX_STEPS, MAX_NODES));
+        let other = padded::padded(random, &opposite, MAX_STEPS, MAX_NODES);
+        let one = padded::with_one(random, &diagram, MAX_STEPS);
+        all.extend(either(&diagram, &copies[0]));
+        all.extend(either(&diagram, &other));
+        all.extend(either(&diagram, &one));
+        all.extend(either(&copies[0], &copies[1]));
+        all.extend(either(&copies[0], &other));
+        all.extend(either(&copies[0], &NO));
+    }
+    for end in [NO, YES] {
+        let idle_even = idle(even(MAX_NODES), end.root);
+        all.extend(either(&idle_even, &end));
+        all.extend(either(&idle_even, &idle(odd(MAX_NODES), end.root)));
+        all.extend(either(&idle_even, &all_of(odd(MAX_NODES))));
+    }
+    let doubles = tree_of_doubles(0, WANTS_LAST);
+    let leaf = Diagram { root: 2, nodes: vec![WANTS_LAST] };
+    all.extend(either(&doubles, &leaf));
+    all.extend(either(&doubles, &tree_of_doubles(8, WANTS_LAST)));
+    all.extend(either(&doubles, &tree_of_doubles(8, FORBIDS_LAST)));
     all
 }
 
@@ -258,42 +239,72 @@ fn many_pairs(random: &mut Random) -> Vec<Operands> {
 pub fn named() -> Vec<(&'static str, Operands)> {
     let whole = |first: Diagram, second: Diagram| over(MAX_STEPS, first, second);
     let needs = |from: u16, to: u16| rule(&Needs((0..4).map(|at| (from + at, to + at)).collect()));
-    let Operands { first: doubles, second: odd_count, .. } = most_pairs();
+    let ((deep, other_deep), (wants, forbids)) = (deep(), trees());
+    let Operands { first, second, .. } = most_pairs();
     vec![
         ("4 needs and 4 others", over(40, needs(0, 20), needs(4, 30))),
         ("no rule and 8 needs", whole(YES, eight_needs())),
         ("8 needs twice", whole(eight_needs(), eight_needs())),
         ("odd and even", whole(parity(0, 255, 1), parity(0, 255, 0))),
-        ("1,020 deep", whole(idle(even(510), 1), all_of(odd(510)))),
+        ("1,019 deep, no set", whole(deep, other_deep)),
         ("two chains, 1,020 nodes", whole(all_of(even(510)), all_of(odd(510)))),
-        ("trees with equal leaves", whole(doubles.clone(), tree_of_doubles(8, LAST - 1))),
+        ("two trees, no set", whole(wants, forbids)),
         ("most pairs, 510 nodes", most_pairs()),
-        ("the same exchanged", whole(odd_count, doubles)),
+        ("the same exchanged", whole(second, first)),
     ]
+}
+
+/// How many stages, steps and nodes there may be.
+fn drawn_size(random: &mut Random) -> (usize, usize, usize) {
+    match random.below(100) {
+        0 => (20, MAX_STEPS, MAX_NODES),
+        1..=3 => (40, 400, 200),
+        4..=18 => (12, 60, 60),
+        _ => (6, 12, 14),
+    }
 }
 
 /// Two diagrams over one chart: unrelated, or one made of the other.
 pub fn any(random: &mut Random) -> Operands {
-    let (stages, steps, nodes) = match random.below(100) {
-        0 => (20, MAX_STEPS, MAX_NODES),
-        1 => return near_limit(random),
-        2..=4 => (40, 400, 200),
-        5..=19 => (12, 60, 60),
-        _ => (6, 12, 14),
-    };
+    if random.percent(1) {
+        return near_limit(random);
+    }
+    let (stages, steps, nodes) = drawn_size(random);
     let chart = random_chart(random, stages, steps);
     let first = random_diagram(random, &chart, nodes);
     let second = match random.below(10) {
         0 => first.clone(),
         1 => complement(&first),
-        2 => padded(random, &first, chart.steps.len(), nodes),
-        3 => padded(random, &complement(&first), chart.steps.len(), nodes),
+        2 => rearranged(random, &first, chart.steps.len(), nodes),
+        3 => rearranged(random, &complement(&first), chart.steps.len(), nodes),
         _ => random_diagram(random, &chart, nodes),
     };
     let mut operands = Operands { chart, first, second };
     if random.percent(30) {
-        operands.first = padded(random, &operands.first, operands.chart.steps.len(), nodes);
+        operands.first = rearranged(random, &operands.first, operands.chart.steps.len(), nodes);
     }
+    in_any_order(random, operands)
+}
+
+/// Two diagrams over one chart, one of them padded or both; mostly they mean the same.
+pub fn any_with_padding(random: &mut Random) -> Operands {
+    let (stages, steps, nodes) = drawn_size(random);
+    let chart = random_chart(random, stages, steps);
+    let steps = chart.steps.len();
+    let sound = random_diagram(random, &chart, nodes);
+    let first = padded::padded(random, &sound, steps, nodes);
+    let second = match random.below(10) {
+        0..=2 => sound,
+        3..=5 => padded::padded(random, &sound, steps, nodes),
+        6 => padded::with_one(random, &sound, steps),
+        7 => rearranged(random, &sound, steps, nodes),
+        8 => padded::padded(random, &complement(&sound), steps, nodes),
+        _ => padded::over_chart(random, &chart, nodes),
+    };
+    in_any_order(random, Operands { chart, first, second })
+}
+
+fn in_any_order(random: &mut Random, mut operands: Operands) -> Operands {
     if random.percent(50) {
         std::mem::swap(&mut operands.first, &mut operands.second);
     }
@@ -305,6 +316,8 @@ fn near_limit(random: &mut Random) -> Operands {
     let nodes = random.between(500, 520);
     match of_nodes(random, nodes) {
         Some((first, second)) => over(MAX_STEPS, first, second),
-        None => over(MAX_STEPS, scattered(random, MAX_STEPS, MAX_NODES), YES),
+        None => {
+            over(MAX_STEPS, scattered(random, MAX_STEPS, MAX_NODES, Padding::Without), YES)
+        }
     }
 }

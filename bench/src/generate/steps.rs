@@ -1,7 +1,7 @@
 //! Steps whose values are at fault: each fault, all of them together in every way, with a fault of the
 //! field itself, and with other fields at fault behind them.
 
-use super::broken::{Fields, Files};
+use super::broken::{spoiled_fields, Fields, Files};
 use super::costs::DEAR;
 use super::mutate::fields;
 use super::Random;
@@ -10,6 +10,7 @@ use crate::files::{
     HEADER, LONGEST_FILE, MAX_COST, MAX_STEPS, STEP,
 };
 
+const WRONG_TAGS: [u8; 4] = [0x01, 0x03, 0x12, 0x7f];
 const WRONG_LENGTHS: [u16; 6] = [0, 7, 9, 10, 256 + 8, u16::MAX];
 /// Bytes of a step field.
 pub const WHOLE: usize = HEADER + STEP.length;
@@ -35,7 +36,8 @@ pub fn systematic() -> Vec<Files> {
         charts.extend(behind(count, &pairs, |step| vec![step]));
     }
     for (count, steps) in [(1, &pairs), (MAX_STEPS, &few)] {
-        charts.extend(behind(count, steps, spoiled_fields));
+        let spoiled = |step: Vec<u8>| spoiled_fields(&step, &WRONG_TAGS, &WRONG_LENGTHS);
+        charts.extend(behind(count, steps, spoiled));
         charts.extend(behind(count, steps, followed));
     }
     let yes = with_root(1);
@@ -59,15 +61,6 @@ fn behind(count: usize, steps: &[Step], made: impl Fn(Vec<u8>) -> Fields) -> Vec
     let front = write_chart(&front);
     let ends = steps.iter().flat_map(|step| made(step_field(*step)));
     ends.map(|end| [&front[..], &end].concat()).collect()
-}
-
-/// A step's field with a wrong tag, a wrong length or a cut.
-fn spoiled_fields(step: Vec<u8>) -> Fields {
-    let tags = [0x01, 0x03, 0x12, 0x7f].map(|tag| [&[tag], &step[1..]].concat());
-    let lengths =
-        WRONG_LENGTHS.map(|length| [&step[..1], &length.to_le_bytes(), &step[HEADER..]].concat());
-    let cuts = (1..WHOLE).map(|end| step[..end].to_vec());
-    tags.into_iter().chain(lengths).chain(cuts).collect()
 }
 
 /// A step with one more field behind it, sound or at fault.

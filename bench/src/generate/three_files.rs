@@ -1,9 +1,10 @@
-//! A chart's file and two diagrams' files, for conjunctions: sound, with remarks, long and broken.
+//! A chart's file and two diagrams' files, for conjunctions: sound, padded, with remarks, long and broken.
 
 use super::broken::{self, damaged, noise, Files};
 use super::long::{self, near_longest};
 use super::mutate::mutated;
-use super::operands::any;
+use super::nodes;
+use super::operands::{any, any_with_padding};
 use super::remarks::{self, with_remarks};
 use super::Random;
 use crate::files::{write_chart, write_diagram, Diagram, Operands, Problem};
@@ -15,9 +16,11 @@ pub fn written(Operands { chart, first, second }: &Operands) -> ThreeFiles {
     (write_chart(chart), write_diagram(first), write_diagram(second))
 }
 
-/// Any three files: sound, with remarks, near the greatest length, damaged and of noise.
+/// Any three files: sound, padded, with remarks, near the greatest length, damaged and of noise.
 pub fn drawn(random: &mut Random) -> ThreeFiles {
-    let (chart, rules, more) = written(&any(random));
+    let padded = random.percent(15);
+    let operands = if padded { any_with_padding(random) } else { any(random) };
+    let (chart, rules, more) = written(&operands);
     match random.below(100) {
         0..=66 => (chart, rules, more),
         67..=69 => {
@@ -84,6 +87,7 @@ pub fn broken(problem: &Problem) -> Vec<ThreeFiles> {
     let (diagrams, charts): (Vec<Files>, Vec<Files>) = pairs.into_iter().partition(is_sound);
     let diagrams: Vec<Vec<u8>> = diagrams.into_iter().map(|(_, rules)| rules).collect();
     let mut all: Vec<ThreeFiles> = at_limits();
+    all.extend(with_nodes());
     for (at, spoiled) in diagrams.iter().enumerate() {
         all.push((chart.clone(), sound.clone(), spoiled.clone()));
         if at % 7 == 1 {
@@ -99,6 +103,19 @@ pub fn broken(problem: &Problem) -> Vec<ThreeFiles> {
         all.push((chart, rules, other.clone()));
     }
     all
+}
+
+/// Nodes at fault and padding, as the first diagram, as the second and as both.
+fn with_nodes() -> Vec<ThreeFiles> {
+    let yes = write_diagram(&Diagram::YES);
+    let all = nodes::systematic();
+    let some = all.iter().enumerate().step_by(2);
+    some.map(|(at, (chart, rules))| match at % 6 {
+        0 => (chart.clone(), rules.clone(), all[(7 * at + 3) % all.len()].1.clone()),
+        2 => (chart.clone(), rules.clone(), yes.clone()),
+        _ => (chart.clone(), yes.clone(), rules.clone()),
+    })
+    .collect()
 }
 
 /// Files at and beyond the limits, the diagram as the first and as the second.

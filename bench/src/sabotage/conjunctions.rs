@@ -12,36 +12,36 @@ use crate::planner::{Answer, ConjoinSlices};
 
 /// A conjunction with one choice that may be wrong.
 pub(super) struct Conjoiner {
-    read: fn(Three) -> Result<Operands, Refusal>,
+    pub read: fn(Three) -> Result<Operands, Refusal>,
     /// Entries that the work slice needs.
-    need: fn(&Operands) -> usize,
+    pub need: fn(&Operands) -> usize,
     /// The refusals of the result, in their order.
-    checks: [Check; 3],
+    pub checks: [Check; 3],
     /// What two references are without a look at their nodes.
-    decided: fn(u16, u16) -> Option<u16>,
-    hi_first: bool,
+    pub decided: fn(u16, u16) -> Option<u16>,
+    pub hi_first: bool,
     /// The deepest pair that is looked at; those below it are "no".
-    deepest: usize,
+    pub deepest: usize,
     /// Where a pair is kept.
-    place: fn(&Operands, u16, u16) -> usize,
-    keeps_equal: bool,
-    are_alike: fn(&Node, &Node) -> bool,
-    most: usize,
+    pub place: fn(&Operands, u16, u16) -> usize,
+    pub keeps_equal: bool,
+    pub are_alike: fn(&Node, &Node) -> bool,
+    pub most: usize,
     /// Both diagrams, and what was made of them.
-    changed: fn(&Operands, Diagram) -> Diagram,
+    pub changed: fn(&Operands, Diagram) -> Diagram,
 }
 
 /// The chart and both diagrams.
-type Three<'a> = [&'a [u8]; 3];
+pub(super) type Three<'a> = [&'a [u8]; 3];
 
 #[derive(Clone, Copy)]
-enum Check {
+pub(super) enum Check {
     Work,
     Size,
     File,
 }
 
-const SOUND: Conjoiner = Conjoiner {
+pub(super) const SOUND: Conjoiner = Conjoiner {
     read: |[chart, rules, more]| read_three(chart, rules, more),
     need: Operands::pairs,
     checks: [Check::Work, Check::Size, Check::File],
@@ -59,7 +59,7 @@ const SOUND: Conjoiner = Conjoiner {
     changed: |_, made| made,
 };
 
-const fn by(name: &'static str, conjoiner: Conjoiner) -> Sabotage {
+pub(super) const fn by(name: &'static str, conjoiner: Conjoiner) -> Sabotage {
     new(name, Spoil::Conjoiner(conjoiner))
 }
 
@@ -83,7 +83,7 @@ impl<'a> Call<'a> {
     }
 }
 
-const fn after(name: &'static str, spoil: SpoilConjoined) -> Sabotage {
+pub(super) const fn after(name: &'static str, spoil: SpoilConjoined) -> Sabotage {
     new(name, Spoil::Conjoined(spoil))
 }
 
@@ -215,7 +215,7 @@ pub(super) static CONJUNCTIONS: [Sabotage; 55] = [
 ];
 
 /// Changes an entry, where it is there and that is wanted.
-fn change<T: Copy + std::ops::Not<Output = T>>(slice: &mut [T], at: usize, wanted: bool) {
+pub(super) fn change<T: Copy + std::ops::Not<Output = T>>(slice: &mut [T], at: usize, wanted: bool) {
     let entry = slice.get_mut(at).filter(|_| wanted);
     entry.into_iter().for_each(|entry| *entry = !*entry);
 }
@@ -295,7 +295,7 @@ fn exchanged([chart, rules, more]: Three) -> Result<Operands, Refusal> {
     Ok(Operands { first: read.second, second: read.first, ..read })
 }
 
-fn constant_with_node(operands: &Operands, made: Diagram) -> Diagram {
+pub(super) fn constant_with_node(operands: &Operands, made: Diagram) -> Diagram {
     if !made.nodes.is_empty() || operands.chart.steps.is_empty() {
         return made;
     }
@@ -304,7 +304,7 @@ fn constant_with_node(operands: &Operands, made: Diagram) -> Diagram {
 }
 
 /// A node behind the root, which nothing leads to.
-fn with_stray(operands: &Operands, mut made: Diagram) -> Diagram {
+pub(super) fn with_stray(operands: &Operands, mut made: Diagram) -> Diagram {
     let full = made.nodes.len() == MAX_NODES || operands.chart.steps.is_empty();
     let stray = Node { step: 0, lo: 1, hi: 0 };
     if !full && !made.nodes.contains(&stray) {
@@ -314,7 +314,7 @@ fn with_stray(operands: &Operands, mut made: Diagram) -> Diagram {
 }
 
 /// Nodes of later steps first, and not as a walk leaves them.
-fn by_levels(_: &Operands, made: Diagram) -> Diagram {
+pub(super) fn by_levels(_: &Operands, made: Diagram) -> Diagram {
     let mut order: Vec<usize> = (0..made.nodes.len()).collect();
     order.sort_by_key(|at| u16::MAX - made.nodes[*at].step);
     let number = |reference: u16| match usize::from(reference).checked_sub(2) {
@@ -328,12 +328,12 @@ fn by_levels(_: &Operands, made: Diagram) -> Diagram {
     Diagram { root: number(made.root), nodes: order.iter().map(renumbered).collect() }
 }
 
-fn children_exchanged(_: &Operands, mut made: Diagram) -> Diagram {
+pub(super) fn children_exchanged(_: &Operands, mut made: Diagram) -> Diagram {
     made.nodes.iter_mut().for_each(|node| std::mem::swap(&mut node.lo, &mut node.hi));
     made
 }
 
-fn steps_of_a_byte(_: &Operands, mut made: Diagram) -> Diagram {
+pub(super) fn steps_of_a_byte(_: &Operands, mut made: Diagram) -> Diagram {
     made.nodes.iter_mut().for_each(|node| node.step &= 0xff);
     made
 }
@@ -355,25 +355,28 @@ fn copy_beside_same(operands: &Operands, made: Diagram) -> Diagram {
 }
 
 impl Conjoiner {
-    pub(super) fn conjoin(&self, files: Three, lent: &mut ConjoinSlices) -> Answer {
-        let operands = match (self.read)(files) {
-            Ok(operands) => operands,
-            Err(fault) => return Answer::refused(fault.number, fault.file, fault.place),
-        };
-        let (made, is_too_large) = Making::result(self, &operands);
-        let file = write_diagram(&(self.changed)(&operands, made));
+    /// On a work slice of a length, which is not touched, and a buffer.
+    pub(super) fn conjoin(&self, files: Three, work: usize, file: &mut [u8]) -> Answer {
+        match (self.read)(files) {
+            Ok(operands) => self.conjoin_read(&operands, work, file),
+            Err(fault) => Answer::refused(fault.number, fault.file, fault.place),
+        }
+    }
+
+    /// The same of files that are read.
+    pub(super) fn conjoin_read(&self, operands: &Operands, work: usize, file: &mut [u8]) -> Answer {
+        let (made, is_too_large) = Making::result(self, operands);
+        let bytes = write_diagram(&(self.changed)(operands, made));
         for check in self.checks {
             match check {
-                Check::Work if lent.work.len() < (self.need)(&operands) => {
-                    return Answer::refused(7, 0, 0);
-                }
+                Check::Work if work < (self.need)(operands) => return Answer::refused(7, 0, 0),
                 Check::Size if is_too_large => return Answer::refused(12, 0, 0),
-                Check::File if lent.file.len() < file.len() => return Answer::refused(7, 0, 0),
+                Check::File if file.len() < bytes.len() => return Answer::refused(7, 0, 0),
                 _ => {}
             }
         }
-        lent.file[..file.len()].copy_from_slice(&file);
-        Answer::accepted(0, file.len(), 0)
+        file[..bytes.len()].copy_from_slice(&bytes);
+        Answer::accepted(0, bytes.len(), 0)
     }
 }
 

@@ -1,6 +1,8 @@
 //! Wrong readings of remarks and of files that are too long. Most of them change the files before a
 //! sound planner has them, so that it answers as one would that reads them wrongly.
 
+use std::collections::HashSet;
+
 use super::{new, Sabotage, Spoil};
 use crate::files::{
     node_field, read_chart, read_diagram, step_field, two_bytes, Node, Step, FIRST_REMARK, HEADER,
@@ -61,29 +63,36 @@ fn is_remark(file: &[u8], (from, to): (usize, usize)) -> bool {
         && to - from == HEADER + usize::from(two_bytes(file, from + 1))
 }
 
-/// Each remark behind the head becomes a copy of the field before it, or of `first`.
-fn take_numbers(file: &mut Vec<u8>, first: Vec<u8>) {
-    let (mut bytes, mut before) = (Vec::new(), first);
+/// Each remark behind the head becomes another field, by the one before it behind the head.
+fn take_numbers(file: &mut Vec<u8>, mut other: impl FnMut(Option<&[u8]>) -> Vec<u8>) {
+    let (mut bytes, mut before) = (Vec::new(), None);
     for (at, (from, to)) in fields(file).into_iter().enumerate() {
         let field = &file[from..to];
         if at > 0 && is_remark(file, (from, to)) {
-            bytes.extend(&before);
+            bytes.extend(other(before));
             continue;
         }
         bytes.extend(field);
         if at > 0 {
-            before = field.to_vec();
+            before = Some(field);
         }
     }
     *file = bytes;
 }
 
+/// The step before once more, or a dear one.
 fn take_step_numbers(chart: &mut Vec<u8>) {
-    take_numbers(chart, step_field(Step { from: 0, to: 1, cost: MAX_COST }));
+    let first = step_field(Step { from: 0, to: 1, cost: MAX_COST });
+    take_numbers(chart, |before| before.map_or(first.clone(), <[u8]>::to_vec));
 }
 
+/// A node that is none of the file's, so that it is no padding. There are more than enough of them.
 fn take_node_numbers(rules: &mut Vec<u8>) {
-    take_numbers(rules, node_field(Node { step: 0, lo: 0, hi: 0 }));
+    let known: HashSet<Vec<u8>> = fields(rules).iter().map(|(a, b)| rules[*a..*b].to_vec()).collect();
+    let all = (0..MAX_STEPS as u16).flat_map(|step| [(0, 1), (1, 0)].map(|(lo, hi)| (step, lo, hi)));
+    let all = all.map(|(step, lo, hi)| node_field(Node { step, lo, hi }));
+    let mut others = all.filter(|field| !known.contains(field));
+    take_numbers(rules, |_| others.next().unwrap_or_default());
 }
 
 fn count_as_steps(chart: &mut Vec<u8>) {

@@ -10,7 +10,7 @@ use Rattle.definitions.specs.Diagrams.{InnerNode, noNode}
 use Rattle.theory.specs.Basics.{fails, true-not-false}
 use Rattle.diagram_fields.specs.Words.{wordOf, unpacked, node-word, word-node}
 use Rattle.unique_table.specs.Nodes.{nodes-long, node-listed}
-use Rattle.unique_table.specs.Tables.{innerNode, nodeAt, countIn, nodesIn, Table, Lacks, Interns, alone, found, full, added}
+use Rattle.unique_table.specs.Tables.{UniqueTable, innerNode, nodeAt, countIn, nodesIn, Table, Lacks, Interns, alone, found, full, added}
 use Rattle.definitions.specs.Reductions.{Tree, mk, no-leaf, yes-leaf, branch, member, position, postorder, ref, numbered, nodesOf}
 use Rattle.reduction_theory.specs.Growth.{held-kid, ref-apart, nodes-snoc, post-held, post-node, settled}
 use Rattle.reduction_theory.specs.Numbering.{held, member-position, member-last, getD-member, ref-more, ref-at, member-held, post-new, Good, Posted, post-laws}
@@ -24,7 +24,7 @@ nodes-at : (ts : List Tree) (i : ℕ) → getD (nodesOf ts) i noNode ≡ numbere
 unfolding nodesOf numbered
 nodes-at ts i = List·getD-map (numbered ts) ts i no-leaf
 
-table-at : (t : List ℕ) (n : ℕ) → 2 ≤ n → n < countIn t + 2 → getD (nodesIn t) (n - 2) noNode ≡ unpacked (nodeAt t n)
+table-at : (t : UniqueTable) (n : ℕ) → 2 ≤ n → n < countIn t + 2 → getD (nodesIn t) (n - 2) noNode ≡ unpacked (nodeAt t n)
 table-at t n h l =
     let q : n - 2 + 2 ≡ n = omega arith in
     node-listed t (n - 2) (omega arith) ∙ ap (λ (m : ℕ). unpacked (nodeAt t m)) q
@@ -38,7 +38,7 @@ unfolding ref
 ref-branch ts v l h = refl
 
 -- the table holds the nodes ts
-module _ (t : List ℕ) (ts : List Tree) (g : Good ts) (holds : nodesIn t ≡ nodesOf ts) where
+module _ (t : UniqueTable) (ts : List Tree) (g : Good ts) (holds : nodesIn t ≡ nodesOf ts) where
   pub held-count : countIn t ≡ length ts
   held-count = sym (nodes-long t) ∙ ap length holds ∙ nodes-length ts
 
@@ -86,7 +86,7 @@ module _ (t : List ℕ) (ts : List Tree) (g : Good ts) (holds : nodesIn t ≡ no
         f at (omega arith) inside (sym (word-node (nodeAt t at) (w .fits at (omega arith) inside)) ∙ ap wordOf here))
 
 -- what interning leaves in the table and answers, for the tree of the node: r is 512 where there are more than 510 nodes
-pub record Interned (ts : List Tree) (u : Tree) (r : ℕ) (t′ : List ℕ) : Type 0 where
+pub record Interned (ts : List Tree) (u : Tree) (r : ℕ) (t′ : UniqueTable) : Type 0 where
   pub table : Table t′
   pub small : r ≤ 512
   pub nodes : r < 512 → nodesIn t′ ≡ nodesOf (postorder u ts)
@@ -112,7 +112,7 @@ module _ (ts : List Tree) (g : Good ts) (v : ℕ) (l h : Tree) (cl : Canon (suc 
   pub hi-held : held ts₂ h ≡ true
   hi-held = good₂ .holds
 
-  module _ (small : v < 16384) (t : List ℕ) (w : Table t) (holds : nodesIn t ≡ nodesOf ts₂) where
+  module _ (small : v < 16384) (t : UniqueTable) (w : Table t) (holds : nodesIn t ≡ nodesOf ts₂) where
     abbrev u : Tree
     u = mk v l h
 
@@ -131,7 +131,7 @@ module _ (ts : List Tree) (g : Good ts) (v : ℕ) (l h : Tree) (cl : Canon (suc 
         (ap (λ (x : Tree). postorder x ts) (mk-apart v l h (λ q. n (ap (ref ts₂) q))) ∙ post-node v l h ts before, out)
 
     -- by the ways of `intern`
-    pub interned : (r : ℕ) (t′ : List ℕ) → Interns t v (ref ts₂ l) (ref ts₂ h) r t′ → Interned ts (mk v l h) r t′
+    pub interned : (r : ℕ) (t′ : UniqueTable) → Interns t v (ref ts₂ l) (ref ts₂ h) r t′ → Interned ts (mk v l h) r t′
     interned r t′ (alone e q s) =
         let same-tree : l ≡ h = ref-apart ts₂ l h (lo-held .0) hi-held e in
         let z : postorder (mk v l h) ts ≡ ts₁ = ap (λ (x : Tree). postorder x ts) (mk-same v l h same-tree) in

@@ -11,7 +11,7 @@ use lib.Seq.{drop-set-lt}
 use Rattle.definitions.specs.Diagrams.{Diagram, InnerNode, size}
 use Rattle.definitions.specs.Reductions.{Tree, mk, postorder, ref, nodesOf}
 use Rattle.diagram_fields.specs.Words.{stepOf, loOf, hiOf, unpacked, MARK}
-use Rattle.unique_table.specs.Tables.{innerNode, nodesIn, Table, Interns, alone, found, full, added}
+use Rattle.unique_table.specs.Tables.{UniqueTable, innerNode, nodesIn, Table, Interns, alone, found, full, added}
 use Rattle.reduction_theory.specs.Numbering.{held, Good, post-laws}
 use Rattle.reduction_theory.specs.Growth.{post-held, post-prefix}
 use Rattle.apply.specs.Interning.{Interned, lo-held, interned}
@@ -114,7 +114,7 @@ module _ {stack₀ work left right : List ℕ} {width k₀ a₀ b₀ : ℕ} (x :
 -- ---- one turn
 
 -- after a turn: r is the reference of a pair whose walk is done, or 512 where the whole walk leaves more than 510 nodes
-pub record Turned {stack work table left right : List ℕ} {width k r : ℕ} (x : Walking stack work table left right width k r) (stack′ work′ table′ : List ℕ) (k′ r′ : ℕ)
+pub record Turned {stack work : List ℕ} {table : UniqueTable} {left right : List ℕ} {width k r : ℕ} (x : Walking stack work table left right width k r) (stack′ work′ : List ℕ) (table′ : UniqueTable) (k′ r′ : ℕ)
     : Type 0 where
   pub small : r′ ≤ 512
   pub long : length stack′ ≡ 1024
@@ -142,19 +142,19 @@ renamed d e A B {s} {s′} {k} {k′} {a} {a′} {b} {b′} ts es ek ea eb t =
     (subst (λ (z : ℕ). Stacked d e A B s′ k′ a′ z ts) (sym eb) t)))
 
 -- what interning leaves is a table, and its answer is below 512 or 512
-interns-table : (t : List ℕ) (v l h r : ℕ) (t′ : List ℕ) → Table t → Interns t v l h r t′ → Table t′
+interns-table : (t : UniqueTable) (v l h r : ℕ) (t′ : UniqueTable) → Table t → Interns t v l h r t′ → Table t′
 interns-table t v l h r t′ w (alone e q s) = rw s w
 interns-table t v l h r t′ w (found n a b e s) = rw s w
 interns-table t v l h r t′ w (full n f c q s) = rw s w
 interns-table t v l h r t′ w (added n f c a) = a .table
 
-interns-small : (t : List ℕ) (v l h r : ℕ) (t′ : List ℕ) → Table t → l < 512 → Interns t v l h r t′ → r ≤ 512
+interns-small : (t : UniqueTable) (v l h r : ℕ) (t′ : UniqueTable) → Table t → l < 512 → Interns t v l h r t′ → r ≤ 512
 interns-small t v l h r t′ w small (alone e q s) = omega arith
 interns-small t v l h r t′ w small (found f a b e s) = omega (arith, w .few)
 interns-small t v l h r t′ w small (full f g c q s) = omega arith
 interns-small t v l h r t′ w small (added f g c a) = omega (arith, a .number)
 
-module _ {stack work table left right : List ℕ} {width k r : ℕ} (x : Walking stack work table left right width k r) where
+module _ {stack work : List ℕ} {table : UniqueTable} {left right : List ℕ} {width k r : ℕ} (x : Walking stack work table left right width k r) where
   pub walking-few : k ≤ 1022
   walking-few =
       omega (
@@ -313,7 +313,7 @@ module _ {stack work table left right : List ℕ} {width k r : ℕ} (x : Walking
             }
 
       -- the hi half is done: the pair's node is interned
-      module _ (halved : lo ≡ 512 → ⊥) (made : ℕ) (table′ : List ℕ) (got : Interns table v lo r made table′) where
+      module _ (halved : lo ≡ 512 → ⊥) (made : ℕ) (table′ : UniqueTable) (got : Interns table v lo r made table′) where
         abbrev L : Tree
         L = loTree d′ e′ p q
 

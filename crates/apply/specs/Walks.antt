@@ -14,7 +14,7 @@ use Rattle.definitions.specs.Basics.{pick}
 use Rattle.definitions.specs.Diagrams.{Diagram, size}
 use Rattle.definitions.specs.Reductions.{Tree, no-leaf, yes-leaf, postorder, ref, nodesOf}
 use Rattle.theory.specs.Basics.{pick-true, pick-false, pick-cases, either, lt-or-le, same-or-not}
-use Rattle.unique_table.specs.Tables.{nodesIn, Table}
+use Rattle.unique_table.specs.Tables.{UniqueTable, nodesIn, Table}
 use Rattle.reduction_theory.specs.Numbering.{held, ref-more, Good}
 use Rattle.apply.specs.Pairs.{pairTree, pair-no-left, pair-no-right, pair-yes, pairs-apart, pair-inside}
 use Rattle.apply.specs.Operands.{Inside}
@@ -145,13 +145,13 @@ module _ (d e : Diagram) (left right : List ℕ) (width : ℕ) (work : List ℕ)
 -- ---- between two turns
 
 -- the table holds what has been left so far
-pub record State (d e : Diagram) (ts : List Tree) (work table : List ℕ) : Type 0 where
+pub record State (d e : Diagram) (ts : List Tree) (work : List ℕ) (table : UniqueTable) : Type 0 where
   pub good : Good ts
   pub nodes : nodesIn table ≡ nodesOf ts
   pub known : Known d e work ts
 
 -- the walk of the pair a, b is done, and r is its reference; k frames ask for it
-pub record Returned (d e : Diagram) (A B : ℕ) (stack : List ℕ) (k r : ℕ) (work table : List ℕ) : Type 0 where
+pub record Returned (d e : Diagram) (A B : ℕ) (stack : List ℕ) (k r : ℕ) (work : List ℕ) (table : UniqueTable) : Type 0 where
   pub a : ℕ
   pub b : ℕ
   pub ts : List Tree
@@ -161,7 +161,7 @@ pub record Returned (d e : Diagram) (A B : ℕ) (stack : List ℕ) (k r : ℕ) (
   pub small : r < 512
 
 -- of two diagrams in tables, from a pair A, B
-pub record Walking (stack work table left right : List ℕ) (width k r : ℕ) : Type 0 where
+pub record Walking (stack work : List ℕ) (table : UniqueTable) (left right : List ℕ) (width k r : ℕ) : Type 0 where
   pub d : Diagram
   pub e : Diagram
   pub A : ℕ

@@ -7,7 +7,7 @@ use native.Mathlib.Omega.{arith}
 use lib.ListN.{length, drop}
 use Rattle.definitions.specs.Diagrams.{Diagram, size}
 use Rattle.definitions.specs.Reductions.{Tree, postorder, ref, nodesOf}
-use Rattle.unique_table.specs.Tables.{nodesIn, Table}
+use Rattle.unique_table.specs.Tables.{UniqueTable, nodesIn, Table}
 use Rattle.reduction_theory.specs.Growth.{post-held}
 use Rattle.reduction_theory.specs.Numbering.{good-nil}
 use Rattle.apply.specs.Operands.{Inside}
@@ -18,7 +18,7 @@ use Rattle.apply.specs.Walks.{State, Returned, Walking, Descending}
 use Rattle.apply.specs.Weights.{weights}
 
 -- two diagrams in tables, a pair of their nodes, and a table in which nothing has been left
-pub record Ready (work table left right : List ℕ) (width a b : ℕ) : Type 0 where
+pub record Ready (work : List ℕ) (table : UniqueTable) (left right : List ℕ) (width a b : ℕ) : Type 0 where
   pub d : Diagram
   pub e : Diagram
   pub inside : Inside d e left right width work
@@ -28,7 +28,7 @@ pub record Ready (work table left right : List ℕ) (width a b : ℕ) : Type 0 w
   pub state : State d e [] work table
 
 -- the table holds what the walk leaves and r is the pair's reference, or r is 512 and that would be more than 510 nodes
-pub record Walked {work table left right : List ℕ} {width a b : ℕ} (x : Ready work table left right width a b) (work′ table′ : List ℕ) (r : ℕ) : Type 0 where
+pub record Walked {work : List ℕ} {table : UniqueTable} {left right : List ℕ} {width a b : ℕ} (x : Ready work table left right width a b) (work′ : List ℕ) (table′ : UniqueTable) (r : ℕ) : Type 0 where
   pub small : r ≤ 512
   pub entries : Table table′
   pub long : length work′ ≡ length work
@@ -38,7 +38,7 @@ pub record Walked {work table left right : List ℕ} {width a b : ℕ} (x : Read
   pub full : r ≡ 512 → 510 < length (postorder (pairTree (x .d) (x .e) a b) [])
 
 -- what the loop keeps, from what its first turn begins with
-pub record Going {stack₀ work₀ table₀ left right : List ℕ} {width k₀ r₀ : ℕ} (y : Walking stack₀ work₀ table₀ left right width k₀ r₀) (stack work table : List ℕ) (k r : ℕ)
+pub record Going {stack₀ work₀ : List ℕ} {table₀ : UniqueTable} {left right : List ℕ} {width k₀ r₀ : ℕ} (y : Walking stack₀ work₀ table₀ left right width k₀ r₀) (stack work : List ℕ) (table : UniqueTable) (k r : ℕ)
     : Type 0 where
   pub long : length stack ≡ 1024
   pub entries : Table table
@@ -46,11 +46,11 @@ pub record Going {stack₀ work₀ table₀ left right : List ℕ} {width k₀ r
   pub rest : drop (size (y .d) * size (y .e)) work ≡ drop (size (y .d) * size (y .e)) work₀
   pub returned : Returned (y .d) (y .e) (y .A) (y .B) stack k r work table
 
-module _ {stack₀ work₀ table₀ left right : List ℕ} {width k₀ r₀ : ℕ} (y : Walking stack₀ work₀ table₀ left right width k₀ r₀) where
+module _ {stack₀ work₀ : List ℕ} {table₀ : UniqueTable} {left right : List ℕ} {width k₀ r₀ : ℕ} (y : Walking stack₀ work₀ table₀ left right width k₀ r₀) where
   pub going-start : Going y stack₀ work₀ table₀ k₀ r₀
   going-start = record { long = y .long; entries = y .entries; long-work = refl; rest = refl; returned = y .returned }
 
-  module _ {stack work table : List ℕ} {k r : ℕ} (g : Going y stack work table k r) where
+  module _ {stack work : List ℕ} {table : UniqueTable} {k r : ℕ} (g : Going y stack work table k r) where
     unfoldable pub going-on : Walking stack work table left right width k r
     going-on = record {
       d = y .d;
@@ -65,7 +65,7 @@ module _ {stack₀ work₀ table₀ left right : List ℕ} {width k₀ r₀ : �
       returned = g .returned;
     }
 
-    module _ (stack′ work′ table′ : List ℕ) (k′ r′ : ℕ) (t : Turned going-on stack′ work′ table′ k′ r′) where
+    module _ (stack′ work′ : List ℕ) (table′ : UniqueTable) (k′ r′ : ℕ) (t : Turned going-on stack′ work′ table′ k′ r′) where
       pub going-turn : (r′ ≡ 512 → ⊥) → Going y stack′ work′ table′ k′ r′
       unfolding going-on
       going-turn n = record {
@@ -82,7 +82,7 @@ module _ {stack₀ work₀ table₀ left right : List ℕ} {width k₀ r₀ : �
 
 -- ---- from the pair
 
-module _ {work table left right : List ℕ} {width a b : ℕ} (x : Ready work table left right width a b) (stack : List ℕ) (long : length stack ≡ 1024) where
+module _ {work : List ℕ} {table : UniqueTable} {left right : List ℕ} {width a b : ℕ} (x : Ready work table left right width a b) (stack : List ℕ) (long : length stack ≡ 1024) where
   unfoldable pub first-descending : Descending stack work left right width 0 a b
   first-descending = record {
     d = x .d;
@@ -125,7 +125,7 @@ module _ {work table left right : List ℕ} {width a b : ℕ} (x : Ready work ta
           };
         }
 
-    module _ {stack₂ work₂ table₂ : List ℕ} {k₂ r₂ : ℕ} (g : Going first-walking stack₂ work₂ table₂ k₂ r₂) where
+    module _ {stack₂ work₂ : List ℕ} {table₂ : UniqueTable} {k₂ r₂ : ℕ} (g : Going first-walking stack₂ work₂ table₂ k₂ r₂) where
       -- no frame is left: the walk of the pair itself is done
       pub walked-end : k₂ ≡ 0 → Walked x work₂ table₂ r₂
       unfolding first-walking
@@ -145,7 +145,7 @@ module _ {work table left right : List ℕ} {width a b : ℕ} (x : Ready work ta
           }
 
       -- there is no room for a node
-      pub walked-full : (stack₃ work₃ table₃ : List ℕ) (k₃ r₃ : ℕ) → Turned (going-on first-walking g) stack₃ work₃ table₃ k₃ r₃ → r₃ ≡ 512 → Walked x work₃ table₃ 512
+      pub walked-full : (stack₃ work₃ : List ℕ) (table₃ : UniqueTable) (k₃ r₃ : ℕ) → Turned (going-on first-walking g) stack₃ work₃ table₃ k₃ r₃ → r₃ ≡ 512 → Walked x work₃ table₃ 512
       unfolding first-walking going-on
       walked-full stack₃ work₃ table₃ k₃ r₃ t₃ z = record {
         small = omega arith;

@@ -1,6 +1,7 @@
 // The walk over pairs, depth first, lo before hi and each pair once. The pairs whose walk has begun stand on a stack of
 // frames, each with the reference of its lo half, or OPEN while that half is walked. A frame is packed as an inner node is.
 ghost use Prim.Native.Nat.{_+_, _<_};
+ghost use Rattle.unique_table.specs.Tables.{uniqueTable};
 ghost use Rattle.apply.specs.Walks.{Descending, Walking};
 ghost use Rattle.apply.specs.Turns.{Descended, Turned};
 ghost use Rattle.apply.specs.Whole.{Ready, Walked};
@@ -63,17 +64,18 @@ fn descend<'a>(
 fn turn<'a>(
     stack: &mut [u32; 1024],
     work: &mut [u32],
-    table: &mut [u32; 2048],
+    nodes: &mut [u32; 512],
+    chains: &mut [u16; 1024],
     left: &'a [u32; 512],
     right: &'a [u32; 512],
     width: usize,
     frames: usize,
     half: u16,
 ) -> Reached
-    requires { ⌜ Walking (now stack) (now work) (now table) (now left) (now right) width frames half × (0 < frames) ⌝ }
+    requires { ⌜ Walking (now stack) (now work) (uniqueTable (now nodes) (now chains)) (now left) (now right) width frames half × (0 < frames) ⌝ }
     ensures { λ r. ⌜
-        ((x : Walking (now (stack .entry)) (now (work .entry)) (now (table .entry)) (now (left .entry)) (now (right .entry)) width frames half)
-        → Turned x (now (stack .exit)) (now (work .exit)) (now (table .exit)) (r .frames) (r .reference))
+        ((x : Walking (now (stack .entry)) (now (work .entry)) (uniqueTable (now (nodes .entry)) (now (chains .entry))) (now (left .entry)) (now (right .entry)) width frames half)
+        → Turned x (now (stack .exit)) (now (work .exit)) (uniqueTable (now (nodes .exit)) (now (chains .exit))) (r .frames) (r .reference))
         ⌝ }
 {
     let last = frames - 1;
@@ -95,7 +97,7 @@ fn turn<'a>(
             hi_half(right, step, b),
         );
     }
-    let made = intern(table, step, lo, half);
+    let made = intern(nodes, chains, step, lo, half);
     if made == FULL {
         return Reached {
             frames: last,
@@ -113,17 +115,18 @@ fn turn<'a>(
 // table would have more than 510 nodes. A work entry below 512 is the reference of its pair.
 pub fn apply<'a>(
     work: &mut [u32],
-    table: &mut [u32; 2048],
+    nodes: &mut [u32; 512],
+    chains: &mut [u16; 1024],
     left: &'a [u32; 512],
     right: &'a [u32; 512],
     width: usize,
     first: u16,
     second: u16,
 ) -> u16
-    requires { ⌜ Ready (now work) (now table) (now left) (now right) width first second ⌝ }
+    requires { ⌜ Ready (now work) (uniqueTable (now nodes) (now chains)) (now left) (now right) width first second ⌝ }
     ensures { λ r. ⌜
-        ((x : Ready (now (work .entry)) (now (table .entry)) (now (left .entry)) (now (right .entry)) width first second)
-        → Walked x (now (work .exit)) (now (table .exit)) r)
+        ((x : Ready (now (work .entry)) (uniqueTable (now (nodes .entry)) (now (chains .entry))) (now (left .entry)) (now (right .entry)) width first second)
+        → Walked x (now (work .exit)) (uniqueTable (now (nodes .exit)) (now (chains .exit))) r)
         ⌝ }
 {
     let mut stack = [0u32; 1024];
@@ -131,7 +134,7 @@ pub fn apply<'a>(
     let mut k = start.frames;
     let mut r = start.reference;
     while 0 < k {
-        let next = turn(&mut stack, work, table, left, right, width, k, r);
+        let next = turn(&mut stack, work, nodes, chains, left, right, width, k, r);
         k = next.frames;
         r = next.reference;
         if r == FULL {

@@ -9,7 +9,7 @@ use native.Mathlib.Nat.{mul-le-mul-right}
 use lib.ListN.{length}
 use borrow.Author.Tests.{le-leb, lt-leb}
 use Rattle.definitions.specs.Charts.{Chart, ChartStep, readChart}
-use Rattle.definitions.specs.Diagrams.{Diagram, InnerNode, readDiagram}
+use Rattle.definitions.specs.Diagrams.{Diagram, InnerNode, strict, readDiagram}
 use Rattle.definitions.specs.Diagrams as diagrams
 use Rattle.definitions.specs.Plans.{graph}
 use Rattle.theory.specs.Limits.{Small, Valid, Sound}
@@ -56,12 +56,12 @@ module _ (s t : List ℕ) (work plan : ℕ) (x : ChartRead) (ex : x ≡ chart.ch
     pub some-stages : 1 ≤ x .stages
     some-stages = omega (arith, stages-is, accepted .0 .some-stages)
 
-    module _ (y : DiagramRead) (ey : y ≡ files.diagramAnswer (readDiagram t (x .steps))) where
+    module _ (y : DiagramRead) (ey : y ≡ files.diagramAnswer (readDiagram strict t (x .steps))) where
       abbrev d : diagrams.DiagramRead
-      d = readDiagram t (length (readChart s .chart .steps))
+      d = readDiagram strict t (length (readChart s .chart .steps))
 
-      same-file : readDiagram t (x .steps) ≡ d
-      same-file = ap (readDiagram t) steps-is
+      same-file : readDiagram strict t (x .steps) ≡ d
+      same-file = ap (readDiagram strict t) steps-is
 
       rules-number : y .number ≡ d .number
       rules-number = ap (λ (z : DiagramRead). z .number) ey ∙ ap (λ (z : diagrams.DiagramRead). z .number) same-file
@@ -78,7 +78,7 @@ module _ (s t : List ℕ) (work plan : ℕ) (x : ChartRead) (ex : x ≡ chart.ch
         rules-passed = sym rules-number ∙ cy
 
         sound : Sound (length (readChart s .chart .steps)) (d .diagram)
-        sound = diagram-accepted t (length (readChart s .chart .steps)) rules-passed
+        sound = diagram-accepted strict t (length (readChart s .chart .steps)) rules-passed
 
         nodes-is : y .nodes ≡ length (d .diagram .nodes)
         nodes-is = ap (λ (z : DiagramRead). z .nodes) ey ∙ ap (λ (z : diagrams.DiagramRead). length (z .diagram .nodes)) same-file
@@ -109,7 +109,7 @@ module _ (s t : List ℕ) (work plan : ℕ) (x : ChartRead) (ex : x ≡ chart.ch
             (e, λ q. omega arith)
 
         module _ (steps steps₀ : List (List ℕ)) (inner : List ℕ) (fc : chart.Filled (readChart s .chart .steps) steps₀ steps)
-            (fd : files.Filled (readDiagram t (x .steps) .diagram .nodes) inner) (z : Shape)
+            (fd : files.Filled (readDiagram strict t (x .steps) .diagram .nodes) inner) (z : Shape)
             (zs : z .stages ≡ x .stages) (zb : z .start .0 ≡ x .start) (ze : z .end .0 ≡ x .end) (zc : z .steps ≡ x .steps) (zr : z .root .0 ≡ y .root) (zn : z .nodes ≡ y .nodes) where
           abbrev w : Read
           w = read steps inner
@@ -137,7 +137,7 @@ module _ (s t : List ℕ) (work plan : ℕ) (x : ChartRead) (ex : x ≡ chart.ch
 
           same-nodes : files.nodesHeld (z .nodes) inner ≡ D .nodes
           same-nodes =
-              let l : length (readDiagram t (x .steps) .diagram .nodes) ≡ length (D .nodes) = ap (λ (w : diagrams.DiagramRead). length (w .diagram .nodes)) same-file in
+              let l : length (readDiagram strict t (x .steps) .diagram .nodes) ≡ length (D .nodes) = ap (λ (w : diagrams.DiagramRead). length (w .diagram .nodes)) same-file in
               ap (λ (k : ℕ). files.nodesHeld k inner) (zn ∙ nodes-is ∙ sym l) ∙ fd .held ∙ ap (λ (w : diagrams.DiagramRead). w .diagram .nodes) same-file
 
           root-is : z .root .0 ≡ D .root

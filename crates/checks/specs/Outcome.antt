@@ -10,29 +10,29 @@ use lib.ListN.{length}
 use borrow.Author.Tests.{le-leb, lt-leb, eq-eqb, ne-eqb, eqb-false, leb-true, leb-false, not-true}
 use Rattle.definitions.specs.Basics.{every}
 use Rattle.definitions.specs.Charts.{Chart, readChart}
-use Rattle.definitions.specs.Diagrams.{Diagram, DiagramRead, readDiagram}
+use Rattle.definitions.specs.Diagrams.{Diagram, strict, DiagramRead, readDiagram}
 use Rattle.definitions.specs.Answers.{Load, ready, refused, readFiles, withSpace, load, workNeed, planNeed, spaceFits}
 use Rattle.theory.specs.Basics.{pick-true, pick-false, pick-cases, either, both}
 
 -- ---- the files
 
-module _ (s t : List ℕ) where
+module _ (mode : Bool) (s t : List ℕ) where
   abbrev chartIs : Chart
   chartIs = readChart s .chart
 
   abbrev rulesRead : DiagramRead
-  rulesRead = readDiagram t (length (chartIs .steps))
+  rulesRead = readDiagram mode t (length (chartIs .steps))
 
-  pub chart-refused : (readChart s .number ≡ 0 → ⊥) → readFiles s t ≡ refused (readChart s .number) 1 (readChart s .place)
+  pub chart-refused : (readChart s .number ≡ 0 → ⊥) → readFiles mode s t ≡ refused (readChart s .number) 1 (readChart s .place)
   unfolding readFiles
   chart-refused h = pick-true _ _ _ (ap not (ne-eqb (readChart s .number) 0 h))
 
   module _ (c : readChart s .number ≡ 0) where
-    pub rules-refused : (rulesRead .number ≡ 0 → ⊥) → readFiles s t ≡ refused (rulesRead .number) 2 (rulesRead .place)
+    pub rules-refused : (rulesRead .number ≡ 0 → ⊥) → readFiles mode s t ≡ refused (rulesRead .number) 2 (rulesRead .place)
     unfolding readFiles
     rules-refused h = pick-false _ _ _ (ap not (eq-eqb _ 0 c)) ∙ pick-true _ _ _ (ap not (ne-eqb (rulesRead .number) 0 h))
 
-    pub files-passed : rulesRead .number ≡ 0 → readFiles s t ≡ ready chartIs (rulesRead .diagram)
+    pub files-passed : rulesRead .number ≡ 0 → readFiles mode s t ≡ ready chartIs (rulesRead .diagram)
     unfolding readFiles
     files-passed d = pick-false _ _ _ (ap not (eq-eqb _ 0 c)) ∙ pick-false _ _ _ (ap not (eq-eqb _ 0 d))
 
@@ -41,21 +41,21 @@ module _ (s t : List ℕ) where
 module _ (s t : List ℕ) (works : List ℕ) (plan : ℕ) where
   pub chart-refuses : (readChart s .number ≡ 0 → ⊥) → load s t works plan ≡ refused (readChart s .number) 1 (readChart s .place)
   unfolding load
-  chart-refuses h = ap (withSpace works plan) (chart-refused s t h)
+  chart-refuses h = ap (withSpace works plan) (chart-refused strict s t h)
 
   module _ (c : readChart s .number ≡ 0) where
-    pub rules-refuse : (rulesRead s t .number ≡ 0 → ⊥) → load s t works plan ≡ refused (rulesRead s t .number) 2 (rulesRead s t .place)
+    pub rules-refuse : (rulesRead strict s t .number ≡ 0 → ⊥) → load s t works plan ≡ refused (rulesRead strict s t .number) 2 (rulesRead strict s t .place)
     unfolding load
-    rules-refuse h = ap (withSpace works plan) (rules-refused s t c h)
+    rules-refuse h = ap (withSpace works plan) (rules-refused strict s t c h)
 
-    module _ (d : rulesRead s t .number ≡ 0) where
-      pub space-refuses : spaceFits (chartIs s t) (rulesRead s t .diagram) works plan ≡ false → load s t works plan ≡ refused 7 0 0
+    module _ (d : rulesRead strict s t .number ≡ 0) where
+      pub space-refuses : spaceFits (chartIs strict s t) (rulesRead strict s t .diagram) works plan ≡ false → load s t works plan ≡ refused 7 0 0
       unfolding load
-      space-refuses h = ap (withSpace works plan) (files-passed s t c d) ∙ pick-false _ _ _ h
+      space-refuses h = ap (withSpace works plan) (files-passed strict s t c d) ∙ pick-false _ _ _ h
 
-      pub all-ready : spaceFits (chartIs s t) (rulesRead s t .diagram) works plan ≡ true → load s t works plan ≡ ready (chartIs s t) (rulesRead s t .diagram)
+      pub all-ready : spaceFits (chartIs strict s t) (rulesRead strict s t .diagram) works plan ≡ true → load s t works plan ≡ ready (chartIs strict s t) (rulesRead strict s t .diagram)
       unfolding load
-      all-ready h = ap (withSpace works plan) (files-passed s t c d) ∙ pick-true _ _ _ h
+      all-ready h = ap (withSpace works plan) (files-passed strict s t c d) ∙ pick-true _ _ _ h
 
 -- two work slices are long enough where the shorter is
 shorter : (need a b : ℕ) (works : List ℕ) → every (leb need) (a ∷ b ∷ works) ≡ every (leb need) (min a b ∷ works)
@@ -68,7 +68,7 @@ shorter need a b works = go (leb need a) refl (leb need b) refl
 
 load-shorter : (s t : List ℕ) (a b : ℕ) (works : List ℕ) (plan : ℕ) → load s t (a ∷ b ∷ works) plan ≡ load s t (min a b ∷ works) plan
 unfolding load
-load-shorter s t a b works plan = go (readFiles s t)
+load-shorter s t a b works plan = go (readFiles strict s t)
   where
     go : (o : Load) → withSpace (a ∷ b ∷ works) plan o ≡ withSpace (min a b ∷ works) plan o
     go (refused number file place) = refl
@@ -104,24 +104,24 @@ space-passed works plan (ready c′ d′) c d e =
     (λ x. (x .1, ap₂ (λ (i : Chart) (j : Diagram). spaceFits i j works plan) (sym (ready-left c′ d′ c d (x .1))) (sym (ready-right c′ d′ c d (x .1))) ∙ x .0))
     (λ x. absurd (refused-not-ready 7 0 0 c d (x .1)))
 
-files-are : (s t : List ℕ) (c : Chart) (d : Diagram) → readFiles s t ≡ ready c d → (readChart s .chart ≡ c) × (rulesRead s t .diagram ≡ d)
+files-are : (mode : Bool) (s t : List ℕ) (c : Chart) (d : Diagram) → readFiles mode s t ≡ ready c d → (readChart s .chart ≡ c) × (rulesRead mode s t .diagram ≡ d)
 unfolding readFiles
-files-are s t c d e =
+files-are mode s t c d e =
     either (pick-cases _ _ _ _ e) (λ x. absurd (refused-not-ready _ _ _ c d (x .1)))
     (λ x. either (pick-cases _ _ _ _ (x .1)) (λ y. absurd (refused-not-ready _ _ _ c d (y .1)))
     (λ y. (ready-left _ _ c d (y .1), ready-right _ _ c d (y .1))))
 
 -- where all checks pass, the chart and the diagram are those of the files, and the space is enough
 ready-parts : (s t works : List ℕ) (plan : ℕ) (c : Chart) (d : Diagram) → load s t works plan ≡ ready c d
-    → (readChart s .chart ≡ c) × (rulesRead s t .diagram ≡ d) × (spaceFits c d works plan ≡ true)
+    → (readChart s .chart ≡ c) × (rulesRead strict s t .diagram ≡ d) × (spaceFits c d works plan ≡ true)
 unfolding load
 ready-parts s t works plan c d e =
-    let x = space-passed works plan (readFiles s t) c d e in
-    let y = files-are s t c d (x .0) in
+    let x = space-passed works plan (readFiles strict s t) c d e in
+    let y = files-are strict s t c d (x .0) in
     (y .0, y .1, x .1)
 
 pub ready-files : (s t works : List ℕ) (plan : ℕ) (c : Chart) (d : Diagram) → load s t works plan ≡ ready c d
-    → (c ≡ readChart s .chart) × (d ≡ readDiagram t (length (readChart s .chart .steps)) .diagram)
+    → (c ≡ readChart s .chart) × (d ≡ readDiagram strict t (length (readChart s .chart .steps)) .diagram)
 ready-files s t works plan c d e = let x = ready-parts s t works plan c d e in (sym (x .0), sym (x .1))
 
 pub ready-space : (s t : List ℕ) (work plan : ℕ) (c : Chart) (d : Diagram) → load s t (work ∷ []) plan ≡ ready c d → (workNeed c d ≤ work) × (planNeed c ≤ plan)
@@ -134,19 +134,19 @@ ready-space s t work plan c d e =
 same-number : (n f p n′ f′ p′ : ℕ) → refused n f p ≡ refused n′ f′ p′ → n ≡ n′
 same-number n f p n′ f′ p′ e = cc
 
-files-numbered : (s t : List ℕ) (number file place : ℕ) → readFiles s t ≡ refused number file place → number ≡ 0 → ⊥
+pub files-numbered : (mode : Bool) (s t : List ℕ) (number file place : ℕ) → readFiles mode s t ≡ refused number file place → number ≡ 0 → ⊥
 unfolding readFiles
-files-numbered s t number file place e z =
+files-numbered mode s t number file place e z =
     either (pick-cases _ _ _ _ e) (λ x. eqb-false _ 0 (not-true _ (x .0)) (same-number _ _ _ _ _ _ (x .1) ∙ z))
     (λ x. either (pick-cases _ _ _ _ (x .1)) (λ y. eqb-false _ 0 (not-true _ (y .0)) (same-number _ _ _ _ _ _ (y .1) ∙ z))
     (λ y. absurd (refused-not-ready _ _ _ _ _ (sym (y .1)))))
 
 pub load-numbered : (s t works : List ℕ) (plan number file place : ℕ) → load s t works plan ≡ refused number file place → number ≡ 0 → ⊥
 unfolding load
-load-numbered s t works plan number file place = go (readFiles s t) refl
+load-numbered s t works plan number file place = go (readFiles strict s t) refl
   where
-    go : (o : Load) → readFiles s t ≡ o → withSpace works plan o ≡ refused number file place → number ≡ 0 → ⊥
-    go (refused n f p) e q z = files-numbered s t n f p e (same-number n f p number file place q ∙ z)
+    go : (o : Load) → readFiles strict s t ≡ o → withSpace works plan o ≡ refused number file place → number ≡ 0 → ⊥
+    go (refused n f p) e q z = files-numbered strict s t n f p e (same-number n f p number file place q ∙ z)
     go (ready c d) e q z =
         either (pick-cases _ _ _ _ q) (λ x. refused-not-ready number file place c d (sym (x .1)))
         (λ x. let seven : 7 ≡ 0 = same-number 7 0 0 number file place (x .1) ∙ z in omega arith)

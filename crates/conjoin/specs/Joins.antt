@@ -21,8 +21,8 @@ use Rattle.reduction_theory.specs.Expansion.{conjunction-joined}
 use Rattle.reduction_theory.specs.Numbering.{good-nil}
 use Rattle.reduction_theory.specs.Trees.{tree, meet, joined}
 use Rattle.unique_table.specs.Nodes.{nodes-long}
-use Rattle.unique_table.specs.Stores.{empty, empty-table, empty-nodes}
-use Rattle.unique_table.specs.Tables.{Table}
+use Rattle.unique_table.specs.Stores.{blank, empty-table, empty-nodes}
+use Rattle.unique_table.specs.Tables.{UniqueTable, uniqueTable, Table}
 use Rattle.apply.specs.Operands.{Inside}
 use Rattle.apply.specs.Pairs.{pairTree, pair-inside}
 use Rattle.apply.specs.Walks.{State}
@@ -81,11 +81,11 @@ module _ {work left right : List ℕ} {width pairs first second : ℕ} (x : Join
     long₁ = ap length same-cleared ∙ cleared-long pairs work pairs-inside
 
     -- nothing is left yet, and no pair is done
-    started : State (x .d) (x .e) [] w₁ empty
+    started : State (x .d) (x .e) [] w₁ (uniqueTable (replicate 512 0) blank)
     unfolding nodesOf
     started = record {
       good = good-nil;
-      nodes = empty-nodes;
+      nodes = empty-nodes (replicate 512 0);
       known = λ i j h k s. absurd (omega (
         arith,
         ap (λ (l : List ℕ). getD l (i * size (x .e) + j) 0) same-cleared,
@@ -94,18 +94,18 @@ module _ {work left right : List ℕ} {width pairs first second : ℕ} (x : Join
       ));
     }
 
-    pub walk-ready : Ready w₁ empty left right width first second
+    pub walk-ready : Ready w₁ (uniqueTable (replicate 512 0) blank) left right width first second
     walk-ready = record {
       d = x .d;
       e = x .e;
       inside = record { first = x .inside .first; second = x .inside .second; wide = x .inside .wide; room = omega (arith, x .inside .room, long₁) };
       a-inside = omega (arith, x .root-first, x .sound-first .root-inside);
       b-inside = omega (arith, x .root-second, x .sound-second .root-inside);
-      entries = empty-table;
+      entries = empty-table (replicate 512 0) (length-replicate {A = ℕ} 512 0);
       state = started;
     }
 
-    module _ (w₂ t₂ : List ℕ) (root : ℕ) (walked : Walked walk-ready w₂ t₂ root) where
+    module _ (w₂ : List ℕ) (t₂ : UniqueTable) (root : ℕ) (walked : Walked walk-ready w₂ t₂ root) where
       abbrev made : Diagram
       made = conjunction (x .steps) (x .d) (x .e)
 

@@ -2,6 +2,7 @@
 -- Assumes nothing.
 use Prim.Native.Nat.{ℕ, zero, suc, _+_, _*_, _≤_, _<_}
 use mathlib.Core.Path.{_≡_, refl, sym, _∙_, ap, ap₂, subst}
+use mathlib.Core.Bool.{Bool}
 use mathlib.Core.List.{List}
 use native.Mathlib.Nat.{mul-le-mul-right}
 use native.Mathlib.Omega.{arith}
@@ -10,7 +11,7 @@ use mir.Syntax.{w64}
 use mir.Val.{Fits}
 use Rattle.definitions.specs.Charts.{Chart, readChart}
 use Rattle.definitions.specs.Charts as charts
-use Rattle.definitions.specs.Diagrams.{Diagram, size, readDiagram}
+use Rattle.definitions.specs.Diagrams.{Diagram, size, strict, readDiagram}
 use Rattle.definitions.specs.Diagrams as diagrams
 use Rattle.definitions.specs.Answers.{LoadTwo, readyTwo, refusedTwo, pairNeed, loadTwo}
 use Rattle.theory.specs.Limits.{Sound}
@@ -19,7 +20,7 @@ use Rattle.chart.specs.Accepted.{chart-accepted}
 use Rattle.chart.specs.Tables.{chartAnswer}
 use Rattle.chart.specs.declared.reader.ChartRead.{ChartRead}
 use Rattle.diagram.specs.Accepted.{diagram-accepted, accepted-filled}
-use Rattle.diagram.specs.Files.{Room, Reads, Filled}
+use Rattle.diagram.specs.Files.{Reads, Filled}
 use Rattle.diagram.specs.Held.{held-inner}
 use Rattle.diagram.specs.Tables.{Held}
 use Rattle.diagram.specs.declared.reader.DiagramRead.{DiagramRead}
@@ -50,32 +51,32 @@ LoadsTwo (readyTwo c d e) work left right r = Loaded c d e work left right r
 
 -- ---- a diagram file over a chart of so many steps, read into a table
 
-module _ (s : List ℕ) (n : ℕ) (words words′ : List ℕ) (y : DiagramRead) (reads : Reads s n words words′ y) where
-  pub number-is : y .number ≡ readDiagram s n .number
+module _ (mode : Bool) (s : List ℕ) (n : ℕ) (words words′ : List ℕ) (y : DiagramRead) (reads : Reads mode s n words words′ y) where
+  pub number-is : y .number ≡ readDiagram mode s n .number
   number-is = ap (λ (z : DiagramRead). z .number) (reads .answer)
 
-  pub place-is : y .place ≡ readDiagram s n .place
+  pub place-is : y .place ≡ readDiagram mode s n .place
   place-is = ap (λ (z : DiagramRead). z .place) (reads .answer)
 
-  pub root-is : y .root ≡ readDiagram s n .diagram .root
+  pub root-is : y .root ≡ readDiagram mode s n .diagram .root
   root-is = ap (λ (z : DiagramRead). z .root) (reads .answer)
 
-  pub size-is : y .nodes + 2 ≡ size (readDiagram s n .diagram)
+  pub size-is : y .nodes + 2 ≡ size (readDiagram mode s n .diagram)
   size-is = ap (λ (z : DiagramRead). z .nodes + 2) (reads .answer)
 
   module _ (passed : y .number ≡ 0) where
     abbrev d : Diagram
-    d = readDiagram s n .diagram
+    d = readDiagram mode s n .diagram
 
-    pub sound-is : Sound n (readDiagram s n .diagram)
-    sound-is = diagram-accepted s n (sym number-is ∙ passed)
+    pub sound-is : Sound n (readDiagram mode s n .diagram)
+    sound-is = diagram-accepted mode s n (sym number-is ∙ passed)
 
     pub few-nodes : y .nodes ≤ 510
     few-nodes = omega (arith, size-is, sound-is .few)
 
-    module _ (room : Room words) (chart : n ≤ 1024) where
+    module _ (chart : n ≤ 1024) where
       filled : Filled (d .nodes) words′
-      filled = accepted-filled s n (sym number-is ∙ passed) chart words words′ (reads .table room)
+      filled = accepted-filled mode s n (sym number-is ∙ passed) chart words words′ (reads .table)
 
       in-table : Held d (nodesIn words′ .step) (nodesIn words′ .lo) (nodesIn words′ .hi)
       in-table = record { ordered = sound-is .ordered; few = sound-is .few; nodes = filled .held; marked = filled .marked }
@@ -85,7 +86,7 @@ module _ (s : List ℕ) (n : ℕ) (words words′ : List ℕ) (y : DiagramRead) 
       mark-at (suc zero) h = sym (step-at words′ 1) ∙ filled .marked .at-yes
       mark-at (suc (suc m)) h = absurd (omega arith)
 
-      pub operand-is : Operand (readDiagram s n .diagram) words′
+      pub operand-is : Operand (readDiagram mode s n .diagram) words′
       operand-is = record {
         ordered = sound-is .ordered;
         few = sound-is .few;
@@ -119,39 +120,39 @@ module _ (chart rules more : List ℕ) (work : ℕ) (x : ChartRead) (answer : x 
   chart-out left right h r e =
       rw (chart-refuses-two chart rules more work (λ z. h (chart-number ∙ z))) (e ∙ ap₂ (λ (i j : ℕ). refusedAs i 1 j) chart-number chart-place, λ z. h (chart-number ∙ z))
 
-  module _ (cx : x .number ≡ 0) (words₁ : List ℕ) (room₁ : Room words₁) (left′ : List ℕ) (y : DiagramRead) (ry : Reads rules (x .steps) words₁ left′ y) where
+  pub few-steps : x .number ≡ 0 → x .steps ≤ 1024
+  few-steps cx = omega (arith, steps-is, chart-accepted chart (sym chart-number ∙ cx) .0 .few)
+
+  module _ (cx : x .number ≡ 0) (words₁ : List ℕ) (left′ : List ℕ) (y : DiagramRead) (ry : Reads strict rules (x .steps) words₁ left′ y) where
     chart-passed : readChart chart .number ≡ 0
     chart-passed = sym chart-number ∙ cx
 
-    few-steps : x .steps ≤ 1024
-    few-steps = omega (arith, steps-is, chart-accepted chart chart-passed .0 .few)
-
-    first-is : readDiagram rules (x .steps) ≡ rulesRead chart rules
-    first-is = ap (readDiagram rules) steps-is
+    first-is : readDiagram strict rules (x .steps) ≡ rulesRead chart rules
+    first-is = ap (readDiagram strict rules) steps-is
 
     first-number : y .number ≡ rulesRead chart rules .number
-    first-number = number-is rules (x .steps) words₁ left′ y ry ∙ ap (λ (z : diagrams.DiagramRead). z .number) first-is
+    first-number = number-is strict rules (x .steps) words₁ left′ y ry ∙ ap (λ (z : diagrams.DiagramRead). z .number) first-is
 
     first-place : y .place ≡ rulesRead chart rules .place
-    first-place = place-is rules (x .steps) words₁ left′ y ry ∙ ap (λ (z : diagrams.DiagramRead). z .place) first-is
+    first-place = place-is strict rules (x .steps) words₁ left′ y ry ∙ ap (λ (z : diagrams.DiagramRead). z .place) first-is
 
     pub rules-out : (right : List ℕ) → (y .number ≡ 0 → ⊥) → (r : LoadedTwo) → r ≡ refusedAs (y .number) 2 (y .place) → LoadsTwo (loadTwo chart rules more work) work left′ right r
     rules-out right h r e =
         rw (rules-refuse-two chart rules more work chart-passed (λ z. h (first-number ∙ z)))
         (e ∙ ap₂ (λ (i j : ℕ). refusedAs i 2 j) first-number first-place, λ z. h (first-number ∙ z))
 
-    module _ (cy : y .number ≡ 0) (words₂ : List ℕ) (room₂ : Room words₂) (right′ : List ℕ) (z : DiagramRead) (rz : Reads more (x .steps) words₂ right′ z) where
+    module _ (cy : y .number ≡ 0) (words₂ : List ℕ) (right′ : List ℕ) (z : DiagramRead) (rz : Reads strict more (x .steps) words₂ right′ z) where
       first-passed : rulesRead chart rules .number ≡ 0
       first-passed = sym first-number ∙ cy
 
-      second-is : readDiagram more (x .steps) ≡ rulesRead chart more
-      second-is = ap (readDiagram more) steps-is
+      second-is : readDiagram strict more (x .steps) ≡ rulesRead chart more
+      second-is = ap (readDiagram strict more) steps-is
 
       second-number : z .number ≡ rulesRead chart more .number
-      second-number = number-is more (x .steps) words₂ right′ z rz ∙ ap (λ (z : diagrams.DiagramRead). z .number) second-is
+      second-number = number-is strict more (x .steps) words₂ right′ z rz ∙ ap (λ (z : diagrams.DiagramRead). z .number) second-is
 
       second-place : z .place ≡ rulesRead chart more .place
-      second-place = place-is more (x .steps) words₂ right′ z rz ∙ ap (λ (z : diagrams.DiagramRead). z .place) second-is
+      second-place = place-is strict more (x .steps) words₂ right′ z rz ∙ ap (λ (z : diagrams.DiagramRead). z .place) second-is
 
       pub more-out : (z .number ≡ 0 → ⊥) → (r : LoadedTwo) → r ≡ refusedAs (z .number) 3 (z .place) → LoadsTwo (loadTwo chart rules more work) work left′ right′ r
       more-out h r e =
@@ -163,19 +164,19 @@ module _ (chart rules more : List ℕ) (work : ℕ) (x : ChartRead) (answer : x 
         second-passed = sym second-number ∙ cz
 
         pub first-few : y .nodes ≤ 510
-        first-few = few-nodes rules (x .steps) words₁ left′ y ry cy
+        first-few = few-nodes strict rules (x .steps) words₁ left′ y ry cy
 
         pub second-few : z .nodes ≤ 510
-        second-few = few-nodes more (x .steps) words₂ right′ z rz cz
+        second-few = few-nodes strict more (x .steps) words₂ right′ z rz cz
 
         pub pairs-fit : Fits w64 ((y .nodes + 2) * (z .nodes + 2))
         pairs-fit = record { fits = omega (arith, pairs-bound (y .nodes) (z .nodes) first-few second-few) }
 
         first-size : y .nodes + 2 ≡ size (rulesRead chart rules .diagram)
-        first-size = size-is rules (x .steps) words₁ left′ y ry ∙ ap (λ (w : diagrams.DiagramRead). size (w .diagram)) first-is
+        first-size = size-is strict rules (x .steps) words₁ left′ y ry ∙ ap (λ (w : diagrams.DiagramRead). size (w .diagram)) first-is
 
         second-size : z .nodes + 2 ≡ size (rulesRead chart more .diagram)
-        second-size = size-is more (x .steps) words₂ right′ z rz ∙ ap (λ (w : diagrams.DiagramRead). size (w .diagram)) second-is
+        second-size = size-is strict more (x .steps) words₂ right′ z rz ∙ ap (λ (w : diagrams.DiagramRead). size (w .diagram)) second-is
 
         need-is : (y .nodes + 2) * (z .nodes + 2) ≡ pairNeed (rulesRead chart rules .diagram) (rulesRead chart more .diagram)
         need-is = ap₂ (λ (i j : ℕ). i * j) first-size second-size
@@ -189,13 +190,13 @@ module _ (chart rules more : List ℕ) (work : ℕ) (x : ChartRead) (answer : x 
         all-pass h =
             rw (ready-two chart rules more work chart-passed first-passed second-passed (omega (arith, need-is))) (record {
               passed = refl;
-              root-first = root-is rules (x .steps) words₁ left′ y ry ∙ ap (λ (w : diagrams.DiagramRead). w .diagram .root) first-is;
-              root-second = root-is more (x .steps) words₂ right′ z rz ∙ ap (λ (w : diagrams.DiagramRead). w .diagram .root) second-is;
+              root-first = root-is strict rules (x .steps) words₁ left′ y ry ∙ ap (λ (w : diagrams.DiagramRead). w .diagram .root) first-is;
+              root-second = root-is strict more (x .steps) words₂ right′ z rz ∙ ap (λ (w : diagrams.DiagramRead). w .diagram .root) second-is;
               wide = second-size;
               needs = need-is;
               room = omega (arith, need-is);
-              operand-first = subst (λ (w : diagrams.DiagramRead). Operand (w .diagram) left′) first-is (operand-is rules (x .steps) words₁ left′ y ry cy room₁ few-steps);
-              operand-second = subst (λ (w : diagrams.DiagramRead). Operand (w .diagram) right′) second-is (operand-is more (x .steps) words₂ right′ z rz cz room₂ few-steps);
-              sound-first = diagram-accepted rules (length (readChart chart .chart .steps)) first-passed;
-              sound-second = diagram-accepted more (length (readChart chart .chart .steps)) second-passed;
+              operand-first = subst (λ (w : diagrams.DiagramRead). Operand (w .diagram) left′) first-is (operand-is strict rules (x .steps) words₁ left′ y ry cy (few-steps cx));
+              operand-second = subst (λ (w : diagrams.DiagramRead). Operand (w .diagram) right′) second-is (operand-is strict more (x .steps) words₂ right′ z rz cz (few-steps cx));
+              sound-first = diagram-accepted strict rules (length (readChart chart .chart .steps)) first-passed;
+              sound-second = diagram-accepted strict more (length (readChart chart .chart .steps)) second-passed;
             })

@@ -10,7 +10,7 @@ use entries::clear;
 use unique_table::FULL;
 
 // The file of the conjunction of two diagrams that stand in tables, from their roots.
-fn join<'a>(
+pub fn join<'a>(
     work: &mut [u32],
     file: &mut [u8],
     left: &'a [u32; 512],
@@ -26,13 +26,14 @@ fn join<'a>(
         → Joins x (now (file .entry)) (now (work .exit)) (now (file .exit)) r)
         ⌝ }
 {
-    let mut table = [0u32; 2048];
+    let mut nodes = [0u32; 512];
+    let mut chains = [0u16; 1024];
     clear(work, pairs);
-    let root = apply(work, &mut table, left, right, width, first, second);
+    let root = apply(work, &mut nodes, &mut chains, left, right, width, first, second);
     if root == FULL {
         return refusal(12, 0, 0, 0);
     }
-    write_diagram(file, &table, root)
+    write_diagram(file, &nodes, &chains, root)
 }
 
 // The conjunction of the diagrams `rules` (file 2) and `more` (file 3) over one chart, reduced, as a file at the front of

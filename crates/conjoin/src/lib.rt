@@ -3,3 +3,4 @@ mod join;
 mod load;
 
 pub use join::conjoin;
+pub use join::join;

@@ -20,7 +20,7 @@ use Rattle.theory.specs.Least.{IsLeast, least-same}
 use Rattle.theory.specs.Limits.{Ordered, Sound, Valid}
 use Rattle.theory.specs.Plans.{LegalCost, cheapest-least}
 use Rattle.field_writer.specs.RoundTrip.{diagram-read-back}
-use Rattle.reduction_theory.specs.Reduction.{same-reduction}
+use Rattle.reduction_theory.specs.Reduction.{same-pruned}
 use Rattle.reduction_theory.specs.Reduced.{walk-leaf, walk-inner, reduced-fixed, reduced-arrives}
 use Rattle.reduction_theory.specs.Expansion.{reducedOf-ordered, reducedOf-reduced, reducedOf-steps, reducedOf-accepts, both-local}
 
@@ -28,7 +28,7 @@ use Rattle.reduction_theory.specs.Expansion.{reducedOf-ordered, reducedOf-reduc
 
 -- Two reduced diagrams that say yes to the same sets are equal
 pub reduced-same : (d e : Diagram) → Ordered d → Ordered e → Reduced d → Reduced e → ((s : ℕ → Bool) → accepts d s ≡ accepts e s) → d ≡ e
-reduced-same d e o p r q a = sym (reduced-fixed d o r) ∙ same-reduction d e o p a ∙ reduced-fixed e p q
+reduced-same d e o p r q a = sym (reduced-fixed d o r) ∙ same-pruned d e o p a ∙ reduced-fixed e p q
 
 length-run : (i n : ℕ) → length (run i n) ≡ n
 length-run i zero = refl

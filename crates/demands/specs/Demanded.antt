@@ -29,7 +29,7 @@ scratch-past : (c : Chart) (d : Diagram) (work work′ : List ℕ) → Scratch (
 scratch-past c d work work′ s = record { long = s .0; rest = s .1 }
 
 -- the count that an outcome speaks of is the answer's
-outcome-count : (best : Option ℕ) (c : Chart) (d : Diagram) (k : ℕ) (plan plan′ : List ℕ) (r : Answer) → Outcome best c d k plan plan′ r → r .count ≡ k
+pub outcome-count : (best : Option ℕ) (c : Chart) (d : Diagram) (k : ℕ) (plan plan′ : List ℕ) (r : Answer) → Outcome best c d k plan plan′ r → r .count ≡ k
 outcome-count none c d k plan plan′ r o = ap (λ (a : Answer). a .count) (o .0)
 outcome-count (some m) c d k plan plan′ r o = ap (λ (a : Answer). a .count) (o .0)
 
@@ -59,7 +59,7 @@ module _ (chart rules : List ℕ) (lent lent′ : SweepSlices) (r : Answer) wher
             past (suc (suc zero)) = scratch-past c d (lent .nodes) (lent′ .nodes) (t .nodes)
             past (suc (suc (suc i))) = nothing (need c d)
 
-    swept-count : (c : Chart) (d : Diagram) → Passes chart rules swept c d → r .count ≡ length (reachedPairs (graph c) (automaton c d))
+    pub swept-count : (c : Chart) (d : Diagram) → Passes chart rules swept c d → r .count ≡ length (reachedPairs (graph c) (automaton c d))
     swept-count c d a = outcome-count (cheapest c d) c d _ (lent .plan) (lent′ .plan) r (sweep-at c d a .swept .0)
 
     pub is-swept : (c : Chart) (d : Diagram) → Passes chart rules swept c d → Sweeps c d (lent′ .cost) r

@@ -44,7 +44,7 @@ pub record Lacks (x : Call) (c : Chart) (d : Diagram) : Type 0 where
   pub plan : x .plan′ ≡ x .plan
   pub legal : NoPlan c d
 
-refusal-is : (n f p k : ℕ) (r : Answer) → r ≡ refusal n f p k → Refusal n f p k r
+pub refusal-is : (n f p k : ℕ) (r : Answer) → r ≡ refusal n f p k → Refusal n f p k r
 refusal-is n f p k r e = record {
   number = ap (λ (a : Answer). a .number) e;
   file = ap (λ (a : Answer). a .file) e;

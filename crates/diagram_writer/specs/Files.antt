@@ -16,14 +16,14 @@ use Rattle.diagram_fields.specs.Words.{stepOf, loOf, hiOf, unpacked}
 use Rattle.field_writer.specs.Sizes.{diagram-long}
 use Rattle.file_answers.specs.Files.{filed-short, filed-whole}
 use Rattle.unique_table.specs.Nodes.{nodes-long, node-listed}
-use Rattle.unique_table.specs.Tables.{innerNode, nodeAt, countIn, nodesIn}
+use Rattle.unique_table.specs.Tables.{UniqueTable, innerNode, nodeAt, countIn, nodesIn}
 
-abbrev pub drawn : ℕ → List ℕ → Diagram
+abbrev pub drawn : ℕ → UniqueTable → Diagram
 drawn root t = record { root = root; nodes = nodesIn t }
 
-module _ (t : List ℕ) where
+module _ (t : UniqueTable) where
   -- one node written is the table's next
-  pub node-appended : (k : ℕ) → k < countIn t → (v l h : ℕ) → v ≡ stepOf (getD t (k + 2) 0) → l ≡ loOf (getD t (k + 2) 0) → h ≡ hiOf (getD t (k + 2) 0)
+  pub node-appended : (k : ℕ) → k < countIn t → (v l h : ℕ) → v ≡ stepOf (getD (t .nodes) (k + 2) 0) → l ≡ loOf (getD (t .nodes) (k + 2) 0) → h ≡ hiOf (getD (t .nodes) (k + 2) 0)
       → {out out′ : List ℕ} {at r : ℕ} → Appended out at (nodeBytes (innerNode v l h)) out′ r → Appended out at (nodeBytes (getD (nodesIn t) k noNode)) out′ r
   node-appended k b v l h ev el eh {out} {out′} {at} {r} p =
       subst (λ (x : InnerNode). Appended out at (nodeBytes x) out′ r) ((λ i. innerNode (ev i) (el i) (eh i)) ∙ sym (node-listed t k b)) p

@@ -1,8 +1,8 @@
 -- Every chart and every diagram within the limits has a file of bytes, and is read back from it, the chart with its costs rounded.
 -- Assumes nothing.
 use Prim.Native.Nat.{ℕ, _+_, _-_, _*_, _/_, _%_, _≤_, _<_}
-use mathlib.Core.Path.{_≡_, refl, _∙_, ap}
-use mathlib.Core.Bool.{true}
+use mathlib.Core.Path.{_≡_, refl, sym, _∙_, ap}
+use mathlib.Core.Bool.{Bool, true, false, _&&_}
 use mathlib.Core.List.{List, [], _∷_, _++_, map, map-id}
 use native.Mathlib.Omega.{arith}
 use lib.ListN.{length, getD, length-append, length-map, List·getD-map, List·getD-append, List·getD-eq-default}
@@ -11,12 +11,13 @@ use borrow.Author.Tests.{lt-ltb, le-ltb, lt-leb}
 use Rattle.definitions.specs.Basics.{pick, each}
 use Rattle.definitions.specs.Fields.{two, four, only, firstField, onField, stopped}
 use Rattle.definitions.specs.Charts.{Chart, ChartStep, noStep, headFault, stepFault, rounded, stepOf, lastFrom, stepGrammar, scanSteps, readChart}
-use Rattle.definitions.specs.Diagrams.{InnerNode, Diagram, noNode, inner, childFits, nodeFault, innerNodeOf, nodeGrammar, scanNodes, readDiagram}
-use Rattle.theory.specs.Limits.{Valid, Small, Sound}
+use Rattle.definitions.specs.Diagrams.{InnerNode, Diagram, noNode, size, inner, childFits, nodeFault, innerNodeOf, padding, nodeFaultAfter, nodeGrammar, scanNodes, readDiagram}
+use Rattle.theory.specs.Limits.{Valid, Small, Sound, Unpadded}
+use Rattle.theory.specs.Padding.{padding-none, fault-within}
 use Rattle.definitions.specs.Marked.{st, nd}
 use Rattle.definitions.specs.Plans.{graph}
 use Rattle.definitions.specs.declared.Field.the-variants.{Whole}
-use Rattle.theory.specs.Basics.{either, lt-or-le}
+use Rattle.theory.specs.Basics.{pick-false, either, lt-or-le}
 use Rattle.theory.specs.Choices.{tests}
 use Rattle.definitions.specs.Bytes.{le2, le4, bodyOfHead, bodyOfStep, roundedStep, roundedChart, stepBytes, chartBytes, headBytes, bodyOfNode, nodeBytes, rootBytes, diagramBytes}
 use Rattle.field_writer.specs.Sizes.{chart-long, diagram-long, AllBytes, append-bytes, le2-bytes, le4-bytes, field-bytes, each-bytes}
@@ -174,18 +175,30 @@ module _ (steps : ℕ) (d : Diagram) (p : Sound steps d) where
         (λ h. rw (le-ltb r 2 h)
         (lt-ltb (x .step) (stepAt r) (omega (arith, f h, ap (λ (y : InnerNode). y .step) (earlier before x rest split noNode (r - 2) (omega arith)))))))
 
-    node-reads : Reads (nodeGrammar steps) 18 bodyOfNode (λ y. y) before x
+    within : nodeFault steps stepAt (length before) (bodyOfNode x) ≡ 0
+    within =
+        node-passes steps (length before) (x .step) (x .lo) (x .hi) stepAt (bodyOfNode x) (le2-back (x .step)) (le2-back (x .lo)) (le2-back (x .hi)) few-before exists
+        (child (x .lo) lo-below (rw node-is at (p .ordered .lo-later n inner-one))) (child (x .hi) hi-below (rw node-is at (p .ordered .hi-later n inner-one)))
+
+    no-padding : Unpadded d → padding before x ≡ false
+    no-padding u =
+        let inside : n < size d = omega (arith, count before x rest split noNode) in
+        padding-none before x (λ e. u .forked n inner-one inside (rw node-is e)) (λ i h e.
+        let z : i + 2 - 2 ≡ i = omega arith in
+        let q : i + 2 ≡ n = u .unlike (i + 2) n (omega arith) (omega arith) inner-one inside
+        (ap (λ (k : ℕ). getD (d .nodes) k noNode) z ∙ earlier before x rest split noNode i h ∙ e ∙ sym node-is) in
+        omega arith)
+
+    passes-by : (mode : Bool) → (mode ≡ true → Unpadded d) → nodeFaultAfter mode steps before (bodyOfNode x) ≡ 0
+    passes-by mode u = fault-within mode steps before (bodyOfNode x) within ∙ pick-false _ _ _ (go mode u)
+      where
+        go : (m : Bool) → (m ≡ true → Unpadded d) → (m && padding before (innerNodeOf (bodyOfNode x))) ≡ false
+        go true v = ap (padding before) (same-node x) ∙ no-padding (v refl)
+        go false v = refl
+
+    node-reads : (mode : Bool) → (mode ≡ true → Unpadded d) → Reads (nodeGrammar mode steps) 18 bodyOfNode (λ y. y) before x
     unfolding only pick
-    node-reads = record {
-      other = refl;
-      known = refl;
-      given = refl;
-      fits = refl;
-      passes =
-          node-passes steps (length before) (x .step) (x .lo) (x .hi) stepAt (bodyOfNode x) (le2-back (x .step)) (le2-back (x .lo)) (le2-back (x .hi)) few-before exists
-          (child (x .lo) lo-below (rw node-is at (p .ordered .lo-later n inner-one))) (child (x .hi) hi-below (rw node-is at (p .ordered .hi-later n inner-one)));
-      same = same-node x;
-    }
+    node-reads mode u = record { other = refl; known = refl; given = refl; fits = refl; passes = passes-by mode u; same = same-node x }
 
     node-bytes : steps ≤ 1024 → AllBytes (nodeBytes x)
     node-bytes few =
@@ -197,12 +210,13 @@ module _ (steps : ℕ) (d : Diagram) (p : Sound steps d) where
       append-bytes (rootBytes (d .root)) (each nodeBytes (d .nodes)) (field-bytes 17 (le2 (d .root)) (omega arith) (omega arith) (le2-bytes (d .root) (omega (arith, p .root-inside, p .few))))
       (each-bytes nodeBytes (d .nodes) (λ before x rest split. node-bytes before x rest split few))
 
-  pub diagram-read-back : readDiagram (diagramBytes d) steps ≡ record { number = 0; place = 0; diagram = d }
+  -- strictly where it holds no padding
+  pub diagram-read-back : (mode : Bool) → (mode ≡ true → Unpadded d) → readDiagram mode (diagramBytes d) steps ≡ record { number = 0; place = 0; diagram = d }
   unfolding readDiagram onField only pick
-  diagram-read-back =
+  diagram-read-back mode u =
       let head : Whole 0 3 5 ≡ firstField (diagramBytes d) (only 17 2)
       = first-short (diagramBytes d) 17 2 (omega (arith, diagram-long d, p .few)) _ (fieldAt-written [] (le2 (d .root)) (each nodeBytes (d .nodes)) 17 (only 17 2) refl refl refl) in
-      let nodes : scanNodes (diagramBytes d) steps 5 ≡ stopped (d .nodes) 0 0
-      = scan-written (nodeGrammar steps) 18 bodyOfNode (λ x. x) (d .nodes) (λ before x rest split. rw (map-id before) (node-reads before x rest split)) (diagramBytes d) (rootBytes (d .root)) refl
+      let nodes : scanNodes mode (diagramBytes d) steps 5 ≡ stopped (d .nodes) 0 0
+      = scan-written (nodeGrammar mode steps) 18 bodyOfNode (λ x. x) (d .nodes) (λ before x rest split. rw (map-id before) (node-reads before x rest split mode u)) (diagramBytes d) (rootBytes (d .root)) refl
       ∙ ap (λ (l : List InnerNode). stopped l 0 0) (map-id (d .nodes)) in
       rw (← head, le2-back (d .root), nodes, lt-leb (length (d .nodes) + 2) (d .root) (p .root-inside))

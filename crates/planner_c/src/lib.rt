@@ -5,6 +5,7 @@ ghost use Prim.Native.Nat.{min};
 ghost use lib.ListN.{length};
 ghost use Rattle.definitions.specs.Fields.{refusedField};
 ghost use Rattle.definitions.specs.Answers.{readFiles};
+ghost use Rattle.definitions.specs.Diagrams.{strict};
 ghost use Rattle.definitions.specs.Promises.{sweepSlices, SweepCall, guidedSlices, GuidedCall, conjoinSlices, ConjoinCall};
 ghost use Rattle.space.specs.Space.{spaceNeeded};
 ghost use Rattle.planner.specs.Both.{BothCall};
@@ -21,7 +22,7 @@ use answer_arrays::store_space;
 #[no_mangle]
 pub extern "C" fn planner_space_needed(chart: &[u8], rules: &[u8], space: &mut [usize; 5]) -> u32
     ensures { λ r. ⌜
-        (let needed = spaceNeeded (readFiles (now (chart .entry)) (now (rules .entry))) in
+        (let needed = spaceNeeded (readFiles strict (now (chart .entry)) (now (rules .entry))) in
         (r ≡ needed .number) × (now (space .exit) ≡ spaceNumbers needed))
         ⌝ }
 {

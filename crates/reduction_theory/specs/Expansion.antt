@@ -9,12 +9,12 @@ use lib.Dec.{eqb}
 use borrow.Author.Tests.{eq-eqb, ne-eqb}
 use Rattle.definitions.specs.Basics.{pick}
 use Rattle.definitions.specs.Diagrams.{Diagram, size, inner, verdict}
-use Rattle.definitions.specs.Reductions.{Tree, with, treeOf, diagramOf, reducedOf, conjunction, accepts, Reduced, no-leaf, yes-leaf}
+use Rattle.definitions.specs.Reductions.{Tree, with, treeOf, diagramOf, reducedOf, reduction, conjunction, accepts, Reduced, no-leaf, yes-leaf}
 use Rattle.theory.specs.Basics.{pick-true, pick-false, either, lt-or-le}
 use Rattle.theory.specs.Diagrams.{induction, verdict-leaf, verdict-inner}
 use Rattle.theory.specs.Limits.{Ordered, Sound}
-use Rattle.reduction_theory.specs.Trees.{says, tree, meet, joined, Canon, leaf-canon, leaf-says, mk-canon, mk-says, canonical}
-use Rattle.reduction_theory.specs.Reduction.{accepts-says, of-ordered, of-tree}
+use Rattle.reduction_theory.specs.Trees.{pruned, says, tree, meet, joined, Canon, leaf-canon, leaf-says, mk-canon, mk-says, canonical}
+use Rattle.reduction_theory.specs.Reduction.{accepts-says, of-ordered, of-tree, root-canon}
 use Rattle.reduction_theory.specs.Reduced.{of-reduced}
 use Rattle.reduction_theory.specs.Meets.{meets, meet-canon}
 use Rattle.reduction_theory.specs.Limits.{Steps, Under, under-pick, under-mk, of-steps}
@@ -107,7 +107,7 @@ module _ (n : ℕ) (f : (ℕ → Bool) → Bool) where
   reducedOf-accepts loc s =
       accepts-says (diagramOf expanded) (of-ordered expanded expanded-canon) s ∙ ap (λ (t : Tree). says t s) (of-tree expanded expanded-canon) ∙ expanded-says loc s
 
--- ---- the conjunction
+-- ---- the reduction, and the conjunction
 
 -- a diagram over a chart of n steps hangs on these alone
 module _ (n : ℕ) (d : Diagram) (p : Sound n d) where
@@ -127,6 +127,13 @@ module _ (n : ℕ) (d : Diagram) (p : Sound n d) where
   pub accepts-local : Local (accepts d) n
   unfolding accepts
   accepts-local s r a = ap (λ (x : ℕ). eqb x 1) (verdict-below s r a (d .root) (p .root-inside))
+
+  -- the reduction is the diagram of the diagram's tree
+  pub reduction-pruned : reduction n d ≡ pruned d
+  unfolding reduction reducedOf pruned
+  reduction-pruned =
+      ap diagramOf (canonical (expanded n (accepts d)) 0 (tree d (d .root)) (expanded-canon n (accepts d)) (root-canon d (p .ordered))
+      (λ s. expanded-says n (accepts d) accepts-local s ∙ accepts-says d (p .ordered) s))
 
 module _ (n : ℕ) (d e : Diagram) (p : Sound n d) (q : Sound n e) where
   pub both-local : Local (λ set. accepts d set && accepts e set) n

@@ -3,6 +3,8 @@ pub mod Numbering
 pub mod Growth
 pub mod Reduction
 pub mod Reduced
+pub mod Sizes
+pub mod Advances
 pub mod Meets
 pub mod Limits
 pub mod Expansion

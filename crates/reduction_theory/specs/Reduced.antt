@@ -16,7 +16,7 @@ use Rattle.definitions.specs.Reductions.{member, position, postorder, ref, numb
 use Rattle.theory.specs.Limits.{Ordered}
 use Rattle.theory.specs.Basics.{or-right, pick-true, pick-false, either, lt-or-le, length-map-run, getD-map-run}
 use Rattle.theory.specs.Diagrams.{induction, descend-leaf, descend-inner}
-use Rattle.reduction_theory.specs.Trees.{leafTree, tree, reduction, Canon, clash, alike-same, apart-alike, mk-apart}
+use Rattle.reduction_theory.specs.Trees.{leafTree, tree, pruned, Canon, clash, alike-same, apart-alike, mk-apart}
 use Rattle.reduction_theory.specs.Numbering.{treeAt-inner, branch-inj}
 use Rattle.reduction_theory.specs.Reduction.{leaf-not-branch, ref-leaf, tree-leaf, tree-inner, of-ordered, of-tree, of-rooted, of-unlike, of-forked, of-length, of-number}
 
@@ -204,8 +204,8 @@ module _ (d : Diagram) (o : Ordered d) (u : (m n : ℕ) → 2 ≤ m → m < size
   below-run i (suc c) h = (omega arith, below-run (suc i) c (omega arith))
 
 -- A reduced diagram is the diagram of its own tree
-pub reduced-fixed : (d : Diagram) → Ordered d → Reduced d → reduction d ≡ d
-unfolding reduction diagramOf
+pub reduced-fixed : (d : Diagram) → Ordered d → Reduced d → pruned d ≡ d
+unfolding pruned diagramOf
 reduced-fixed d o r =
     let all : postorder (tree d (d .root)) [] ≡ map (tree d) (run 2 (length (d .nodes)))
     = post-walk d o (r .unlike) (r .forked) (d .root) [] (r .root-inside) tt .1 ∙ ap (map (tree d)) (r .walked) in

@@ -13,7 +13,7 @@ use Rattle.definitions.specs.Reductions.{postorder, ref, numbered, nodesOf, dia
 use Rattle.theory.specs.Limits.{Ordered}
 use Rattle.theory.specs.Basics.{pick-true, pick-false, either, lt-or-le}
 use Rattle.theory.specs.Diagrams.{induction, descend-leaf, descend-inner, verdict-leaf, verdict-inner}
-use Rattle.reduction_theory.specs.Trees.{leafTree, tree, reduction, says, Canon, leaf-canon, leaf-says, mk-canon, mk-apart, mk-says, canonical}
+use Rattle.reduction_theory.specs.Trees.{leafTree, tree, pruned, says, Canon, leaf-canon, leaf-says, mk-canon, mk-apart, mk-says, canonical}
 use Rattle.reduction_theory.specs.Numbering.{held, treeAt, ref-at, treeAt-inner, Good, good-nil, Posted, post-laws}
 
 -- ---- the trees of 0 and 1
@@ -73,9 +73,9 @@ same-trees d e o p a =
     canonical (tree d (d .root)) 0 (tree e (e .root)) (tree-canon d o (d .root) 0 (λ h. omega arith)) (tree-canon e p (e .root) 0 (λ h. omega arith))
     (λ s. sym (accepts-says d o s) ∙ a s ∙ accepts-says e p s)
 
-pub same-reduction : (d e : Diagram) → Ordered d → Ordered e → ((s : ℕ → Bool) → accepts d s ≡ accepts e s) → reduction d ≡ reduction e
-unfolding reduction
-same-reduction d e o p a = ap diagramOf (same-trees d e o p a)
+pub same-pruned : (d e : Diagram) → Ordered d → Ordered e → ((s : ℕ → Bool) → accepts d s ≡ accepts e s) → pruned d ≡ pruned e
+unfolding pruned
+same-pruned d e o p a = ap diagramOf (same-trees d e o p a)
 
 -- the diagram of a good list of nodes
 module _ (acc : List Tree) (g : Good acc) (root : ℕ) where

@@ -43,8 +43,8 @@ meet yes-leaf u = u
 meet (branch v l h) u = meetNode v (branch v l h) (meet l) (meet h) u
 
 -- the diagram of a diagram's reduced tree, and that of the conjunction of two such trees
-unfoldable pub reduction : Diagram → Diagram
-reduction d = diagramOf (tree d (d .root))
+unfoldable pub pruned : Diagram → Diagram
+pruned d = diagramOf (tree d (d .root))
 
 unfoldable pub joined : Diagram → Diagram → Diagram
 joined d e = diagramOf (meet (tree d (d .root)) (tree e (e .root)))

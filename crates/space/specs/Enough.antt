@@ -9,7 +9,7 @@ use native.Mathlib.Omega.{arith}
 use lib.ListN.{length}
 use borrow.Author.Tests.{le-leb}
 use Rattle.definitions.specs.Charts.{Chart, readChart}
-use Rattle.definitions.specs.Diagrams.{Diagram, size, readDiagram}
+use Rattle.definitions.specs.Diagrams.{Diagram, size, strict, readDiagram}
 use Rattle.definitions.specs.Plans.{graph}
 use Rattle.definitions.specs.Answers.{readFiles, load, workNeed, planNeed, spaceFits}
 use Rattle.theory.specs.Limits.{Valid, Sound}
@@ -23,21 +23,21 @@ module _ (s t : List ℕ) where
   C = readChart s .chart
 
   abbrev D : Diagram
-  D = readDiagram t (length (C .steps)) .diagram
+  D = readDiagram strict t (length (C .steps)) .diagram
 
   -- 256 stages × 512 nodes and 255 steps
-  most : readChart s .number ≡ 0 → readDiagram t (length (C .steps)) .number ≡ 0 → spaceFits C D (131072 ∷ []) 255 ≡ true
+  most : readChart s .number ≡ 0 → readDiagram strict t (length (C .steps)) .number ≡ 0 → spaceFits C D (131072 ∷ []) 255 ≡ true
   most c d =
       let v : Valid (graph C) = chart-accepted s c .0 in
-      let w : Sound (length (C .steps)) D = diagram-accepted t (length (C .steps)) d in
+      let w : Sound (length (C .steps)) D = diagram-accepted strict t (length (C .steps)) d in
       let m = mul-le-mul-right (size D) (v .few-stages) in
       simp (le-leb (workNeed C D) 131072 (omega (arith, m, w .few)), le-leb (planNeed C) 255 (omega (arith, v .few-stages)))
 
   -- with the most space, a search's checks are those on the files alone
-  pub load-most : load s t (131072 ∷ []) 255 ≡ readFiles s t
+  pub load-most : load s t (131072 ∷ []) 255 ≡ readFiles strict s t
   load-most =
       either (same-or-not (readChart s .number) 0)
-      (λ c. either (same-or-not (readDiagram t (length (C .steps)) .number) 0)
-      (λ d. all-ready s t (131072 ∷ []) 255 c d (most c d) ∙ sym (files-passed s t c d))
-      (λ d. rules-refuse s t (131072 ∷ []) 255 c d ∙ sym (rules-refused s t c d)))
-      (λ c. chart-refuses s t (131072 ∷ []) 255 c ∙ sym (chart-refused s t c))
+      (λ c. either (same-or-not (readDiagram strict t (length (C .steps)) .number) 0)
+      (λ d. all-ready s t (131072 ∷ []) 255 c d (most c d) ∙ sym (files-passed strict s t c d))
+      (λ d. rules-refuse s t (131072 ∷ []) 255 c d ∙ sym (rules-refused strict s t c d)))
+      (λ c. chart-refuses s t (131072 ∷ []) 255 c ∙ sym (chart-refused strict s t c))

@@ -1,6 +1,7 @@
 // How much space the searches need for two files.
 ghost use mathlib.Core.Path.{_≡_};
 ghost use Rattle.definitions.specs.Answers.{readFiles};
+ghost use Rattle.definitions.specs.Diagrams.{strict};
 ghost use Rattle.space.specs.Space.{spaceNeeded};
 use checks::load;
 
@@ -21,7 +22,7 @@ const MOST_STEPS: usize = 255;
 
 // Checks both files and says how much space the searches need for them.
 pub fn space_needed(chart: &[u8], rules: &[u8]) -> Space
-    ensures { λ r. ⌜ r ≡ spaceNeeded (readFiles (now (chart .entry)) (now (rules .entry))) ⌝ }
+    ensures { λ r. ⌜ r ≡ spaceNeeded (readFiles strict (now (chart .entry)) (now (rules .entry))) ⌝ }
 {
     let mut steps = [[0u32; 1024]; 2];
     let mut inner = [0u32; 512];

@@ -1,5 +1,6 @@
 -- `checks::load` meets its contract: one law for each answer.
 use mathlib.Core.Path.{refl, sym, _∙_, ap}
+use mathlib.Core.Bool.{true}
 use native.Mathlib.Omega.{arith}
 use Rattle.diagram.specs.Accepted.{accepted-filled}
 use Rattle.diagram.specs.declared.reader.DiagramRead.{DiagramRead}
@@ -25,7 +26,11 @@ returns c =
     chart-refused (s .args .chart .now) (s .args .rules .now) (s .args .work) (s .args .plan) _ (x .read-chart .ensures .0) _ _ (n .if1 .taken) (c .refused .ensures)
 
 read-diagram-requires : tie.Need-read-diagram-requires
-read-diagram-requires c κs = search needs
+read-diagram-requires c κs =
+    let p : tie.Else1 = search in
+    let x : tie.After-read-chart = search in
+    let s : tie.Start = search in
+    (few-steps (s .args .chart .now) (s .args .rules .now) (s .args .work) (s .args .plan) _ (x .read-chart .ensures .0) (p .if1 .left), s .pre .of-nodes)
 
 cast-refused-2 : tie.Need-cast-refused-2
 cast-refused-2 c = search needs
@@ -108,7 +113,7 @@ returns-5 c =
     let fc = x .read-chart .ensures .1 (s .pre .of-steps) in
     let few = few-steps (s .args .chart .now) (s .args .rules .now) (s .args .work) (s .args .plan) _ (x .read-chart .ensures .0) (p .if1 .left) in
     let read = y .read-diagram .ensures in
-    let fd = accepted-filled (s .args .rules .now) _ (sym (ap (λ (d : DiagramRead). d .number) (read .answer)) ∙ q .if2 .left) few _ _ (read .table (s .pre .of-nodes)) in
+    let fd = accepted-filled true (s .args .rules .now) _ (sym (ap (λ (d : DiagramRead). d .number) (read .answer)) ∙ q .if2 .left) few _ _ (read .table) in
     loaded (s .args .chart .now) (s .args .rules .now) (s .args .work) (s .args .plan) _ (x .read-chart .ensures .0) (p .if1 .left) _ (y .read-diagram .ensures .answer) (q .if2 .left) _ _ _ fc fd _ refl refl refl refl refl refl _ refl refl refl refl (f .if3 .left) (c .if4 .left)
 
 pub load-spec : {M : Type 1} → statement M

@@ -2,7 +2,7 @@
 use Rattle.diagram_writer.specs.Files.{diagram-short, diagram-whole}
 use Prim.Native.Nat.{ℕ, _+_, _*_}
 use mathlib.Core.Path.{_≡_, ap}
-use Rattle.unique_table.specs.Tables.{countIn}
+use Rattle.unique_table.specs.Tables.{uniqueTable, countIn}
 use borrow.Author.Needs.{needs}
 use Rattle.diagram_writer.proofs.write_diagram.Statement.{statement}
 use Rattle.diagram_writer.proofs.write_diagram.Tie as tie
@@ -30,8 +30,8 @@ returns c =
     let answered : tie.After-file-answer = search in
     let counted : tie.After-count = search in
     let start : tie.Start = search in
-    let is-bytes : 5 + 9 * counted .count .result ≡ 5 + 9 * countIn (start .args .table .now) = ap (λ (n : ℕ). 5 + 9 * n) (counted .count .ensures) in
-    diagram-short (start .args .table .now) _ _ is-bytes _ _ (answered .file-answer .ensures) (c .if1 .taken)
+    let is-bytes : 5 + 9 * counted .count .result ≡ 5 + 9 * countIn (uniqueTable (start .args .nodes .now) (start .args .chains .now)) = ap (λ (n : ℕ). 5 + 9 * n) (counted .count .ensures) in
+    diagram-short (uniqueTable (start .args .nodes .now) (start .args .chains .now)) _ _ is-bytes _ _ (answered .file-answer .ensures) (c .if1 .taken)
 
 write-diagram-head-requires : tie.Need-write-diagram-head-requires
 write-diagram-head-requires c κs = search needs
@@ -50,8 +50,8 @@ returns-2 c =
     let answered : tie.After-file-answer = search in
     let counted : tie.After-count = search in
     let start : tie.Start = search in
-    let is-bytes : 5 + 9 * counted .count .result ≡ 5 + 9 * countIn (start .args .table .now) = ap (λ (n : ℕ). 5 + 9 * n) (counted .count .ensures) in
-    diagram-whole (start .args .table .now) _ _ is-bytes _ _ (answered .file-answer .ensures) (fits .if1 .left) _ _ _ _ (head .write-diagram-head .ensures) (nodes .write-nodes .ensures)
+    let is-bytes : 5 + 9 * counted .count .result ≡ 5 + 9 * countIn (uniqueTable (start .args .nodes .now) (start .args .chains .now)) = ap (λ (n : ℕ). 5 + 9 * n) (counted .count .ensures) in
+    diagram-whole (uniqueTable (start .args .nodes .now) (start .args .chains .now)) _ _ is-bytes _ _ (answered .file-answer .ensures) (fits .if1 .left) _ _ _ _ (head .write-diagram-head .ensures) (nodes .write-nodes .ensures)
 
 pub write-diagram-spec : {M : Type 1} → statement M
 write-diagram-spec =

@@ -11,7 +11,7 @@ use Rattle.definitions.specs.Diagrams.{noNode}
 use Rattle.buffer.specs.Appending.{Appended}
 use Rattle.buffer.specs.Appends.{append-none}
 use Rattle.buffer.specs.Members.{append-next, append-all}
-use Rattle.unique_table.specs.Tables.{countIn, nodesIn}
+use Rattle.unique_table.specs.Tables.{uniqueTable, countIn, nodesIn}
 use borrow.Author.Needs.{needs}
 use Rattle.diagram_writer.proofs.write_nodes.Statement.{statement}
 use Rattle.diagram_writer.proofs.write_nodes.Tie as tie
@@ -24,11 +24,12 @@ use Rattle.field_writer.proofs.write_node.Reads as write-node-reads
 use Rattle.unique_table.proofs.count.Reads as count-reads
 
 abbrev Inv-loop : tie.InvT-loop
-Inv-loop out₀ at table nodes end₀ k₀ out end k =
-    (k ≤ nodes) × (nodes ≡ countIn table) × (end ≡ at + 9 * k) × (length out ≡ length out₀) × Appended out₀ at (each nodeBytes (take k (nodesIn table))) out end
+Inv-loop out₀ at nodes chains all end₀ k₀ out end k =
+    (k ≤ all) × (all ≡ countIn (uniqueTable nodes chains)) × (end ≡ at + 9 * k) × (length out ≡ length out₀)
+    × Appended out₀ at (each nodeBytes (take k (nodesIn (uniqueTable nodes chains)))) out end
 
 abbrev μ-loop : tie.MeasureT-loop
-μ-loop out₀ at table nodes end₀ k₀ out end k = nodes - k
+μ-loop out₀ at nodes chains all end₀ k₀ out end k = all - k
 
 count-requires : tie.Need-count-requires Inv-loop μ-loop
 count-requires c κs = search needs
@@ -75,8 +76,8 @@ loop-again c =
       search needs,
       search needs,
       search needs,
-      append-next nodeBytes _ (head .loop .k) noNode (search needs) (omega (arith, nodes-long (start .args .table .now), head .loop .inv .1)) (head .loop .inv .4)
-          (node-appended _ (head .loop .k) (search needs) _ _ _ (step-taken .step-of .ensures) (lo-taken .lo-of .ensures) (hi-taken .hi-of .ensures) (written .write-node .ensures)),
+      append-next nodeBytes _ (head .loop .k) noNode (search needs) (omega (arith, nodes-long (uniqueTable (start .args .nodes .now) (start .args .chains .now)), head .loop .inv .1)) (head .loop .inv .4)
+          (node-appended (uniqueTable (start .args .nodes .now) (start .args .chains .now)) (head .loop .k) (search needs) _ _ _ (step-taken .step-of .ensures) (lo-taken .lo-of .ensures) (hi-taken .hi-of .ensures) (written .write-node .ensures)),
     )
 
 same-length : tie.Need-same-length Inv-loop μ-loop
@@ -86,7 +87,7 @@ returns : tie.Need-returns Inv-loop μ-loop
 returns c =
     let head : tie.At-loop Inv-loop μ-loop = search in
     let start : tie.Start Inv-loop μ-loop = search in
-    append-all nodeBytes _ (head .loop .k) (omega (arith, nodes-long (start .args .table .now), head .loop .inv .1, head .loop .inv .0)) (head .loop .inv .4)
+    append-all nodeBytes _ (head .loop .k) (omega (arith, nodes-long (uniqueTable (start .args .nodes .now) (start .args .chains .now)), head .loop .inv .1, head .loop .inv .0)) (head .loop .inv .4)
 
 pub write-nodes-spec : {M : Type 1} → statement M
 write-nodes-spec =

@@ -1,4 +1,5 @@
 -- `apply::apply` meets its contract.
+use Rattle.unique_table.specs.Tables.{uniqueTable}
 use Rattle.apply.specs.Walks.{Walking}
 use Rattle.apply.specs.Weights.{weights}
 use Rattle.apply.specs.Whole.{Going, going-start, going-on, going-turn, going-less, first-descending, first-walking, walked-end, walked-full}
@@ -15,11 +16,11 @@ use Rattle.apply.proofs.walk.descend.Reads as descend-reads
 use Rattle.apply.proofs.walk.turn.Reads as turn-reads
 
 abbrev Inv-loop : tie.InvT-loop
-Inv-loop work₀ table₀ left right width first second stack₀ k₀ r₀ work table stack k r =
-    ((y : Walking stack₀ work₀ table₀ left right width k₀ r₀) → Going y stack work table k r) × (length work ≡ length work₀)
+Inv-loop work₀ nodes₀ chains₀ left right width first second stack₀ k₀ r₀ work nodes chains stack k r =
+    ((y : Walking stack₀ work₀ (uniqueTable nodes₀ chains₀) left right width k₀ r₀) → Going y stack work (uniqueTable nodes chains) k r) × (length work ≡ length work₀)
 
 abbrev μ-loop : tie.MeasureT-loop
-μ-loop work₀ table₀ left right width first second stack₀ k₀ r₀ work table stack k r = weights stack k
+μ-loop work₀ nodes₀ chains₀ left right width first second stack₀ k₀ r₀ work nodes chains stack k r = weights stack k
 
 descend-requires : tie.Need-descend-requires Inv-loop μ-loop
 descend-requires c κs =

@@ -1,5 +1,5 @@
 -- `conjoin::load_two` meets its contract.
-use Rattle.conjoin.specs.Loads.{chart-out, rules-out, more-out, space-out, all-pass, first-few, second-few, fits-add, pairs-fit}
+use Rattle.conjoin.specs.Loads.{few-steps, chart-out, rules-out, more-out, space-out, all-pass, first-few, second-few, fits-add, pairs-fit}
 use borrow.Author.Needs.{needs}
 use Rattle.conjoin.proofs.load.load_two.Statement.{statement}
 use Rattle.conjoin.proofs.load.load_two.Tie as tie
@@ -26,7 +26,11 @@ returns c =
     chart-out _ _ _ (start .args .work) _ (checked .check-chart .ensures) _ _ (stopped .if1 .taken) _ (c .refused .ensures)
 
 read-diagram-requires : tie.Need-read-diagram-requires
-read-diagram-requires c κs = search needs
+read-diagram-requires c κs =
+    let chart-passed : tie.Else1 = search in
+    let checked : tie.After-check-chart = search in
+    let start : tie.Start = search in
+    (few-steps (start .args .chart .now) (start .args .rules .now) (start .args .more .now) (start .args .work) _ (checked .check-chart .ensures) (chart-passed .if1 .left), start .pre .0)
 
 cast-refused-2 : tie.Need-cast-refused-2
 cast-refused-2 c = search needs
@@ -41,10 +45,14 @@ returns-2 c =
     let chart-passed : tie.Else1 = search in
     let checked : tie.After-check-chart = search in
     let start : tie.Start = search in
-    rules-out _ _ _ (start .args .work) _ (checked .check-chart .ensures) (chart-passed .if1 .left) _ (start .pre .0) _ _ (first-read .read-diagram .ensures) _ (stopped .if2 .taken) _ (c .refused2 .ensures)
+    rules-out _ _ _ (start .args .work) _ (checked .check-chart .ensures) (chart-passed .if1 .left) _ _ _ (first-read .read-diagram .ensures) _ (stopped .if2 .taken) _ (c .refused2 .ensures)
 
 read-diagram-requires-2 : tie.Need-read-diagram-requires-2
-read-diagram-requires-2 c κs = search needs
+read-diagram-requires-2 c κs =
+    let chart-passed : tie.Else1 = search in
+    let checked : tie.After-check-chart = search in
+    let start : tie.Start = search in
+    (few-steps (start .args .chart .now) (start .args .rules .now) (start .args .more .now) (start .args .work) _ (checked .check-chart .ensures) (chart-passed .if1 .left), start .pre .1)
 
 cast-refused-3 : tie.Need-cast-refused-3
 cast-refused-3 c = search needs
@@ -61,7 +69,7 @@ returns-3 c =
     let chart-passed : tie.Else1 = search in
     let checked : tie.After-check-chart = search in
     let start : tie.Start = search in
-    more-out _ _ _ (start .args .work) _ (checked .check-chart .ensures) (chart-passed .if1 .left) _ (start .pre .0) _ _ (first-read .read-diagram .ensures) (first-passed .if2 .left) _ (start .pre .1) _ _ (second-read .read-diagram2 .ensures) (stopped .if3 .taken) _ (c .refused3 .ensures)
+    more-out _ _ _ (start .args .work) _ (checked .check-chart .ensures) (chart-passed .if1 .left) _ _ _ (first-read .read-diagram .ensures) (first-passed .if2 .left) _ _ _ (second-read .read-diagram2 .ensures) (stopped .if3 .taken) _ (c .refused3 .ensures)
 
 add-width : tie.Need-add-width
 add-width c =
@@ -72,7 +80,7 @@ add-width c =
     let chart-passed : tie.Else1 = search in
     let checked : tie.After-check-chart = search in
     let start : tie.Start = search in
-    fits-add (second-few _ _ _ (start .args .work) _ (checked .check-chart .ensures) (chart-passed .if1 .left) _ (start .pre .0) _ _ (first-read .read-diagram .ensures) (first-passed .if2 .left) _ (start .pre .1) _ _ (second-read .read-diagram2 .ensures) (second-passed .if3 .left))
+    fits-add (second-few _ _ _ (start .args .work) _ (checked .check-chart .ensures) (chart-passed .if1 .left) _ _ _ (first-read .read-diagram .ensures) (first-passed .if2 .left) _ _ _ (second-read .read-diagram2 .ensures) (second-passed .if3 .left))
 
 add-pairs : tie.Need-add-pairs
 add-pairs c =
@@ -83,7 +91,7 @@ add-pairs c =
     let chart-passed : tie.Else1 = search in
     let checked : tie.After-check-chart = search in
     let start : tie.Start = search in
-    fits-add (first-few _ _ _ (start .args .work) _ (checked .check-chart .ensures) (chart-passed .if1 .left) _ (start .pre .0) _ _ (first-read .read-diagram .ensures) (first-passed .if2 .left) _ (start .pre .1) _ _ (second-read .read-diagram2 .ensures) (second-passed .if3 .left))
+    fits-add (first-few _ _ _ (start .args .work) _ (checked .check-chart .ensures) (chart-passed .if1 .left) _ _ _ (first-read .read-diagram .ensures) (first-passed .if2 .left) _ _ _ (second-read .read-diagram2 .ensures) (second-passed .if3 .left))
 
 mul-pairs : tie.Need-mul-pairs
 mul-pairs c =
@@ -94,7 +102,7 @@ mul-pairs c =
     let chart-passed : tie.Else1 = search in
     let checked : tie.After-check-chart = search in
     let start : tie.Start = search in
-    pairs-fit _ _ _ (start .args .work) _ (checked .check-chart .ensures) (chart-passed .if1 .left) _ (start .pre .0) _ _ (first-read .read-diagram .ensures) (first-passed .if2 .left) _ (start .pre .1) _ _ (second-read .read-diagram2 .ensures) (second-passed .if3 .left)
+    pairs-fit _ _ _ (start .args .work) _ (checked .check-chart .ensures) (chart-passed .if1 .left) _ _ _ (first-read .read-diagram .ensures) (first-passed .if2 .left) _ _ _ (second-read .read-diagram2 .ensures) (second-passed .if3 .left)
 
 refused-requires-4 : tie.Need-refused-requires-4
 refused-requires-4 c κs = search needs
@@ -109,7 +117,7 @@ returns-4 c =
     let chart-passed : tie.Else1 = search in
     let checked : tie.After-check-chart = search in
     let start : tie.Start = search in
-    space-out _ _ _ (start .args .work) _ (checked .check-chart .ensures) (chart-passed .if1 .left) _ (start .pre .0) _ _ (first-read .read-diagram .ensures) (first-passed .if2 .left) _ (start .pre .1) _ _ (second-read .read-diagram2 .ensures) (second-passed .if3 .left) (stopped .if4 .taken) _ (c .refused4 .ensures)
+    space-out _ _ _ (start .args .work) _ (checked .check-chart .ensures) (chart-passed .if1 .left) _ _ _ (first-read .read-diagram .ensures) (first-passed .if2 .left) _ _ _ (second-read .read-diagram2 .ensures) (second-passed .if3 .left) (stopped .if4 .taken) _ (c .refused4 .ensures)
 
 returns-5 : tie.Need-returns-5
 returns-5 c =
@@ -120,7 +128,7 @@ returns-5 c =
     let chart-passed : tie.Else1 = search in
     let checked : tie.After-check-chart = search in
     let start : tie.Start = search in
-    all-pass _ _ _ (start .args .work) _ (checked .check-chart .ensures) (chart-passed .if1 .left) _ (start .pre .0) _ _ (first-read .read-diagram .ensures) (first-passed .if2 .left) _ (start .pre .1) _ _ (second-read .read-diagram2 .ensures) (second-passed .if3 .left) (c .if4 .left)
+    all-pass _ _ _ (start .args .work) _ (checked .check-chart .ensures) (chart-passed .if1 .left) _ _ _ (first-read .read-diagram .ensures) (first-passed .if2 .left) _ _ _ (second-read .read-diagram2 .ensures) (second-passed .if3 .left) (c .if4 .left)
 
 pub load-two-spec : {M : Type 1} → statement M
 load-two-spec =
