@@ -342,7 +342,7 @@ impl Corner {
 }
 
 /// Most of the largest ones are what the limits allow.
-pub const CORNERS: [Corner; 149] = [
+pub const CORNERS: [Corner; 151] = [
     Corner::largest("plan cost", 255_000_000, |f| f.plan_cost),
     Corner::largest("plan length", 255, |f| f.plan_length),
     Corner::largest("sum of a reached pair", 765_000_000, |f| f.sum),
@@ -496,7 +496,13 @@ pub const CORNERS: [Corner; 149] = [
     Corner::count("conjunctions with a refused file 2", 500, |f| {
         f.conjunction.refuses(DIAGRAM_FILE).into()
     }),
-    Corner::count("files 2 and 3 at fault", 100, |f| f.conjunction.hidden_fault.into()),
+    Corner::count("files 2 and 3 at fault", 100, |f| f.conjunction.hides(None, None).into()),
+    Corner::count("13 of file 2 before a fault of file 3", 200, |f| {
+        f.conjunction.hides(Some(13), None).into()
+    }),
+    Corner::count("6 of file 2 before 13 of file 3", 25, |f| {
+        f.conjunction.hides(Some(6), Some(13)).into()
+    }),
     Corner::count("conjunctions with remarks in file 3", 300, |f| {
         (f.conjunction.sound && f.conjunction.remarks > 0).into()
     }),
@@ -504,33 +510,35 @@ pub const CORNERS: [Corner; 149] = [
         (f.conjunction.fault.is_some() && f.conjunction.remarks > 0).into()
     }),
     Corner::largest("bytes of file 3", LONGEST_FILE, |f| f.conjunction.bytes),
-    Corner::count("sound files with nodes that differ in the step alone", 1, |f| {
+    Corner::count("sound files with nodes that differ in the step alone", 15_000, |f| {
         f.likeness.but_step.into()
     }),
-    Corner::count("in lo alone", 1, |f| f.likeness.but_lo.into()),
-    Corner::count("in hi alone", 1, |f| f.likeness.but_hi.into()),
-    Corner::count("in exchanged children alone", 1, |f| f.likeness.exchanged.into()),
-    Corner::count("in high bytes alone", 1, |f| f.likeness.low_bytes.into()),
-    Corner::count("sound files with nodes that nothing leads to", 1, |f| f.likeness.stray.into()),
-    Corner::count("sound files in another order than a walk's", 1, |f| {
+    Corner::count("in lo alone", 15_000, |f| f.likeness.but_lo.into()),
+    Corner::count("in hi alone", 15_000, |f| f.likeness.but_hi.into()),
+    Corner::count("in exchanged children alone", 20_000, |f| f.likeness.exchanged.into()),
+    Corner::count("in high bytes alone", 300, |f| f.likeness.low_bytes.into()),
+    Corner::count("sound files with nodes that nothing leads to", 20_000, |f| {
+        f.likeness.stray.into()
+    }),
+    Corner::count("sound files in another order than a walk's", 8_000, |f| {
         f.likeness.disordered.into()
     }),
-    Corner::count("13 for equal children in file 2", 1, |f| {
+    Corner::count("13 for equal children in file 2", 3_000, |f| {
         f.node_is(13, |n| n.file == DIAGRAM_FILE && n.faults.equal).into()
     }),
-    Corner::count("13 for an alike node in file 2", 1, |f| {
+    Corner::count("13 for an alike node in file 2", 2_000, |f| {
         f.node_is(13, |n| n.file == DIAGRAM_FILE && n.faults.twin.is_some()).into()
     }),
-    Corner::count("13 for equal children in file 3", 1, |f| {
+    Corner::count("13 for equal children in file 3", 150, |f| {
         f.node_is(13, |n| n.file == MORE_FILE && n.faults.equal).into()
     }),
-    Corner::count("13 for an alike node in file 3", 1, |f| {
+    Corner::count("13 for an alike node in file 3", 150, |f| {
         f.node_is(13, |n| n.file == MORE_FILE && n.faults.twin.is_some()).into()
     }),
-    Corner::count("13 for a node right behind its double", 1, |f| {
+    Corner::count("13 for a node right behind its double", 1_000, |f| {
         f.node_is(13, |n| n.faults.twin == Some(1)).into()
     }),
-    Corner::count("13 for a node more than 255 behind its double", 1, |f| {
+    Corner::count("13 for a node more than 255 behind its double", 100, |f| {
         f.node_is(13, |n| n.faults.twin > Some(255)).into()
     }),
     Corner::largest("nodes from one to its double", MAX_NODES - 1, |f| {
@@ -540,66 +548,64 @@ pub const CORNERS: [Corner; 149] = [
             0
         }
     }),
-    Corner::count("13 at the 510th node", 1, |f| {
+    Corner::count("13 at the 510th node", 50, |f| {
         f.node_is(13, |n| n.before == MAX_NODES - 1).into()
     }),
-    Corner::count("13 before a later field at fault", 1, |f| {
+    Corner::count("13 before a later field at fault", 600, |f| {
         f.node_is(13, |n| n.hidden.is_some_and(|fault| fault.place > 0)).into()
     }),
-    Corner::count("13 before the root at fault", 1, |f| {
+    Corner::count("13 before the root at fault", 100, |f| {
         f.node_is(13, |n| n.hidden.is_some_and(|fault| fault.place == 0)).into()
     }),
-    Corner::count("13 behind a remark", 1, |f| {
+    Corner::count("13 behind a remark", 300, |f| {
         (f.node_is(13, |_| true) && f.fault_behind_remark).into()
     }),
-    Corner::count("6 for a node with equal children", 1, |f| {
+    Corner::count("6 for a node with equal children", 300, |f| {
         f.node_is(6, |n| n.faults.equal && !n.faults.surplus).into()
     }),
-    Corner::count("6 for the 511th with equal children", 1, |f| {
+    Corner::count("6 for the 511th with equal children", 30, |f| {
         f.node_is(6, |n| n.faults.surplus && n.faults.equal && !n.faults.beyond).into()
     }),
-    Corner::count("6 for the 511th, alike to another", 1, |f| {
+    Corner::count("6 for the 511th, alike to another", 50, |f| {
         f.node_is(6, |n| n.faults.surplus && n.faults.twin.is_some()).into()
     }),
-    Corner::count("a wrong length and padding", 1, |f| {
+    Corner::count("a wrong length and padding", 250, |f| {
         f.node_is(3, |n| n.faults.is_padding()).into()
     }),
-    Corner::count("a cut body and padding", 1, |f| {
-        f.node_is(1, |n| n.faults.is_padding()).into()
-    }),
-    Corner::count("reductions", 1, |f| f.reduced(|r| r.sound)),
-    Corner::count("reductions compared by truth", 1, |f| f.reduced(|r| r.by_truth)),
-    Corner::count("reductions of padded files", 1, |f| f.reduced(Reducing::is_padded)),
-    Corner::count("of files with nodes that nothing leads to", 1, |f| f.reduced(|r| r.stray)),
-    Corner::count("of padded files with remarks", 1, |f| {
+    Corner::count("a cut body and padding", 40, |f| f.node_is(1, |n| n.faults.is_padding()).into()),
+    Corner::count("reductions", 90_000, |f| f.reduced(|r| r.sound)),
+    Corner::count("reductions compared by truth", 80_000, |f| f.reduced(|r| r.by_truth)),
+    Corner::count("reductions of padded files", 5_000, |f| f.reduced(Reducing::is_padded)),
+    Corner::count("of files with nodes that nothing leads to", 30_000, |f| f.reduced(|r| r.stray)),
+    Corner::count("of padded files with remarks", 400, |f| {
         f.reduced(|r| r.is_padded() && r.remarks > 0)
     }),
-    Corner::count("of files that are reduced already", 1, |f| f.reduced(|r| r.unchanged)),
-    Corner::count("reductions to yes", 1, |f| f.reduced(|r| r.constant == Some(true))),
-    Corner::count("reductions to no", 1, |f| f.reduced(|r| r.constant == Some(false))),
+    Corner::count("of files that are reduced already", 50_000, |f| f.reduced(|r| r.unchanged)),
+    Corner::count("reductions to yes", 400, |f| f.reduced(|r| r.constant == Some(true))),
+    Corner::count("reductions to no", 150, |f| f.reduced(|r| r.constant == Some(false))),
     Corner::largest("nodes of a reduction", MAX_NODES, |f| f.reductions[0].nodes),
     Corner::largest("nodes that a reduction leaves out", MAX_NODES, |f| {
         f.reductions[0].before - f.reductions[0].nodes
     }),
     Corner::largest("alike nodes of a reduced file", 254, |f| f.reductions[0].doubles),
     Corner::largest("nodes with equal children of one", MAX_NODES, |f| f.reductions[0].equal),
-    Corner::count("reductions of 510 nodes to 100 and more", 1, |f| {
+    Corner::count("reductions of 510 nodes to 100 and more", 20, |f| {
         f.reduced(|r| r.is_padded() && r.before == MAX_NODES && r.nodes >= 100)
     }),
-    Corner::count("reductions accepted", 1, |f| sum(f, |r| r.accepted)),
-    Corner::count("reductions in just the bytes needed", 1, |f| sum(f, |r| r.exact)),
-    Corner::count("7 for the buffer of a reduction", 1, |f| sum(f, |r| r.short)),
-    Corner::count("7 for one byte of it", 1, |f| sum(f, |r| r.one_byte)),
-    Corner::count("reductions refused with 1", 1, |f| f.reduced(|r| r.refuses(1))),
-    Corner::count("reductions refused with 2", 1, |f| f.reduced(|r| r.refuses(2))),
-    Corner::count("reductions refused with 3", 1, |f| f.reduced(|r| r.refuses(3))),
-    Corner::count("reductions refused with 6", 1, |f| f.reduced(|r| r.refuses(6))),
-    Corner::count("reductions refused with 9", 1, |f| f.reduced(|r| r.refuses(9))),
-    Corner::count("pairs of diagrams that mean the same", 1, |f| f.conjunction.same.into()),
-    Corner::count("pairs of different files that mean the same", 1, |f| {
+    Corner::count("reductions accepted", 180_000, |f| sum(f, |r| r.accepted)),
+    Corner::count("reductions in just the bytes needed", 90_000, |f| sum(f, |r| r.exact)),
+    Corner::count("7 for the buffer of a reduction", 180_000, |f| sum(f, |r| r.short)),
+    Corner::count("7 for one byte of it", 90_000, |f| sum(f, |r| r.one_byte)),
+    Corner::count("reductions refused with 1", 6_000, |f| f.reduced(|r| r.refuses(1))),
+    Corner::count("reductions refused with 2", 12_000, |f| f.reduced(|r| r.refuses(2))),
+    Corner::count("reductions refused with 3", 6_000, |f| f.reduced(|r| r.refuses(3))),
+    Corner::count("reductions refused with 6", 5_000, |f| f.reduced(|r| r.refuses(6))),
+    Corner::count("reductions refused with 9", 600, |f| f.reduced(|r| r.refuses(9))),
+    Corner::count("pairs of diagrams that mean the same", 2_500, |f| f.conjunction.same.into()),
+    Corner::count("pairs of different files that mean the same", 1_500, |f| {
         f.conjunction.same_differs.into()
     }),
-    Corner::count("pairs that do not, with as many nodes", 1, |f| {
+    Corner::count("pairs that do not, with as many nodes", 1_500, |f| {
         f.conjunction.other_as_large.into()
     }),
 ];

@@ -95,14 +95,14 @@ pub fn all() -> impl Iterator<Item = &'static Sabotage> {
     searches().chain(ticks()).chain(readings()).chain(conjunctions()).chain(padding())
 }
 
-/// Wrong readings of padding, and wrong reductions.
+/// Wrong readings of padding in one diagram, and wrong reductions.
 pub fn padding() -> impl Iterator<Item = &'static Sabotage> {
     padding::PADDING.iter().chain(&reductions::REDUCTIONS)
 }
 
-/// Wrong conjunctions.
+/// Wrong conjunctions, and wrong readings of padding in them.
 pub fn conjunctions() -> impl Iterator<Item = &'static Sabotage> {
-    conjunctions::CONJUNCTIONS.iter()
+    conjunctions::CONJUNCTIONS.iter().chain(&padding::OF_CONJUNCTIONS)
 }
 
 /// Results spoiled in one corner, and pairs in wrong places.

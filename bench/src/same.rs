@@ -60,7 +60,8 @@ fn prepare(
 /// Reads both files and tells what they need.
 pub fn space_needed(chart: &[u8], rules: &[u8]) -> Space {
     let mut tables = Tables::new();
-    let read = tables.read_chart(chart).and_then(|()| tables.read_rules(rules, 2, Padding::Refused));
+    let read =
+        tables.read_chart(chart).and_then(|()| tables.read_rules(rules, 2, Padding::Refused));
     match read {
         Err(Answer { number, file, place, .. }) => Space { number, file, place, work: 0, plan: 0 },
         Ok(()) => Space {

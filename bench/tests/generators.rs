@@ -5,18 +5,21 @@ use std::collections::{BTreeMap, BTreeSet, HashSet};
 use planner_bench::cases::{example_problem, Case, Cases};
 use planner_bench::compare::slices::are_exact;
 use planner_bench::files::{
-    read_both, read_chart, read_diagram, write_chart, write_diagram, Problem,
+    read_both, read_chart, read_diagram, read_padded, write_chart, write_diagram, Problem,
 };
 use planner_bench::generate::broken::{at_limits, systematic};
 use planner_bench::generate::charts::{long_steps, random_chart};
-use planner_bench::generate::diagrams::random_diagram;
+use planner_bench::generate::diagrams::{
+    drawn, layers_among, layers_of_width, random_diagram, Padding,
+};
 use planner_bench::generate::load::{load, xorshift};
 use planner_bench::generate::long::near_longest;
 use planner_bench::generate::remarks::{count_before, with_remarks};
 use planner_bench::generate::rules::{diagram_of, AtMost, ExactlyOne, Modulo, Needs, Rule};
 use planner_bench::generate::Random;
-use planner_bench::generate::{long, remarks, rows, steps};
+use planner_bench::generate::{long, nodes, padded, remarks, rows, steps};
 use planner_bench::loads::{self, growth, standard};
+use planner_bench::nodes::NodeAtFault;
 use planner_bench::reference::rules::verdict;
 use planner_bench::reference::{refused_field, Facts};
 use planner_bench::steps::StepAtFault;
@@ -54,9 +57,9 @@ fn the_load_of_order_14() {
 
 /// Whether the diagram of a rule says what the rule says of every set of up to eight steps.
 fn means(rule: &dyn Rule, says: impl Fn(&[bool]) -> bool) {
-    for padded in [false, true] {
-        let diagram = diagram_of(rule, padded).expect("few nodes");
-        assert_eq!(read_diagram(&write_diagram(&diagram), 8), Ok(diagram.clone()));
+    let sound = diagram_of(rule, Padding::Without).expect("few nodes");
+    assert_eq!(read_diagram(&write_diagram(&sound), 8), Ok(sound.clone()));
+    for diagram in [sound, diagram_of(rule, Padding::With).expect("few nodes")] {
         for set in 0..256_u32 {
             let present: Vec<bool> = (0..8).map(|step| set >> step & 1 == 1).collect();
             assert_eq!(verdict(&diagram, &present), says(&present), "{present:?}");
@@ -92,13 +95,14 @@ fn broken_files_have_every_number_in_every_file() {
     files.extend(remarks::at_limits());
     files.extend(long::systematic(&example_problem()));
     files.extend(steps::systematic());
+    files.extend(nodes::systematic());
     let found: BTreeSet<(u32, u32)> = files
         .iter()
         .filter_map(|(chart, rules)| read_both(chart, rules).err())
         .map(|fault| (fault.file, fault.number))
         .collect();
     let of_chart = [1, 2, 3, 4, 5, 9, 10, 11].map(|number| (1, number));
-    let of_rules = [1, 2, 3, 6, 9].map(|number| (2, number));
+    let of_rules = [1, 2, 3, 6, 9, 13].map(|number| (2, number));
     assert_eq!(found, of_chart.into_iter().chain(of_rules).collect());
     assert!(files.iter().any(|(chart, rules)| read_both(chart, rules).is_ok()));
 }
@@ -134,6 +138,78 @@ fn steps_have_every_set_of_faults() {
         assert_eq!(sets.keys().copied().collect::<Vec<u8>>(), (1..16).collect::<Vec<u8>>());
         assert!(sets.values().chain(&of_field).all(|count| *count >= 10), "{sets:?} {of_field:?}");
     }
+}
+
+#[test]
+fn layers_without_padding_are_as_wide_as_they_can_be() {
+    let mut random = Random::new(18);
+    for width in [1, 2, 3, 8, 16, 51, 102, 128] {
+        let steps: Vec<u16> = (0..layers_among(510, width) as u16).collect();
+        let diagram = layers_of_width(&mut random, &steps, width, Padding::Without);
+        assert_eq!(read_diagram(&write_diagram(&diagram), 1_024), Ok(diagram.clone()));
+        let of_step = |step: u16| diagram.nodes.iter().filter(|node| node.step == step).count();
+        // The last layer has two nodes at the most, the one before it twelve.
+        let full = steps.len().saturating_sub(2);
+        assert!(steps[..full].iter().all(|step| of_step(*step) == width), "{width}");
+        assert!(diagram.nodes.len() + width.max(12) >= 510, "{width}: {}", diagram.nodes.len());
+    }
+}
+
+/// Whether a file is refused without padding, and whether with it.
+fn passes(problem: &Problem) -> (bool, bool) {
+    let files = (write_chart(&problem.chart), write_diagram(&problem.diagram));
+    (read_both(&files.0, &files.1).is_ok(), read_padded(&files.0, &files.1).is_ok())
+}
+
+#[test]
+fn padded_diagrams_are_refused_for_padding_alone() {
+    let mut random = Random::new(19);
+    let (mut padded, mut too_many) = (0, 0);
+    for _ in 0..4_000 {
+        let problem = padded::any(&mut random);
+        // With one node more a diagram of 510 has too many.
+        too_many += usize::from(problem.diagram.nodes.len() == 511);
+        let (sound, taken) = passes(&problem);
+        assert!(taken || problem.diagram.nodes.len() == 511, "{problem:?}");
+        padded += usize::from(taken && !sound);
+        let chart = random_chart(&mut random, 8, 14);
+        let diagram = drawn(&mut random, &chart, 12, Padding::With);
+        assert!(passes(&Problem { chart, diagram }).1);
+    }
+    assert!(padded > 2_500 && too_many < 40, "{padded} {too_many}");
+    for problem in padded::systematic(&mut random) {
+        assert!(passes(&problem).1, "{problem:?}");
+    }
+    assert_eq!(padded::named().len(), 5);
+    for (name, problem) in padded::named() {
+        assert_eq!(passes(&problem), (name == "8 needs, reduced already", true), "{name}");
+    }
+}
+
+/// How often a node is refused with 13, and how often with another number though it is padding.
+#[test]
+fn nodes_have_padding_alone_and_with_every_other_fault() {
+    let mut of_padding = [0; 2];
+    let mut besides = BTreeMap::new();
+    for (chart, rules) in nodes::systematic() {
+        let steps = read_chart(&chart).expect("a sound chart").steps.len();
+        let fault = read_both(&chart, &rules).err();
+        let Some(node) = fault.and_then(|fault| NodeAtFault::of(&rules, steps, &fault)) else {
+            continue;
+        };
+        match node.number {
+            13 => of_padding[usize::from(node.faults.equal)] += 1,
+            number if node.faults.is_padding() => {
+                *besides.entry((number, node.faults.surplus)).or_insert(0) += 1;
+            }
+            _ => {}
+        }
+    }
+    assert!(of_padding.iter().all(|count| *count > 300), "{of_padding:?}");
+    let both: Vec<(u32, bool)> =
+        [1, 3, 6].into_iter().flat_map(|number| [(number, false), (number, true)]).collect();
+    assert_eq!(besides.keys().copied().collect::<Vec<_>>(), both);
+    assert!(besides.values().all(|count| *count > 5), "{besides:?}");
 }
 
 /// By stage count and N: the pairs that some problem of rows reaches, as stage and node.

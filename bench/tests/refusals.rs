@@ -166,21 +166,37 @@ fn a_node_beyond_a_limit_is_6() {
     rules_refuse(&edited(&RULES, 21, &[3]), 6, 14);
     rules_refuse(&edited(&RULES, 17, &[1]), 6, 14);
     rules_refuse(&edited(&RULES, 19, &[0, 1]), 6, 14);
-    accepts(&CHART, &edited(&RULES, 19, &[2]));
-    accepts(&CHART, &edited(&RULES, 10, &[1]));
+    accepts(&CHART, &edited(&RULES, 19, &[0]));
+    accepts(&CHART, &edited(&RULES, 10, &[1, 0, 0]));
     refuses(&CHART[..9], &RULES, (6, 2, 5));
+}
+
+/// A chart of 1,024 steps from 0 to 1.
+fn many_steps() -> Vec<u8> {
+    [&CHART[..9], &CHART[9..20].repeat(1_024)].concat()
+}
+
+/// A node that forbids a step.
+fn forbids(step: u16) -> Vec<u8> {
+    let [low, high] = step.to_le_bytes();
+    vec![0x12, 6, 0, low, high, 1, 0, 0, 0]
+}
+
+/// The nodes 2 to 511, which forbid the steps 0 to 509, each followed by some bytes.
+fn nodes_with(more: &[u8]) -> Vec<u8> {
+    (0..510).flat_map(|step| [&forbids(step)[..], more].concat()).collect()
 }
 
 #[test]
 fn the_node_after_510_is_6_unless_its_field_is_at_fault() {
-    let node = &RULES[5..14];
-    let full = [&[0x11, 2, 0, 255, 1], &node.repeat(510)[..]].concat();
-    accepts(&CHART, &full);
+    let (chart, node) = (many_steps(), forbids(510));
+    let full = [&[0x11, 2, 0, 255, 1], &nodes_with(&[])[..]].concat();
+    accepts(&chart, &full);
     let place = 5 + 9 * 510;
-    rules_refuse(&[&full[..], node].concat(), 6, place);
-    rules_refuse(&[&full[..], &node[..8]].concat(), 1, place);
-    rules_refuse(&[&full[..], &[0x12, 5, 0]].concat(), 3, place);
-    rules_refuse(&[&full[..], &[0x11, 2, 0]].concat(), 2, place);
+    refuses(&chart, &[&full[..], &node].concat(), (6, 2, place));
+    refuses(&chart, &[&full[..], &node[..8]].concat(), (1, 2, place));
+    refuses(&chart, &[&full[..], &[0x12, 5, 0]].concat(), (3, 2, place));
+    refuses(&chart, &[&full[..], &[0x11, 2, 0]].concat(), (2, 2, place));
     assert_eq!(place, 4_595);
 }
 
@@ -392,17 +408,18 @@ fn faults_behind_remarks_are_told_at_their_places() {
 
 #[test]
 fn remarks_do_not_count_to_1024_and_510() {
-    let (step, node) = (&CHART[9..20], &RULES[5..14]);
+    let step = &CHART[9..20];
     let remark = [0xaa, 1, 0, 0];
     let yes = [0x11, 2, 0, 1, 0];
     let chart = [&CHART[..9], &[step, &remark].concat().repeat(1_024)].concat();
     accepts(&chart, &yes);
     refuses(&[&chart[..], step].concat(), &yes, (5, 1, 9 + 15 * 1_024));
     refuses(&[&chart[..], &step[..10]].concat(), &yes, (1, 1, 9 + 15 * 1_024));
-    let rules = [&[0x11, 2, 0, 255, 1], &[node, &remark].concat().repeat(510)[..]].concat();
-    accepts(&CHART, &rules);
-    rules_refuse(&[&rules[..], node].concat(), 6, 5 + 13 * 510);
-    rules_refuse(&[&rules[..], &[0x12, 5, 0]].concat(), 3, 5 + 13 * 510);
+    let rules = [&[0x11, 2, 0, 255, 1], &nodes_with(&remark)[..]].concat();
+    accepts(&many_steps(), &rules);
+    let place = 5 + 13 * 510;
+    refuses(&many_steps(), &[&rules[..], &forbids(510)].concat(), (6, 2, place));
+    refuses(&many_steps(), &[&rules[..], &[0x12, 5, 0]].concat(), (3, 2, place));
 }
 
 /// A file with bytes behind it up to a length.

@@ -46,13 +46,7 @@ pub fn reduction(reduced: &Conjoined, before: &[u8], after: &[u8], answer: Answe
 }
 
 /// The answer of a call that is to answer `want`, and its buffer.
-fn call(
-    made: &Conjoined,
-    want: Answer,
-    answer: Answer,
-    before: &[u8],
-    after: &[u8],
-) -> Checked {
+fn call(made: &Conjoined, want: Answer, answer: Answer, before: &[u8], after: &[u8]) -> Checked {
     let found = || format!("{answer:?} and not {want:?}");
     demand(answer.number == want.number, number_rule(want.number), found)?;
     demand((answer.file, answer.place) == (want.file, want.place), AT, found)?;

@@ -29,8 +29,8 @@ pub struct Conjoining {
     pub by_truth: bool,
     pub calls: Calls,
     pub fault: Option<Refusal>,
-    /// A fault of an earlier file hides one of the second diagram.
-    pub hidden_fault: bool,
+    /// The fault of the second diagram that one of the first hides.
+    pub hidden: Option<Refusal>,
     /// Remarks of the second diagram, up to its fault.
     pub remarks: usize,
     /// Bytes of a second diagram that passes.
@@ -137,7 +137,7 @@ impl Conjoining {
         let place = if in_more && fault.number != 9 { fault.place } else { 0 };
         Conjoining {
             fault: Some(*fault),
-            hidden_fault: fault.file == DIAGRAM_FILE && is_faulty(case, more),
+            hidden: fault_of(case, more).filter(|_| fault.file == DIAGRAM_FILE),
             remarks: count_before(more, place),
             ..Conjoining::default()
         }
@@ -153,6 +153,14 @@ impl Conjoining {
         self.fault == Some(Refusal { number: 6, file: MORE_FILE, place: 0 })
     }
 
+    /// Whether faults of the first diagram and of the second have these numbers, where they are given.
+    pub fn hides(&self, number: Option<u32>, hidden: Option<u32>) -> bool {
+        let has = |fault: Option<Refusal>, number: Option<u32>| {
+            fault.is_some_and(|fault| number.is_none_or(|number| fault.number == number))
+        };
+        has(self.fault, number) && has(self.hidden, hidden)
+    }
+
     /// Whether another file is refused.
     pub fn refuses(&self, file: u32) -> bool {
         self.fault.is_some_and(|fault| fault.file == file)
@@ -164,7 +172,8 @@ impl Conjoining {
     }
 }
 
-/// Whether the second diagram would be refused as well.
-fn is_faulty(case: &Case, more: &[u8]) -> bool {
-    read_chart(&case.chart).is_ok_and(|chart| read_diagram(more, chart.steps.len()).is_err())
+/// The fault of the second diagram.
+fn fault_of(case: &Case, more: &[u8]) -> Option<Refusal> {
+    let steps = read_chart(&case.chart).ok()?.steps.len();
+    read_diagram(more, steps).err()
 }

@@ -25,6 +25,9 @@ const FRONT: [Node; 3] = [
     Node { step: 2, lo: 0, hi: 3 },
 ];
 
+/// The reference of a node behind them.
+const OWN: u16 = 5;
+
 /// Diagrams with a last node of any values, the 510th and the 511th too; and such nodes with faults of
 /// their field, of what follows and of the root; and diagrams of up to 510 nodes with a double anywhere.
 pub fn systematic() -> Vec<Files> {
@@ -39,13 +42,15 @@ pub fn systematic() -> Vec<Files> {
         files.extend(ends.map(|end| (chart.clone(), [&front[..], &end].concat())));
     };
     let front = |root: u16| Diagram { root, nodes: FRONT.into() };
-    add(front(1), &all, &|node| vec![node]);
-    add(front(9), &few, &|node| vec![node]);
-    add(front(1), &few, &|node| spoiled_fields(&node, &WRONG_TAGS, &WRONG_LENGTHS));
-    for root in [1, 9] {
+    add(front(OWN), &all, &|node| vec![node]);
+    for root in [1, 3, 9] {
+        add(front(root), &few, &|node| vec![node]);
+    }
+    add(front(OWN), &few, &|node| spoiled_fields(&node, &WRONG_TAGS, &WRONG_LENGTHS));
+    for root in [OWN, 9] {
         add(front(root), &few, &followed);
     }
-    add(front(1), &FRONT, &beside_remarks);
+    add(front(4), &FRONT, &beside_remarks);
     files.extend(near_limit());
     files.extend(far_apart());
     files

@@ -172,7 +172,8 @@ pub fn most_pairs() -> Operands {
     let Diagram { root, nodes } = parity(8, 255, 1);
     let last = |reference: u16| if reference == 0 { 0 } else { reference + 1 };
     let behind = nodes.iter().map(|node| Node { lo: last(node.lo), hi: last(node.hi), ..*node });
-    let second = Diagram { root: last(root), nodes: [WANTS_LAST].into_iter().chain(behind).collect() };
+    let second =
+        Diagram { root: last(root), nodes: [WANTS_LAST].into_iter().chain(behind).collect() };
     over(MAX_STEPS, first, second)
 }
 
@@ -316,8 +317,6 @@ fn near_limit(random: &mut Random) -> Operands {
     let nodes = random.between(500, 520);
     match of_nodes(random, nodes) {
         Some((first, second)) => over(MAX_STEPS, first, second),
-        None => {
-            over(MAX_STEPS, scattered(random, MAX_STEPS, MAX_NODES, Padding::Without), YES)
-        }
+        None => over(MAX_STEPS, scattered(random, MAX_STEPS, MAX_NODES, Padding::Without), YES),
     }
 }

@@ -3,10 +3,12 @@
 
 use super::charts::{parallel, random_chart};
 use super::diagrams::{drawn, layers_of_width, random_diagram, scattered, Padding};
-use super::shapes::{all_of, eight_needs, even, idle, none_of, parity, tree, tree_of_doubles, LAST};
+use super::shapes::{
+    all_of, eight_needs, even, idle, none_of, parity, tree, tree_of_doubles, LAST,
+};
 use super::Random;
 use crate::cases::example_problem;
-use crate::files::{Chart, Diagram, Node, Problem, MAX_NODES, MAX_STEPS};
+use crate::files::{Chart, Diagram, Node, Problem, Step, MAX_NODES, MAX_STEPS};
 
 /// The diagram that says yes where this one says no.
 pub fn complement(diagram: &Diagram) -> Diagram {
@@ -179,8 +181,26 @@ pub fn systematic(random: &mut Random) -> Vec<Problem> {
     let mut all = small();
     all.extend(large(random).into_iter().flat_map(with_other_roots));
     let over = |steps: usize, diagram: Diagram| Problem { chart: parallel(steps), diagram };
-    let constants = [Diagram::NO, Diagram::YES].map(|diagram| over(0, diagram));
-    constants.into_iter().chain(all.into_iter().map(|diagram| over(MAX_STEPS, diagram))).collect()
+    let mut problems = vec![over(0, Diagram::NO), over(0, Diagram::YES)];
+    problems.extend(before_the_start());
+    problems.extend(all.into_iter().map(|diagram| over(MAX_STEPS, diagram)));
+    problems
+}
+
+/// Rules about steps that no way from the start takes; sets with them count as well.
+fn before_the_start() -> Vec<Problem> {
+    let ends = [(0, 1), (0, 2), (1, 2), (1, 2)];
+    let steps = ends.map(|(from, to)| Step { from, to, cost: 5 }).to_vec();
+    let chart = Chart { stages: 3, start: 1, end: 2, steps };
+    let test = |step: u16, hi: u16| Node { step, lo: 1 - hi.min(1), hi };
+    let nodes = [
+        vec![test(0, 1)],
+        vec![test(1, 0)],
+        vec![test(3, 1), test(0, 2)],
+        vec![test(1, 0), test(1, 0), test(0, 3)],
+    ];
+    let over = |nodes: Vec<Node>| Diagram { root: nodes.len() as u16 + 1, nodes };
+    nodes.map(|nodes| Problem { chart: chart.clone(), diagram: over(nodes) }).into()
 }
 
 /// Constants and up to two nodes, with every child and every root.

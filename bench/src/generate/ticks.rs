@@ -202,7 +202,10 @@ pub fn ties() -> Vec<Problem> {
     const FANS: [Size; 3] =
         [Size { stages: 8, nodes: 8 }, Size { stages: 40, nodes: 100 }, Size::FULL];
     let grids = GRIDS.iter().flat_map(|(layers, width)| {
-        SPANS.map(|span| Problem { chart: grid(*layers, *width, |at| span.of(at)), diagram: Diagram::YES })
+        SPANS.map(|span| Problem {
+            chart: grid(*layers, *width, |at| span.of(at)),
+            diagram: Diagram::YES,
+        })
     });
     let fans = FANS.iter().flat_map(|size| {
         let Problem { chart, diagram } = most_reached(&mut Random::new(1), *size);

@@ -215,7 +215,11 @@ pub(super) static CONJUNCTIONS: [Sabotage; 55] = [
 ];
 
 /// Changes an entry, where it is there and that is wanted.
-pub(super) fn change<T: Copy + std::ops::Not<Output = T>>(slice: &mut [T], at: usize, wanted: bool) {
+pub(super) fn change<T: Copy + std::ops::Not<Output = T>>(
+    slice: &mut [T],
+    at: usize,
+    wanted: bool,
+) {
     let entry = slice.get_mut(at).filter(|_| wanted);
     entry.into_iter().for_each(|entry| *entry = !*entry);
 }

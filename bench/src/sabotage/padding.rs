@@ -100,7 +100,7 @@ fn alike(before: &[Node], node: Node, are: impl Fn(&Node, &Node) -> bool) -> boo
     node.lo == node.hi || before.iter().any(|other| are(other, &node))
 }
 
-pub(super) static PADDING: [Sabotage; 54] = [
+pub(super) static PADDING: [Sabotage; 47] = [
     test("13-for-alike-alone", |before, node| before.contains(&node)),
     test("13-for-equal-children-alone", |_, node| node.lo == node.hi),
     test("13-not-for-equal-constants", |before, node| {
@@ -127,7 +127,9 @@ pub(super) static PADDING: [Sabotage; 54] = [
     test("13-by-sum", |before, node| {
         alike(before, node, |a, b| a.step + a.lo + a.hi == b.step + b.lo + b.hi)
     }),
-    test("13-only-right-behind", |before, node| alike(&before[last(before, 1)..], node, PartialEq::eq)),
+    test("13-only-right-behind", |before, node| {
+        alike(&before[last(before, 1)..], node, PartialEq::eq)
+    }),
     test("13-not-right-behind", |before, node| {
         alike(&before[..last(before, 1)], node, PartialEq::eq)
     }),
@@ -171,6 +173,20 @@ pub(super) static PADDING: [Sabotage; 54] = [
     file("13-of-a-remark", remarks_count),
     file("13-as-6", |file| renumbered(file, 6)),
     file("13-as-12", |file| renumbered(file, 12)),
+    taken_in("13-not-in-sweep", Reader::Sweep),
+    taken_in("13-not-in-guided", Reader::Guided),
+    taken_in("13-not-in-both", Reader::Both),
+    taken_in("13-not-in-space-needed", Reader::Space),
+    new("13-at-place-0", Spoil::Answer(|a| a.place *= usize::from(a.number != 13))),
+    new("13-without-file", Spoil::Answer(|a| a.file *= u32::from(a.number != 13))),
+    new("13-with-count", Spoil::Answer(|a| a.count += u32::from(a.number == 13))),
+    new("13-touches-cost", Spoil::Sweep(|a, s| change(&mut s.cost, 0, a.number == 13))),
+    new("13-touches-log", Spoil::Guided(|a, s| change(&mut s.log, 0, a.number == 13))),
+    new("13-with-space", Spoil::Space(|s| s.work += usize::from(s.number == 13))),
+];
+
+/// Those that only a conjunction shows.
+pub(super) static OF_CONJUNCTIONS: [Sabotage; 7] = [
     file("13-not-in-file-3", |file| match file.mark {
         MORE_FILE => file.taken(),
         _ => file.sound(),
@@ -181,19 +197,9 @@ pub(super) static PADDING: [Sabotage; 54] = [
             _ => fault,
         })
     }),
-    taken_in("13-not-in-sweep", Reader::Sweep),
-    taken_in("13-not-in-guided", Reader::Guided),
-    taken_in("13-not-in-both", Reader::Both),
-    taken_in("13-not-in-space-needed", Reader::Space),
     taken_in("13-not-in-conjoin", Reader::Conjoin),
     by("13-of-file-3-before-2", Conjoiner { read: file_3_first, ..CONJOINER }),
     by("13-of-file-2-after-3", Conjoiner { read: file_2_last, ..CONJOINER }),
-    new("13-at-place-0", Spoil::Answer(|a| a.place *= usize::from(a.number != 13))),
-    new("13-without-file", Spoil::Answer(|a| a.file *= u32::from(a.number != 13))),
-    new("13-with-count", Spoil::Answer(|a| a.count += u32::from(a.number == 13))),
-    new("13-touches-cost", Spoil::Sweep(|a, s| change(&mut s.cost, 0, a.number == 13))),
-    new("13-touches-log", Spoil::Guided(|a, s| change(&mut s.log, 0, a.number == 13))),
-    new("13-with-space", Spoil::Space(|s| s.work += usize::from(s.number == 13))),
     after("13-of-file-3-touches-work", |_, a, s| {
         change(&mut s.work, 0, (a.number, a.file) == (13, MORE_FILE));
     }),
@@ -351,11 +357,9 @@ impl Misreading {
     pub(super) fn space_needed(&self, chart: &[u8], rules: &[u8]) -> Option<Space> {
         Some(match self.misread(Reader::Space, chart, rules)? {
             Err(Refusal { number, file, place }) => Space { number, file, place, work: 0, plan: 0 },
-            Ok(problem) => Space {
-                work: problem.pairs(),
-                plan: problem.longest_plan(),
-                ..Space::default()
-            },
+            Ok(problem) => {
+                Space { work: problem.pairs(), plan: problem.longest_plan(), ..Space::default() }
+            }
         })
     }
 

@@ -88,8 +88,10 @@ fn take_step_numbers(chart: &mut Vec<u8>) {
 
 /// A node that is none of the file's, so that it is no padding. There are more than enough of them.
 fn take_node_numbers(rules: &mut Vec<u8>) {
-    let known: HashSet<Vec<u8>> = fields(rules).iter().map(|(a, b)| rules[*a..*b].to_vec()).collect();
-    let all = (0..MAX_STEPS as u16).flat_map(|step| [(0, 1), (1, 0)].map(|(lo, hi)| (step, lo, hi)));
+    let known: HashSet<Vec<u8>> =
+        fields(rules).iter().map(|(a, b)| rules[*a..*b].to_vec()).collect();
+    let all =
+        (0..MAX_STEPS as u16).flat_map(|step| [(0, 1), (1, 0)].map(|(lo, hi)| (step, lo, hi)));
     let all = all.map(|(step, lo, hi)| node_field(Node { step, lo, hi }));
     let mut others = all.filter(|field| !known.contains(field));
     take_numbers(rules, |_| others.next().unwrap_or_default());

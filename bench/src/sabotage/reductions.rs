@@ -140,10 +140,7 @@ fn taken([chart, rules, _]: Three) -> Result<Operands, Refusal> {
 }
 
 /// Padding is refused, or some of it.
-fn only(
-    [chart, rules, _]: Three,
-    is_13: fn(&[Node], Node) -> bool,
-) -> Result<Operands, Refusal> {
+fn only([chart, rules, _]: Three, is_13: fn(&[Node], Node) -> bool) -> Result<Operands, Refusal> {
     read_both_by(chart, rules, is_13).map(operands)
 }
 

@@ -1,6 +1,7 @@
 // The conjunction of two diagram files over one chart, written as a file into a lent buffer.
-mod join;
+mod call;
 mod load;
 
-pub use join::conjoin;
-pub use join::join;
+pub use call::conjoin;
+pub use call::join;
+pub use load::check_chart;

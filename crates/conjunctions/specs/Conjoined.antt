@@ -1,40 +1,23 @@
 -- What a caller concludes from the promise of a call that conjoins two files (`ConjoinCall`), over the files, the lent slices and the answer alone.
 -- Assumes nothing.
 use Prim.Native.Nat.{ℕ, _*_, _≤_, _<_}
-use mathlib.Core.Path.{_≡_, sym, _∙_, ap, ap₂, subst}
-use mathlib.Core.List.{List, _++_}
+use mathlib.Core.Path.{_≡_, _∙_, ap, subst}
+use mathlib.Core.List.{List}
 use native.Mathlib.Omega.{arith}
-use lib.ListN.{length, drop, length-append, length-drop}
-use lib.Seq.{drop-append-seam}
+use lib.ListN.{length, drop}
 use borrow.Author.Tests.{lt-ltb, le-ltb}
 use Rattle.definitions.specs.Charts.{readChart}
 use Rattle.definitions.specs.Diagrams.{Diagram, size}
-use Rattle.definitions.specs.Answers.{LoadTwo, refusedTwo, loadTwo, refusal, accepted, fileAnswer, fileBuffer}
+use Rattle.definitions.specs.Answers.{LoadTwo, refusedTwo, loadTwo, Filed}
 use Rattle.definitions.specs.Bytes.{diagramBytes}
 use Rattle.definitions.specs.Promises.{writtenAnswer, writtenBuffer, ConjoinSlices, ConjoinPromise, ConjoinCall}
 use Rattle.definitions.specs.Reductions.{conjunction}
 use Rattle.definitions.specs.declared.Answer.{Answer}
 use Rattle.theory.specs.Basics.{pick-true, pick-false, either, lt-or-le, same-or-not}
+use Rattle.demands.specs.Demands.{Refusal}
+use Rattle.demands.specs.Results.{refusal-is}
+use Rattle.reductions.specs.Written.{Written, filed-short, filed-written, Ended, stops as refused-by, filed-ended, ended-free, ended-left, ended-long, ended-rest}
 use Rattle.conjunctions.specs.Loads.{rulesRead, chart-refuses-two, rules-refuse-two, more-refuses, pairs-refused, ready-two}
-
--- the answer of a refusal, with its number, file and place
-pub record Refusal (n f p : ℕ) (r : Answer) : Type 0 where
-  pub number : r .number ≡ n
-  pub file : r .file ≡ f
-  pub place : r .place ≡ p
-  pub cost : r .cost ≡ 0
-  pub length : r .length ≡ 0
-  pub count : r .count ≡ 0
-
--- the answer of a call that wrote the file s, and the buffer before and after (out′): s stands at its front
-pub record Written (s out out′ : List ℕ) (r : Answer) : Type 0 where
-  pub buffer : out′ ≡ s ++ drop (length s) out
-  pub number : r .number ≡ 0
-  pub file : r .file ≡ 0
-  pub place : r .place ≡ 0
-  pub cost : r .cost ≡ 0
-  pub length : r .length ≡ length s
-  pub count : r .count ≡ 0
 
 module _ (chart rules more : List ℕ) where
   -- all three files are accepted
@@ -53,13 +36,13 @@ module _ (chart rules more : List ℕ) where
   -- by the slices before and after the call, and its answer
   pub record Conjoined (before after : ConjoinSlices) (r : Answer) : Type 0 where
     -- the answer: the chart before the diagrams, these in turn, all before the work slice, then the count of nodes, and the buffer last
-    pub chart-refused : (readChart chart .number ≡ 0 → ⊥) → Refusal (readChart chart .number) 1 (readChart chart .place) r
-    pub rules-refused : readChart chart .number ≡ 0 → (rulesRead chart rules .number ≡ 0 → ⊥) → Refusal (rulesRead chart rules .number) 2 (rulesRead chart rules .place) r
+    pub chart-refused : (readChart chart .number ≡ 0 → ⊥) → Refusal (readChart chart .number) 1 (readChart chart .place) 0 r
+    pub rules-refused : readChart chart .number ≡ 0 → (rulesRead chart rules .number ≡ 0 → ⊥) → Refusal (rulesRead chart rules .number) 2 (rulesRead chart rules .place) 0 r
     pub more-refused : readChart chart .number ≡ 0 → rulesRead chart rules .number ≡ 0 → (rulesRead chart more .number ≡ 0 → ⊥)
-        → Refusal (rulesRead chart more .number) 3 (rulesRead chart more .place) r
-    pub work-short : Files → length (before .work) < need → Refusal 7 0 0 r
-    pub many-nodes : Files → need ≤ length (before .work) → 510 < length (made .nodes) → Refusal 12 0 0 r
-    pub buffer-short : Files → need ≤ length (before .work) → length (made .nodes) ≤ 510 → length (before .file) < length (diagramBytes made) → Refusal 7 0 0 r
+        → Refusal (rulesRead chart more .number) 3 (rulesRead chart more .place) 0 r
+    pub work-short : Files → length (before .work) < need → Refusal 7 0 0 0 r
+    pub many-nodes : Files → need ≤ length (before .work) → 510 < length (made .nodes) → Refusal 12 0 0 0 r
+    pub buffer-short : Files → need ≤ length (before .work) → length (made .nodes) ≤ 510 → length (before .file) < length (diagramBytes made) → Refusal 7 0 0 0 r
     pub written : Files → need ≤ length (before .work) → length (made .nodes) ≤ 510 → length (diagramBytes made) ≤ length (before .file)
         → Written (diagramBytes made) (before .file) (after .file) r
     pub no-cost : r .cost ≡ 0
@@ -76,16 +59,6 @@ module _ (chart rules more : List ℕ) where
 
 -- ---- how a call ends
 
-refusal-is : (n f p : ℕ) (r : Answer) → r ≡ refusal n f p 0 → Refusal n f p r
-refusal-is n f p r e = record {
-  number = ap (λ (a : Answer). a .number) e;
-  file = ap (λ (a : Answer). a .file) e;
-  place = ap (λ (a : Answer). a .place) e;
-  cost = ap (λ (a : Answer). a .cost) e;
-  length = ap (λ (a : Answer). a .length) e;
-  count = ap (λ (a : Answer). a .count) e;
-}
-
 module _ (chart rules more : List ℕ) (before after : ConjoinSlices) (r : Answer) (promise : ConjoinCall chart rules more before after r) where
   abbrev made′ : Diagram
   made′ = made chart rules more
@@ -96,20 +69,19 @@ module _ (chart rules more : List ℕ) (before after : ConjoinSlices) (r : Answe
   -- refused by a check: both slices stay
   record Stopped (n f p : ℕ) : Type 0 where
     pub numbered : n ≡ 0 → ⊥
-    pub answer : Refusal n f p r
+    pub answer : Refusal n f p 0 r
     pub file : after .file ≡ before .file
     pub work : after .work ≡ before .work
 
   stopped : (n f p : ℕ) → (n ≡ 0 → ⊥) → loadTwo chart rules more (length (before .work)) ≡ refusedTwo n f p → Stopped n f p
   stopped n f p z e =
       let t = subst (λ (o : LoadTwo). ConjoinPromise o before after r) e promise in
-      record { numbered = z; answer = refusal-is n f p r (t .0); file = t .1; work = t .2 }
+      record { numbered = z; answer = refusal-is n f p 0 r (t .0); file = t .1; work = t .2 }
 
-  -- passed: the diagram has too many nodes, or the buffer is too short, or the file is written
+  -- passed: the diagram has too many nodes, or its file is written where the buffer has room
   data Ends : Type 0 where
-    many : 510 < length (made′ .nodes) → Refusal 12 0 0 r → after .file ≡ before .file → Ends
-    short : length (made′ .nodes) ≤ 510 → length (before .file) < length bytes → Refusal 7 0 0 r → after .file ≡ before .file → Ends
-    whole : length (made′ .nodes) ≤ 510 → length bytes ≤ length (before .file) → Written bytes (before .file) (after .file) r → Ends
+    many : 510 < length (made′ .nodes) → Refusal 12 0 0 0 r → after .file ≡ before .file → Ends
+    some-file : length (made′ .nodes) ≤ 510 → Filed bytes (before .file) (after .file) r → Ends
 
   record Passed : Type 0 where
     pub files : Files chart rules more
@@ -119,34 +91,11 @@ module _ (chart rules more : List ℕ) (before after : ConjoinSlices) (r : Answe
     pub rest : drop (need chart rules more) (after .work) ≡ drop (need chart rules more) (before .work)
 
   ends-by : r ≡ writtenAnswer made′ (length (before .file)) → after .file ≡ writtenBuffer made′ (before .file) → Ends
-  unfolding writtenAnswer writtenBuffer fileAnswer fileBuffer
-  ends-by a b = either (lt-or-le 510 (length (made′ .nodes))) too-many (λ few. either (lt-or-le (length (before .file)) (length bytes)) (too-short few) (fits few))
-    where
-      too-many : 510 < length (made′ .nodes) → Ends
-      too-many h =
-          let t = lt-ltb 510 (length (made′ .nodes)) h in
-          many h (refusal-is 12 0 0 r (a ∙ pick-true _ _ _ t)) (b ∙ pick-true _ _ _ t)
-
-      too-short : length (made′ .nodes) ≤ 510 → length (before .file) < length bytes → Ends
-      too-short few h =
-          let t = le-ltb 510 (length (made′ .nodes)) few in
-          let u = lt-ltb (length (before .file)) (length bytes) h in
-          short few h (refusal-is 7 0 0 r (a ∙ pick-false _ _ _ t ∙ pick-true _ _ _ u)) (b ∙ pick-false _ _ _ t ∙ pick-true _ _ _ u)
-
-      fits : length (made′ .nodes) ≤ 510 → length bytes ≤ length (before .file) → Ends
-      fits few h =
-          let t = le-ltb 510 (length (made′ .nodes)) few in
-          let u = le-ltb (length (before .file)) (length bytes) h in
-          let e : r ≡ accepted 0 (length bytes) 0 = a ∙ pick-false _ _ _ t ∙ pick-false _ _ _ u in
-          whole few h (record {
-            number = ap (λ (x : Answer). x .number) e;
-            file = ap (λ (x : Answer). x .file) e;
-            place = ap (λ (x : Answer). x .place) e;
-            cost = ap (λ (x : Answer). x .cost) e;
-            length = ap (λ (x : Answer). x .length) e;
-            count = ap (λ (x : Answer). x .count) e;
-            buffer = b ∙ pick-false _ _ _ t ∙ pick-false _ _ _ u;
-          })
+  unfolding writtenAnswer writtenBuffer
+  ends-by a b =
+      either (lt-or-le 510 (length (made′ .nodes)))
+      (λ h. let t = lt-ltb 510 (length (made′ .nodes)) h in many h (refusal-is 12 0 0 0 r (a ∙ pick-true _ _ _ t)) (b ∙ pick-true _ _ _ t))
+      (λ h. let t = le-ltb 510 (length (made′ .nodes)) h in some-file h (record { answer = a ∙ pick-false _ _ _ t; buffer = b ∙ pick-false _ _ _ t }))
 
   passed : Files chart rules more → need chart rules more ≤ length (before .work) → Passed
   passed f h =
@@ -183,53 +132,23 @@ module _ (chart rules more : List ℕ) (before after : ConjoinSlices) (r : Answe
 
   -- ---- the answer
 
-  many-nodes : Ends → 510 < length (made′ .nodes) → Refusal 12 0 0 r
+  many-nodes : Ends → 510 < length (made′ .nodes) → Refusal 12 0 0 0 r
   many-nodes (many h a b) m = a
-  many-nodes (short h s a b) m = absurd (omega arith)
-  many-nodes (whole h s w) m = absurd (omega arith)
+  many-nodes (some-file h f) m = absurd (omega arith)
 
-  buffer-short : Ends → length (made′ .nodes) ≤ 510 → length (before .file) < length bytes → Refusal 7 0 0 r
-  buffer-short (many h a b) m i = absurd (omega arith)
-  buffer-short (short h s a b) m i = a
-  buffer-short (whole h s w) m i = absurd (omega arith)
-
-  is-written : Ends → length (made′ .nodes) ≤ 510 → length bytes ≤ length (before .file) → Written bytes (before .file) (after .file) r
-  is-written (many h a b) m i = absurd (omega arith)
-  is-written (short h s a b) m i = absurd (omega arith)
-  is-written (whole h s w) m i = w
+  filed : Ends → length (made′ .nodes) ≤ 510 → Filed bytes (before .file) (after .file) r
+  filed (many h a b) m = absurd (omega arith)
+  filed (some-file h f) m = f
 
   -- ---- what holds always: by a refusal, or by a file that was written
 
-  data Over : Type 0 where
-    refused : (n f p : ℕ) → (n ≡ 0 → ⊥) → Refusal n f p r → after .file ≡ before .file → Over
-    filled : length bytes ≤ length (before .file) → Written bytes (before .file) (after .file) r → Over
-
-  over : Result → Over
-  over (stops n f p s) = refused n f p (s .numbered) (s .answer) (s .file)
+  over : Result → Ended bytes (before .file) (after .file) r
+  over (stops n f p s) = refused-by n f p (s .numbered) (s .answer) (s .file)
   over (passes p) = go (p .ends)
     where
-      go : Ends → Over
-      go (many h a b) = refused 12 0 0 (λ z. omega arith) a b
-      go (short h s a b) = refused 7 0 0 (λ z. omega arith) a b
-      go (whole h s w) = filled s w
-
-  no-cost : Over → (r .cost ≡ 0) × (r .count ≡ 0)
-  no-cost (refused n f p z a b) = (a .cost, a .count)
-  no-cost (filled h w) = (w .cost, w .count)
-
-  left : Over → (r .number ≡ 0 → ⊥) → (r .length ≡ 0) × (after .file ≡ before .file)
-  left (refused n f p z a b) h = (a .length, b)
-  left (filled s w) h = absurd (h (w .number))
-
-  file-long : Over → length (after .file) ≡ length (before .file)
-  file-long (refused n f p z a b) = ap length b
-  file-long (filled h w) =
-      omega (arith, ap length (w .buffer), length-append bytes (drop (length bytes) (before .file)), length-drop (length bytes) (before .file))
-
-  file-rest : Over → drop (r .length) (after .file) ≡ drop (r .length) (before .file)
-  file-rest (refused n f p z a b) = ap (drop (r .length)) b
-  file-rest (filled h w) =
-      ap₂ drop (w .length) (w .buffer) ∙ drop-append-seam bytes (drop (length bytes) (before .file)) ∙ ap (λ (k : ℕ). drop k (before .file)) (sym (w .length))
+      go : Ends → Ended bytes (before .file) (after .file) r
+      go (many h a b) = refused-by 12 0 0 (λ z. omega arith) a b
+      go (some-file h f) = filed-ended bytes (before .file) (after .file) r f
 
   work-stays : Result → (Files chart rules more → need chart rules more ≤ length (before .work) → ⊥) → after .work ≡ before .work
   work-stays (stops n f p s) h = s .work
@@ -239,6 +158,9 @@ module _ (chart rules more : List ℕ) (before after : ConjoinSlices) (r : Answe
   work-rest (stops n f p s) = (ap length (s .work), ap (drop (need chart rules more)) (s .work))
   work-rest (passes p) = (p .long, p .rest)
 
+  abbrev end : Ended bytes (before .file) (after .file) r
+  end = over result
+
   pub conjoined : Conjoined chart rules more before after r
   conjoined = record {
     chart-refused = λ h. chart-bad h .answer;
@@ -246,14 +168,14 @@ module _ (chart rules more : List ℕ) (before after : ConjoinSlices) (r : Answe
     more-refused = λ c d h. more-bad c d h .answer;
     work-short = λ f h. space-bad f h .answer;
     many-nodes = λ f h. many-nodes (passed f h .ends);
-    buffer-short = λ f h. buffer-short (passed f h .ends);
-    written = λ f h. is-written (passed f h .ends);
-    no-cost = no-cost (over result) .0;
-    no-count = no-cost (over result) .1;
-    refused-length = λ h. left (over result) h .0;
-    refused-file = λ h. left (over result) h .1;
-    file-long = file-long (over result);
-    file-rest = file-rest (over result);
+    buffer-short = λ f h m i. filed-short bytes (before .file) (after .file) r (filed (passed f h .ends) m) i .0;
+    written = λ f h m i. filed-written bytes (before .file) (after .file) r (filed (passed f h .ends) m) i;
+    no-cost = ended-free bytes (before .file) (after .file) r end .0;
+    no-count = ended-free bytes (before .file) (after .file) r end .1;
+    refused-length = λ h. ended-left bytes (before .file) (after .file) r end h .0;
+    refused-file = λ h. ended-left bytes (before .file) (after .file) r end h .1;
+    file-long = ended-long bytes (before .file) (after .file) r end;
+    file-rest = ended-rest bytes (before .file) (after .file) r end;
     work-stays = work-stays result;
     work-long = work-rest result .0;
     work-rest = work-rest result .1;

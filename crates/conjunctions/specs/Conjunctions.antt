@@ -1,58 +1,26 @@
 -- The conjunction of two diagrams over one chart, for a reader: it is reduced, it says yes exactly where both do, no other reduced diagram does, its file is read
 -- back, and the plans that it allows are those that both allow. The diagrams are any within the limits of the file (`Sound`), as every accepted file's is.
 -- Assumes nothing.
-use Prim.Native.Nat.{ℕ, zero, suc, _+_, _≤_, _<_}
-use mathlib.Core.Path.{_≡_, refl, sym, _∙_, ap, ap₂}
+use Prim.Native.Nat.{ℕ, _≤_, _<_}
+use mathlib.Core.Path.{_≡_, refl, sym, _∙_, ap₂}
 use mathlib.Core.Bool.{Bool, _&&_}
-use mathlib.Core.List.{List, [], _∷_, _++_, map}
-use native.Mathlib.Omega.{arith}
-use lib.Seq.{getD-append-seam}
-use lib.ListN.{length, getD, length-append}
-use Rattle.definitions.specs.Basics.{run, has}
+use mathlib.Core.List.{List, map}
+use lib.ListN.{length}
+use Rattle.definitions.specs.Basics.{has}
 use Rattle.definitions.specs.Charts.{Chart}
-use Rattle.definitions.specs.Diagrams.{Diagram, size, inner, readDiagram}
+use Rattle.definitions.specs.Diagrams.{Diagram, size, readDiagram}
 use Rattle.definitions.specs.Ways.{wayCost}
 use Rattle.definitions.specs.Plans.{graph, variable, saysYes, Legal, cheapest}
 use Rattle.definitions.specs.Bytes.{diagramBytes}
-use Rattle.definitions.specs.Reductions.{accepts, walk, Reduced, Arrives, conjunction}
-use Rattle.theory.specs.Basics.{pick-false, both}
+use Rattle.definitions.specs.Reductions.{accepts, Reduced, Arrives, conjunction}
+use Rattle.theory.specs.Basics.{both}
 use Rattle.theory.specs.Least.{IsLeast, least-same}
 use Rattle.theory.specs.Limits.{Ordered, Sound, Valid}
 use Rattle.theory.specs.Plans.{LegalCost, cheapest-least}
-use Rattle.field_writer.specs.RoundTrip.{diagram-read-back}
-use Rattle.reduction_theory.specs.Reduction.{same-pruned}
-use Rattle.reduction_theory.specs.Reduced.{walk-leaf, walk-inner, reduced-fixed, reduced-arrives}
+use Rattle.reduction_theory.specs.Reduced.{reduced-arrives}
 use Rattle.reduction_theory.specs.Expansion.{reducedOf-ordered, reducedOf-reduced, reducedOf-steps, reducedOf-accepts, both-local}
-
--- ---- reduced diagrams
-
--- Two reduced diagrams that say yes to the same sets are equal
-pub reduced-same : (d e : Diagram) → Ordered d → Ordered e → Reduced d → Reduced e → ((s : ℕ → Bool) → accepts d s ≡ accepts e s) → d ≡ e
-reduced-same d e o p r q a = sym (reduced-fixed d o r) ∙ same-pruned d e o p a ∙ reduced-fixed e p q
-
-length-run : (i n : ℕ) → length (run i n) ≡ n
-length-run i zero = refl
-length-run i (suc n) = ap suc (length-run (suc i) n)
-
-getD-run : (i n j : ℕ) → j < n → getD (run i n) j 0 ≡ i + j
-getD-run i zero j h = absurd (omega arith)
-getD-run i (suc n) zero h = omega arith
-getD-run i (suc n) (suc j) h = getD-run (suc i) n j (omega arith) ∙ omega arith
-
-module _ (d : Diagram) (o : Ordered d) (r : Reduced d) where
-  -- with the root 0 or 1 there are no inner nodes
-  pub root-alone : d .root < 2 → length (d .nodes) ≡ 0
-  root-alone h = sym (length-run 2 (length (d .nodes))) ∙ ap length (sym (r .walked) ∙ walk-leaf d o (d .root) [] h)
-
-  -- an inner root is the last node
-  pub root-last : 2 ≤ d .root → d .root + 1 ≡ size d
-  root-last h =
-      let before = walk d (inner d (d .root) .hi) (walk d (inner d (d .root) .lo) []) in
-      let ends : run 2 (length (d .nodes)) ≡ before ++ d .root ∷ [] = sym (r .walked) ∙ walk-inner d o (d .root) [] h ∙ pick-false _ _ _ refl in
-      let long : length (d .nodes) ≡ length before + 1 = sym (length-run 2 (length (d .nodes))) ∙ ap length ends ∙ length-append before (d .root ∷ []) in
-      let last : 2 + length before ≡ d .root =
-      sym (getD-run 2 (length (d .nodes)) (length before) (omega arith)) ∙ ap (λ (l : List ℕ). getD l (length before) 0) ends ∙ getD-append-seam before (d .root) [] 0 in
-      omega arith
+use Rattle.reductions.specs.Reduced.{reduced-same, reduced-read}
+use Rattle.reductions.specs.Reductions.{says-accepts}
 
 -- ---- the conjunction as a diagram
 
@@ -78,10 +46,10 @@ module _ (n : ℕ) (d e : Diagram) where
     root-inside = conjunction-reduced .root-inside;
   }
 
-  -- and its file is accepted over the same chart, and gives it back
-  pub conjunction-read : length (conjunction n d e .nodes) ≤ 510
-      → readDiagram (diagramBytes (conjunction n d e)) n ≡ record { number = 0; place = 0; diagram = conjunction n d e }
-  conjunction-read few = diagram-read-back n (conjunction n d e) (conjunction-sound few)
+  -- and its file is accepted over the same chart, strictly too, and gives it back
+  pub conjunction-read : length (conjunction n d e .nodes) ≤ 510 → (mode : Bool)
+      → readDiagram mode (diagramBytes (conjunction n d e)) n ≡ record { number = 0; place = 0; diagram = conjunction n d e }
+  conjunction-read few = reduced-read n (conjunction n d e) (conjunction-sound few) conjunction-reduced
 
   module _ (p : Sound n d) (q : Sound n e) where
     -- it says yes exactly where both do
@@ -100,10 +68,6 @@ conjunction-same n d e d′ e′ p q p′ q′ a =
     conjunction-unique n d′ e′ p′ q′ (conjunction n d e) (conjunction-ordered n d e) (conjunction-reduced n d e) (λ s. conjunction-accepts n d e p q s ∙ a s)
 
 -- ---- plans
-
-says-accepts : (c : Chart) (d : Diagram) (w : List ℕ) → saysYes c d w ≡ accepts d (has (map (variable c) w))
-unfolding saysYes accepts
-says-accepts c d w = refl
 
 module _ (c : Chart) (d e : Diagram) where
   -- a plan that both allow, and one of cost k

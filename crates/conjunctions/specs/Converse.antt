@@ -9,22 +9,15 @@ use native.Mathlib.Omega.{arith}
 use lib.ListN.{length}
 use borrow.Author.Tests.{lt-ltb, le-ltb}
 use Rattle.definitions.specs.Charts.{readChart}
-use Rattle.definitions.specs.Answers.{LoadTwo, readyTwo, refusedTwo, loadTwo, refusal, accepted, fileAnswer, fileBuffer}
+use Rattle.definitions.specs.Answers.{LoadTwo, readyTwo, refusedTwo, loadTwo}
 use Rattle.definitions.specs.Bytes.{diagramBytes}
 use Rattle.definitions.specs.Promises.{writtenAnswer, writtenBuffer, ConjoinSlices, ConjoinPromise, ConjoinCall}
 use Rattle.definitions.specs.declared.Answer.{Answer}
 use Rattle.theory.specs.Basics.{pick-true, pick-false, either, lt-or-le, same-or-not}
+use Rattle.demands.specs.Demands.{Refusal}
+use Rattle.reductions.specs.Written.{is-refusal, filed-by}
 use Rattle.conjunctions.specs.Loads.{rulesRead, chart-refuses-two, rules-refuse-two, more-refuses, pairs-refused, ready-two}
-use Rattle.conjunctions.specs.Conjoined.{Refusal, Written, Files, need, made, Conjoined, conjoined}
-
--- an answer is fixed by its parts
-is-refusal : (n f p : ℕ) (r : Answer) → Refusal n f p r → r ≡ refusal n f p 0
-is-refusal n f p r t =
-    λ i. record { number = t .number i; file = t .file i; place = t .place i; cost = t .cost i; length = t .length i; count = t .count i }
-
-is-accepted : (s out out′ : List ℕ) (r : Answer) → Written s out out′ r → r ≡ accepted 0 (length s) 0
-is-accepted s out out′ r t =
-    λ i. record { number = t .number i; file = t .file i; place = t .place i; cost = t .cost i; length = t .length i; count = t .count i }
+use Rattle.conjunctions.specs.Conjoined.{Files, need, made, Conjoined, conjoined}
 
 module _ (chart rules more : List ℕ) (before after : ConjoinSlices) (r : Answer) (t : Conjoined chart rules more before after r) where
   abbrev bytes : List ℕ
@@ -37,26 +30,23 @@ module _ (chart rules more : List ℕ) (before after : ConjoinSlices) (r : Answe
   by o e = subst (λ (x : LoadTwo). ConjoinPromise x before after r) (sym e)
 
   -- the buffer under a refusal
-  kept : (n f p : ℕ) → (n ≡ 0 → ⊥) → Refusal n f p r → after .file ≡ before .file
+  kept : (n f p : ℕ) → (n ≡ 0 → ⊥) → Refusal n f p 0 r → after .file ≡ before .file
   kept n f p z a = t .refused-file (λ q. z (sym (a .number) ∙ q))
 
-  stops : (n f p : ℕ) → (n ≡ 0 → ⊥) → Refusal n f p r → (Files chart rules more → need chart rules more ≤ length (before .work) → ⊥)
+  stops : (n f p : ℕ) → (n ≡ 0 → ⊥) → Refusal n f p 0 r → (Files chart rules more → need chart rules more ≤ length (before .work) → ⊥)
       → loadTwo chart rules more (length (before .work)) ≡ refusedTwo n f p → ConjoinCall chart rules more before after r
   stops n f p z a h e = by (refusedTwo n f p) e (is-refusal n f p r a, kept n f p z a, t .work-stays h)
 
   module _ (f : Files chart rules more) (h : need chart rules more ≤ length (before .work)) where
     ends : (r ≡ writtenAnswer (made chart rules more) (length (before .file))) × (after .file ≡ writtenBuffer (made chart rules more) (before .file))
-    unfolding writtenAnswer writtenBuffer fileAnswer fileBuffer
+    unfolding writtenAnswer writtenBuffer
     ends =
         either (lt-or-le 510 nodes)
         (λ i. let a = t .many-nodes f h i in let x = lt-ltb 510 nodes i in
         (is-refusal 12 0 0 r a ∙ sym (pick-true _ _ _ x), kept 12 0 0 (λ z. omega arith) a ∙ sym (pick-true _ _ _ x)))
         (λ i. let x = le-ltb 510 nodes i in
-        either (lt-or-le (length (before .file)) (length bytes))
-        (λ j. let a = t .buffer-short f h i j in let y = lt-ltb (length (before .file)) (length bytes) j in
-        (is-refusal 7 0 0 r a ∙ sym (pick-false _ _ _ x ∙ pick-true _ _ _ y), kept 7 0 0 (λ z. omega arith) a ∙ sym (pick-false _ _ _ x ∙ pick-true _ _ _ y)))
-        (λ j. let w = t .written f h i j in let y = le-ltb (length (before .file)) (length bytes) j in
-        (is-accepted bytes (before .file) (after .file) r w ∙ sym (pick-false _ _ _ x ∙ pick-false _ _ _ y), w .buffer ∙ sym (pick-false _ _ _ x ∙ pick-false _ _ _ y))))
+        let filed = filed-by bytes (before .file) (after .file) r (λ j. let a = t .buffer-short f h i j in (a, kept 7 0 0 (λ z. omega arith) a)) (t .written f h i) in
+        (filed .answer ∙ sym (pick-false _ _ _ x), filed .buffer ∙ sym (pick-false _ _ _ x)))
 
     passes : ConjoinCall chart rules more before after r
     passes =

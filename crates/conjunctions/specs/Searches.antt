@@ -2,16 +2,15 @@
 -- cheapest plan among those that both diagrams allow.
 -- Assumes nothing.
 use Prim.Native.Nat.{ℕ, _≤_}
-use mathlib.Core.Path.{_≡_, refl, sym, _∙_, ap, ap₂, subst}
+use mathlib.Core.Path.{_≡_, refl, sym, _∙_, ap, subst}
 use mathlib.Core.Bool.{Bool, true, false}
 use mathlib.Core.List.{List}
 use mathlib.Core.Logic.{_⊎_, inl, inr}
 use mathlib.Core.Option.{Option, none, some}
 use native.Mathlib.Omega.{arith}
-use lib.ListN.{length, take, drop}
-use lib.Seq.{take-append-seam}
+use lib.ListN.{length, take}
 use Rattle.definitions.specs.Charts.{Chart, readChart}
-use Rattle.definitions.specs.Diagrams.{Diagram, DiagramRead}
+use Rattle.definitions.specs.Diagrams.{Diagram, strict, DiagramRead}
 use Rattle.definitions.specs.Ways.{wayCost}
 use Rattle.definitions.specs.Plans.{graph, Legal, cheapest}
 use Rattle.definitions.specs.Answers.{Load, ready, refused, readFiles, withSpace, load, spaceFits, refusal}
@@ -24,9 +23,10 @@ use Rattle.theory.specs.Limits.{Sound, Valid}
 use Rattle.chart.specs.Accepted.{chart-accepted}
 use Rattle.diagram.specs.Accepted.{diagram-accepted}
 use Rattle.checks.specs.Outcome.{files-passed}
+use Rattle.reductions.specs.Written.{Written, written-is as taken-is}
 use Rattle.conjunctions.specs.Conjunctions.{AllowedCost, joint, conjunction-legal, conjunction-cheapest, conjunction-read}
 use Rattle.conjunctions.specs.Loads.{rulesRead}
-use Rattle.conjunctions.specs.Conjoined.{Written, Files, need, made, Conjoined, conjoined}
+use Rattle.conjunctions.specs.Conjoined.{Files, need, made, Conjoined, conjoined}
 
 -- ---- a search under the conjunction of two diagrams
 
@@ -113,17 +113,15 @@ module _ (chart rules more : List ℕ) (before after : ConjoinSlices) (r : Answe
 
   -- it is the file of the conjunction
   pub written-is : writtenFile ≡ diagramBytes (made chart rules more)
-  written-is =
-      let w = facts .written in
-      ap₂ take (w .length) (w .buffer) ∙ take-append-seam (diagramBytes (made chart rules more)) (drop (length (diagramBytes (made chart rules more))) (before .file))
+  written-is = taken-is (diagramBytes (made chart rules more)) (before .file) (after .file) r (facts .written)
 
   written-read : rulesRead chart writtenFile ≡ record { number = 0; place = 0; diagram = made chart rules more }
-  written-read = ap (rulesRead chart) written-is ∙ conjunction-read (length (c .steps)) d e (facts .few)
+  written-read = ap (rulesRead chart) written-is ∙ conjunction-read (length (c .steps)) d e (facts .few) strict
 
   -- the checks of every search accept it, with the same chart
-  pub written-ready : readFiles chart writtenFile ≡ ready c (made chart rules more)
+  pub written-ready : readFiles strict chart writtenFile ≡ ready c (made chart rules more)
   written-ready =
-      files-passed chart writtenFile (facts .files .chart-passes) (ap (λ (x : DiagramRead). x .number) written-read)
+      files-passed strict chart writtenFile (facts .files .chart-passes) (ap (λ (x : DiagramRead). x .number) written-read)
       ∙ ap (λ (x : DiagramRead). ready c (x .diagram)) written-read
 
   loaded : (works : List ℕ) (plan : ℕ) → (load chart writtenFile works plan ≡ ready c (made chart rules more)) ⊎ (load chart writtenFile works plan ≡ refused 7 0 0)
@@ -131,15 +129,15 @@ module _ (chart rules more : List ℕ) (before after : ConjoinSlices) (r : Answe
   loaded works plan = go (spaceFits c (made chart rules more) works plan) refl
     where
       go : (b : Bool) → spaceFits c (made chart rules more) works plan ≡ b
-          → (withSpace works plan (readFiles chart writtenFile) ≡ ready c (made chart rules more)) ⊎ (withSpace works plan (readFiles chart writtenFile) ≡ refused 7 0 0)
+          → (withSpace works plan (readFiles strict chart writtenFile) ≡ ready c (made chart rules more)) ⊎ (withSpace works plan (readFiles strict chart writtenFile) ≡ refused 7 0 0)
       go true h = inl (ap (withSpace works plan) written-ready ∙ pick-true _ _ _ h)
       go false h = inr (ap (withSpace works plan) written-ready ∙ pick-false _ _ _ h)
 
   sound-rules : Sound (length (c .steps)) d
-  sound-rules = diagram-accepted rules (length (c .steps)) (facts .files .rules-pass)
+  sound-rules = diagram-accepted strict rules (length (c .steps)) (facts .files .rules-pass)
 
   sound-more : Sound (length (c .steps)) e
-  sound-more = diagram-accepted more (length (c .steps)) (facts .files .more-passes)
+  sound-more = diagram-accepted strict more (length (c .steps)) (facts .files .more-passes)
 
   valid : Valid (graph c)
   valid = chart-accepted chart (facts .files .chart-passes) .0

@@ -6,7 +6,7 @@ ghost use lib.ListN.{length};
 ghost use Rattle.definitions.specs.Fields.{refusedField};
 ghost use Rattle.definitions.specs.Answers.{readFiles};
 ghost use Rattle.definitions.specs.Diagrams.{strict};
-ghost use Rattle.definitions.specs.Promises.{sweepSlices, SweepCall, guidedSlices, GuidedCall, conjoinSlices, ConjoinCall};
+ghost use Rattle.definitions.specs.Promises.{sweepSlices, SweepCall, guidedSlices, GuidedCall, conjoinSlices, ConjoinCall, ReduceCall};
 ghost use Rattle.space.specs.Space.{spaceNeeded};
 ghost use Rattle.planner.specs.Both.{BothCall};
 ghost use Rattle.buffer.specs.Appending.{Appended};
@@ -147,6 +147,17 @@ pub extern "C" fn planner_conjoin(
 {
     let joined = conjoin::conjoin(chart, rules, more, work, file);
     store(joined, answer)
+}
+
+// The reduction of a diagram over a chart, written as a diagram file to the front of `file`. Padding in `rules` is taken.
+#[no_mangle]
+pub extern "C" fn planner_reduce(chart: &[u8], rules: &[u8], file: &mut [u8], answer: &mut [usize; 6]) -> u32
+    ensures { λ r. ⌜
+        Given (ReduceCall (now (chart .entry)) (now (rules .entry)) (now (file .entry)) (now (file .exit))) (now (answer .exit)) r
+        ⌝ }
+{
+    let reduced = reduce::reduce(chart, rules, file);
+    store(reduced, answer)
 }
 
 // The bytes of the field at a place of the chart (file 1) or of the diagram (file 2), copied to the front of `field` as

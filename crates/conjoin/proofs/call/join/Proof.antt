@@ -1,10 +1,10 @@
 -- `conjoin::join` meets its contract.
 use Rattle.conjoin.specs.Joins.{pairs-inside, walk-ready, walk-entries, joins-full, joins-made}
 use borrow.Author.Needs.{needs}
-use Rattle.conjoin.proofs.join.join.Statement.{statement}
-use Rattle.conjoin.proofs.join.join.Tie as tie
-use Rattle.conjoin.proofs.join.join.Reads as reads
-use Rattle.conjoin.proofs.join.join.Lts as lts
+use Rattle.conjoin.proofs.call.join.Statement.{statement}
+use Rattle.conjoin.proofs.call.join.Tie as tie
+use Rattle.conjoin.proofs.call.join.Reads as reads
+use Rattle.conjoin.proofs.call.join.Lts as lts
 use Rattle.apply.proofs.apply.Reads as apply-reads
 use Rattle.checks.proofs.refusal.Reads as refusal-reads
 use Rattle.diagram_writer.proofs.write_diagram.Reads as write-diagram-reads

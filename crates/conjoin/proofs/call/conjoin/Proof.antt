@@ -1,12 +1,12 @@
 -- `conjoin::conjoin` meets its contract.
 use Rattle.conjoin.specs.Joins.{call-refused, call-asks, call-joined}
 use borrow.Author.Needs.{needs}
-use Rattle.conjoin.proofs.join.conjoin.Statement.{statement}
-use Rattle.conjoin.proofs.join.conjoin.Tie as tie
-use Rattle.conjoin.proofs.join.conjoin.Reads as reads
-use Rattle.conjoin.proofs.join.conjoin.Lts as lts
+use Rattle.conjoin.proofs.call.conjoin.Statement.{statement}
+use Rattle.conjoin.proofs.call.conjoin.Tie as tie
+use Rattle.conjoin.proofs.call.conjoin.Reads as reads
+use Rattle.conjoin.proofs.call.conjoin.Lts as lts
 use Rattle.checks.proofs.refusal.Reads as refusal-reads
-use Rattle.conjoin.proofs.join.join.Reads as join-reads
+use Rattle.conjoin.proofs.call.join.Reads as join-reads
 use Rattle.conjoin.proofs.load.load_two.Reads as load-two-reads
 
 -- the place before a place
