@@ -342,7 +342,7 @@ impl Corner {
 }
 
 /// Most of the largest ones are what the limits allow.
-pub const CORNERS: [Corner; 151] = [
+pub const CORNERS: [Corner; 152] = [
     Corner::largest("plan cost", 255_000_000, |f| f.plan_cost),
     Corner::largest("plan length", 255, |f| f.plan_length),
     Corner::largest("sum of a reached pair", 765_000_000, |f| f.sum),
@@ -355,6 +355,7 @@ pub const CORNERS: [Corner; 151] = [
     Corner::largest("nodes in a row", MAX_NODES, |f| f.chain),
     Corner::largest("stages", MAX_STAGES as usize, |f| f.stages),
     Corner::largest("nodes", MAX_NODES, |f| f.nodes),
+    Corner::largest("nodes of a reduction", MAX_NODES, |f| f.reductions[0].nodes),
     Corner::largest("place in a refused chart", LONGEST_FILE - 1, |f| f.refused_chart.1),
     Corner::largest("place in a refused diagram", LONGEST_FILE - 1, |f| f.refused_rules.1),
     Corner::count("refused charts above 1,000 bytes", 1_000, |f| {
@@ -583,7 +584,13 @@ pub const CORNERS: [Corner; 151] = [
     Corner::count("of files that are reduced already", 50_000, |f| f.reduced(|r| r.unchanged)),
     Corner::count("reductions to yes", 400, |f| f.reduced(|r| r.constant == Some(true))),
     Corner::count("reductions to no", 150, |f| f.reduced(|r| r.constant == Some(false))),
-    Corner::largest("nodes of a reduction", MAX_NODES, |f| f.reductions[0].nodes),
+    Corner::largest("nodes of a padded file's reduction", MAX_NODES - 1, |f| {
+        if f.reductions[0].is_padded() {
+            f.reductions[0].nodes
+        } else {
+            0
+        }
+    }),
     Corner::largest("nodes that a reduction leaves out", MAX_NODES, |f| {
         f.reductions[0].before - f.reductions[0].nodes
     }),

@@ -52,6 +52,8 @@ pub enum Group {
 
 /// The word of every generated chart.
 const WORD: u32 = 2_017;
+/// The seed of random layers.
+const LAYERS: u64 = 6;
 
 /// Every load but those of the growth.
 pub fn standard() -> Vec<Load> {
@@ -143,7 +145,7 @@ fn small() -> Vec<Load> {
         let chart = shape.chart(&mut random);
         let steps = cheapest_steps(&chart, 8);
         let at_most = must_fit(&AtMost { most: 2, steps: steps.clone() });
-        let layers = layers_of_width(&mut random, &steps, 3, Padding::Without);
+        let layers = layers_of_width(&mut Random::new(LAYERS), &steps, 3, Padding::Without);
         loads.push(Load::new(
             format!("small {stages}, 3 needs"),
             &chart,
@@ -157,7 +159,7 @@ fn small() -> Vec<Load> {
 
 /// Every kind of diagram over one chart.
 fn over(name: &str, chart: &Chart) -> Vec<Load> {
-    let mut random = Random::new(2);
+    let mut random = Random::new(LAYERS);
     let mut loads = Vec::new();
     let mut add = |what: &str, diagram: &Diagram| {
         loads.push(Load::new(format!("{name}, {what}"), chart, diagram));

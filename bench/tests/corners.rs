@@ -35,7 +35,7 @@ fn the_first_cases_are_in_the_corners() {
             tally.add(&case, &outcome);
         }
         let missed: Vec<&str> = tally.missed().iter().map(|(corner, _)| corner.name).collect();
-        let others: Vec<&str> = CORNERS[12..].iter().map(|corner| corner.name).collect();
+        let others: Vec<&str> = CORNERS[13..].iter().map(|corner| corner.name).collect();
         assert_eq!(missed, others, "seed {seed}");
     }
 }
@@ -204,7 +204,8 @@ fn files_of_32768_bytes_are_read_to_their_end() {
     let filled = |file: &[u8], end: &[u8]| {
         [file, &remark_from_to(file.len() + end.len(), 32_768), end].concat() //
     };
-    let (step, node) = (&chart[chart.len() - 11..], &rules[rules.len() - 9..]);
+    // Once more the last step; another node than those that are there.
+    let (step, node) = (&chart[chart.len() - 11..], &[0x12, 6, 0, 0, 0, 1, 0, 0, 0]);
     let ends: [(&[u8], u32, usize); 9] = [
         (&[], 0, 0),
         (&[0x80, 0, 0], 0, 0),

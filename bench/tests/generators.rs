@@ -205,7 +205,7 @@ fn nodes_have_padding_alone_and_with_every_other_fault() {
             _ => {}
         }
     }
-    assert!(of_padding.iter().all(|count| *count > 300), "{of_padding:?}");
+    assert!(of_padding.iter().all(|count| *count > 200), "{of_padding:?}");
     let both: Vec<(u32, bool)> =
         [1, 3, 6].into_iter().flat_map(|number| [(number, false), (number, true)]).collect();
     assert_eq!(besides.keys().copied().collect::<Vec<_>>(), both);

@@ -232,6 +232,7 @@ fn large(random: &mut Random) -> Vec<Diagram> {
         comb(),
         doubled(&parity(8, 128, 1)),
         doubled(&all_of(even(255))),
+        with_one(random, &all_of(even(MAX_NODES - 1)), MAX_STEPS),
         scattered(random, MAX_STEPS, MAX_NODES, Padding::With),
         scattered(random, 40, MAX_NODES, Padding::With),
     ]);

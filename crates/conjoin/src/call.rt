@@ -29,7 +29,16 @@ pub fn join<'a>(
     let mut nodes = [0u32; 512];
     let mut chains = [0u16; 1024];
     clear(work, pairs);
-    let root = apply(work, &mut nodes, &mut chains, left, right, width, first, second);
+    let root = apply(
+        work,
+        &mut nodes,
+        &mut chains,
+        left,
+        right,
+        width,
+        first,
+        second,
+    );
     if root == FULL {
         return refusal(12, 0, 0, 0);
     }

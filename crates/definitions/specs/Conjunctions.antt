@@ -25,7 +25,7 @@ diagram root nodes = record { root = root; nodes = nodes }
 -- ---- conjunctions
 
 -- the rule of REFERENCE 14 with a double, a node with lo equal to hi and one that is not arrived at; and in another order
-abbrev padded : Diagram
+abbrev pub padded : Diagram
 padded = diagram 6 (nd 5 1 0 ∷ nd 2 0 1 ∷ nd 2 0 1 ∷ nd 1 3 4 ∷ nd 0 1 5 ∷ [])
 
 -- step 5 is never taken; step 5 is always taken
@@ -36,10 +36,10 @@ abbrev onlyFive : Diagram
 onlyFive = diagram 2 (nd 5 0 1 ∷ [])
 
 -- node 3 tests step 1 and stands before node 2, which tests step 2, in a walk; the same as it is written
-abbrev crossed : Diagram
+abbrev pub crossed : Diagram
 crossed = diagram 4 (nd 2 0 1 ∷ nd 1 0 1 ∷ nd 0 3 2 ∷ [])
 
-abbrev uncrossed : Diagram
+abbrev pub uncrossed : Diagram
 uncrossed = diagram 4 (nd 1 0 1 ∷ nd 2 0 1 ∷ nd 0 2 3 ∷ [])
 
 -- two nodes lead to node 2
@@ -168,7 +168,7 @@ chart = chartBytes values
 abbrev file : Diagram → List ℕ
 file d = diagramBytes d
 
-abbrev shown : LoadTwo → List ℕ
+abbrev pub shown : LoadTwo → List ℕ
 shown (readyTwo c d e) = []
 shown (refusedTwo number at place) = number ∷ at ∷ place ∷ []
 

@@ -18,3 +18,4 @@ pub mod Remarks
 pub mod Ticks
 pub mod Calls
 pub mod Conjunctions
+pub mod Padding

@@ -227,7 +227,7 @@ module _ (mode : Bool) (s : List ℕ) (steps : ℕ) (t : NodesRead) (chains word
       take-node z n chains′ words′ adds = turn-on s (t .place) (t .place + 3 + 6) (has-less s (t .place) 18 6 has) (λ o h.
           let x = innerNodeOf b in
           let stored-is : words′ ≡ set words (t .nodes + 2) (wordOf x) =
-              adds .stored ∙ ap (λ (i : ℕ). set words i w) (adds .number ∙ ap (λ (k : ℕ). k + 2) (count-is (o .0) (o .1) h)) ∙ ap (set words (t .nodes + 2)) packed in
+          adds .stored ∙ ap (λ (i : ℕ). set words i w) (adds .number ∙ ap (λ (k : ℕ). k + 2) (count-is (o .0) (o .1) h)) ∙ ap (set words (t .nodes + 2)) packed in
           record {
             chart = h .chart;
             before = h .before ++ x ∷ [];

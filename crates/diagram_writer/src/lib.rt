@@ -19,7 +19,12 @@ use file_answers::file_answer;
 use unique_table::count;
 
 // The inner nodes in the order of the table, from a place on. Returns the place behind them.
-fn write_nodes<'a>(out: &mut [u8], at: usize, nodes: &'a [u32; 512], chains: &'a [u16; 1024]) -> usize
+fn write_nodes<'a>(
+    out: &mut [u8],
+    at: usize,
+    nodes: &'a [u32; 512],
+    chains: &'a [u16; 1024],
+) -> usize
     requires { ⌜
         Table (uniqueTable (now nodes) (now chains))
         × (at + 9 * countIn (uniqueTable (now nodes) (now chains)) ≤ length (now out))
@@ -41,7 +46,12 @@ fn write_nodes<'a>(out: &mut [u8], at: usize, nodes: &'a [u32; 512], chains: &'a
 }
 
 // The file of the table's diagram with this root, where the buffer has room for it; else 7.
-pub fn write_diagram<'a>(out: &mut [u8], nodes: &'a [u32; 512], chains: &'a [u16; 1024], root: u16) -> Answer
+pub fn write_diagram<'a>(
+    out: &mut [u8],
+    nodes: &'a [u32; 512],
+    chains: &'a [u16; 1024],
+    root: u16,
+) -> Answer
     requires { ⌜ Table (uniqueTable (now nodes) (now chains)) ⌝ }
     ensures { λ r. ⌜
         (let made = drawn root (uniqueTable (now (nodes .entry)) (now (chains .entry))) in

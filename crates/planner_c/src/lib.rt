@@ -151,7 +151,12 @@ pub extern "C" fn planner_conjoin(
 
 // The reduction of a diagram over a chart, written as a diagram file to the front of `file`. Padding in `rules` is taken.
 #[no_mangle]
-pub extern "C" fn planner_reduce(chart: &[u8], rules: &[u8], file: &mut [u8], answer: &mut [usize; 6]) -> u32
+pub extern "C" fn planner_reduce(
+    chart: &[u8],
+    rules: &[u8],
+    file: &mut [u8],
+    answer: &mut [usize; 6],
+) -> u32
     ensures { λ r. ⌜
         Given (ReduceCall (now (chart .entry)) (now (rules .entry)) (now (file .entry)) (now (file .exit))) (now (answer .exit)) r
         ⌝ }

@@ -72,5 +72,8 @@ module _ (d : Diagram) (o : Ordered d) where
     pub pruned-small : length (pruned d .nodes) ≤ length (d .nodes)
     unfolding pruned
     pruned-small =
-        omega (arith, of-length (tree d (d .root)) (root-canon d o),
-        among (length left) (length (d .nodes)) (λ i. i) (λ j. position (tree d (j + 2)) left) placed (λ i j hi hj e. e))
+        omega (
+          arith,
+          of-length (tree d (d .root)) (root-canon d o),
+          among (length left) (length (d .nodes)) (λ i. i) (λ j. position (tree d (j + 2)) left) placed (λ i j hi hj e. e),
+        )

@@ -35,9 +35,10 @@ read-diagram-requires : tie.Need-read-diagram-requires
 read-diagram-requires c κs =
     let passed : tie.Else1 = search in
     let checked : tie.After-check-chart = search in
-    let start : tie.Start = search in
-    (few-steps (start .args .chart .now) (start .args .rules .now) (start .args .rules .now) 0 _ (checked .check-chart .ensures) (passed .if1 .left),
-    record { long = length-replicate {A = ℕ} 512 0 })
+    let start : tie.Start = search in (
+      few-steps (start .args .chart .now) (start .args .rules .now) (start .args .rules .now) 0 _ (checked .check-chart .ensures) (passed .if1 .left),
+      record { long = length-replicate {A = ℕ} 512 0 },
+    )
 
 cast-refusal-2 : tie.Need-cast-refusal-2
 cast-refusal-2 c = search needs
