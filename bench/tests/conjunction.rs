@@ -7,11 +7,11 @@ use planner_bench::cases::{example_problem, Case, Cases};
 use planner_bench::check::conjunction::{conjunction, is_reduced};
 use planner_bench::compare::run;
 use planner_bench::files::{
-    read_diagram, read_three, tagged, write_chart, write_diagram, Chart, Diagram, Node, Operands,
-    Problem,
+    read_diagram, read_padded, read_three, tagged, write_chart, write_diagram, Chart, Diagram,
+    Node, Operands, Problem,
 };
 use planner_bench::generate::operands::{any, most_pairs, named, systematic};
-use planner_bench::generate::padded::{complement, padded};
+use planner_bench::generate::padded::{complement, padded, rearranged};
 use planner_bench::generate::three_files::{broken, written};
 use planner_bench::generate::Random;
 use planner_bench::planner::{self, Answer, ConjoinSlices, Planner, SweepSlices};
@@ -167,22 +167,18 @@ fn a_walk_leaves_lo_before_hi() {
 }
 
 #[test]
-fn padding_vanishes() {
-    // A double, a test that changes nothing on top of it, and a node that nothing leads to.
-    let padded = [
-        0x11, 2, 0, 6, 0, //
-        0x12, 6, 0, 2, 0, 0, 0, 1, 0, //
+fn nodes_that_nothing_leads_to_vanish() {
+    let strewn = [
+        0x11, 2, 0, 5, 0, //
+        0x12, 6, 0, 5, 0, 1, 0, 0, 0, //
         0x12, 6, 0, 2, 0, 0, 0, 1, 0, //
         0x12, 6, 0, 1, 0, 2, 0, 3, 0, //
-        0x12, 6, 0, 5, 0, 1, 0, 0, 0, //
+        0x12, 6, 0, 0, 0, 1, 0, 3, 0, //
         0x12, 6, 0, 0, 0, 1, 0, 4, 0,
     ];
-    gives(&padded, &YES, &NEEDS);
-    gives(&padded, &padded, &NEEDS);
-    gives(&padded, &NEEDS, &NEEDS);
-    let only_idle = [0x11, 2, 0, 2, 0, 0x12, 6, 0, 5, 0, 1, 0, 1, 0];
-    gives(&only_idle, &only_idle, &YES);
-    gives(&only_idle, &NEEDS, &NEEDS);
+    gives(&strewn, &YES, &NEEDS);
+    gives(&strewn, &strewn, &NEEDS);
+    gives(&strewn, &NEEDS, &NEEDS);
 }
 
 fn edited(file: &[u8], at: usize, bytes: &[u8]) -> Vec<u8> {
@@ -198,7 +194,11 @@ fn the_chart_then_file_2_then_file_3() {
     let bad_root = edited(&NEEDS, 3, &[4, 0]);
     let cut = &NEEDS[..22];
     let long = [&NEEDS[..], &[0x12; 32_768]].concat();
-    let faulty: [(&[u8], u32, usize); 6] = [
+    let double = [&NEEDS[..], &NEEDS[5..14]].concat();
+    let idle = edited(&NEEDS, 19, &[2, 0]);
+    let faulty: [(&[u8], u32, usize); 8] = [
+        (&double, 13, 23),
+        (&idle, 13, 14),
         (&bad_node, 6, 5),
         (&bad_root, 6, 0),
         (cut, 1, 14),
@@ -216,6 +216,7 @@ fn the_chart_then_file_2_then_file_3() {
     }
     // In file 3 too the root comes after all nodes.
     refuses(&CHART, &NEEDS, &edited(&bad_node, 3, &[9, 0]), (6, 3, 5));
+    refuses(&CHART, &NEEDS, &edited(&double, 3, &[9, 0]), (13, 3, 23));
     refuses(&CHART, &NEEDS, &[&bad_root[..], &[0x12]].concat(), (1, 3, 23));
 }
 
@@ -399,33 +400,38 @@ fn a_plan_under_the_result_is_the_cheapest_that_both_allow() {
 }
 
 #[test]
-fn padded_diagrams_say_the_same_and_complements_the_opposite() {
+fn other_diagrams_say_the_same_and_complements_the_opposite() {
     let mut random = Random::new(64);
-    let mut unreduced = 0;
+    let (mut unreduced, mut refused) = (0, 0);
     for _ in 0..1_000 {
         let Operands { chart, first, .. } = small(&mut random);
-        let steps = chart.steps.len();
-        let other = padded(&mut random, &first, steps, first.nodes.len() + 12);
+        let (steps, nodes) = (chart.steps.len(), first.nodes.len() + 12);
+        let other = rearranged(&mut random, &first, steps, nodes);
+        let padded = padded(&mut random, &first, steps, nodes);
         assert_eq!(read_diagram(&write_diagram(&other), steps), Ok(other.clone()));
+        let files = (write_chart(&chart), write_diagram(&padded));
+        assert_eq!(read_padded(&files.0, &files.1).map(|read| read.diagram), Ok(padded.clone()));
         for set in sets(steps).step_by(3) {
             assert_eq!(verdict(&other, &set), verdict(&first, &set));
+            assert_eq!(verdict(&padded, &set), verdict(&first, &set));
             assert_ne!(verdict(&complement(&first), &set), verdict(&first, &set));
         }
         unreduced += usize::from(is_reduced(&other).is_err());
+        refused += usize::from(read_diagram(&files.1, steps).is_err());
     }
-    assert!(unreduced > 500, "{unreduced}");
+    assert!(unreduced > 500 && refused > 500, "{unreduced} {refused}");
 }
 
 #[test]
 fn corners_are_sound_and_as_far_out_as_they_should_be() {
     let mut random = Random::new(65);
-    let all = systematic(&mut random);
-    for operands in &all {
+    let timed: Vec<Operands> = named().into_iter().map(|(_, operands)| operands).collect();
+    assert_eq!(timed.len(), 9);
+    for operands in systematic(&mut random).iter().chain(&timed) {
         let (chart, rules, more) = written(operands);
         let rounded = Operands { chart: operands.chart.rounded(), ..operands.clone() };
         assert_eq!(read_three(&chart, &rules, &more), Ok(rounded));
     }
-    assert_eq!(named().len(), 9);
     let found = Conjunction::of(most_pairs());
     assert_eq!((found.operands.pairs(), found.reduced.nodes.len()), (262_144, 510));
     assert!(found.product.pairs > 129_000, "{:?}", found.product);
@@ -437,7 +443,7 @@ fn broken_files_have_every_number_in_every_file() {
     let faults = files.iter().filter_map(|(a, b, c)| read_three(a, b, c).err());
     let found: BTreeSet<(u32, u32)> = faults.map(|fault| (fault.file, fault.number)).collect();
     let of_chart = [1, 2, 3, 4, 5, 9, 10, 11].map(|number| (1, number));
-    let of_diagrams = [2, 3].map(|file| [1, 2, 3, 6, 9].map(|number| (file, number)));
+    let of_diagrams = [2, 3].map(|file| [1, 2, 3, 6, 9, 13].map(|number| (file, number)));
     let [first, second] = of_diagrams;
     assert_eq!(found, of_chart.into_iter().chain(first).chain(second).collect());
     assert!(files.iter().any(|(a, b, c)| read_three(a, b, c).is_ok()));

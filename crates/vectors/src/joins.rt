@@ -10,6 +10,7 @@ use crate::show::each_byte;
 use crate::show::hexadecimal;
 use crate::show::named;
 use crate::show::text;
+use crate::show::within;
 use definitions::Answer;
 use script_files::read::Command;
 use script_files::read::part;
@@ -18,16 +19,16 @@ use script_files::write::times;
 // The longest slices: a few entries more than any files need.
 const MOST: usize = 262152;
 
-const MOST_BYTES: usize = 4600;
+pub const MOST_BYTES: usize = 4600;
 
-fn fill_byte(c: Command) -> u8 {
-    (c.d % 256) as u8
+pub fn low_byte(x: u64) -> u8 {
+    (x % 256) as u8
 }
 
 // How many nodes a diagram over so many steps has, 0 and 1 included.
 fn references(file: &[u8], steps: usize) -> u64 {
     let mut table = [0u32; 512];
-    let r = diagram::read_diagram(file, steps, &mut table);
+    let r = diagram::read_diagram(file, within(steps), true, &mut table);
     (r.nodes % 512) as u64 + 2
 }
 
@@ -48,7 +49,7 @@ fn own(number: u32, pairs: usize, lent: usize) -> usize {
 }
 
 // An answer, the file, and which bytes past it have changed.
-fn show_joined<'a>(a: Answer, file: &'a [u8; MOST_BYTES], full: u8) {
+pub fn show_written<'a>(a: Answer, file: &'a [u8; MOST_BYTES], full: u8) {
     named(b" number ", a.number as u64);
     named(b" file ", a.file as u64);
     named(b" place ", a.place as u64);
@@ -64,7 +65,7 @@ fn show_joined<'a>(a: Answer, file: &'a [u8; MOST_BYTES], full: u8) {
 // The conjunction.
 pub fn show_join<'a>(chart: &'a [u8], rules: &'a [u8], more: &'a [u8], c: Command) {
     let full = fill(c);
-    let full_byte = fill_byte(c);
+    let full_byte = low_byte(c.d);
     let mut work = [full; MOST];
     let mut file = [full_byte; MOST_BYTES];
     let a = conjoin::conjoin(
@@ -74,7 +75,7 @@ pub fn show_join<'a>(chart: &'a [u8], rules: &'a [u8], more: &'a [u8], c: Comman
         lend_work(&mut work, c.a as usize),
         lend_file(&mut file, c.b as usize),
     );
-    show_joined(a, &file, full_byte);
+    show_written(a, &file, full_byte);
     let first = own(a.number, pairs(chart, rules, more), c.a as usize);
     each(&work, first, MOST, How::Changed(full));
 }

@@ -2,6 +2,7 @@
 // case is written; tools/vectors.py computes what must be written.
 mod joins;
 mod lend;
+mod reductions;
 mod script;
 mod searches;
 mod show;
@@ -25,4 +26,5 @@ fn main() {
     play(b"remarks.txt");
     play(b"searches.txt");
     play(b"joins.txt");
+    play(b"padding.txt");
 }

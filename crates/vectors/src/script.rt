@@ -1,5 +1,6 @@
 // A script of cases: commands that make a file, take it for the chart or a diagram, or show what a call answers.
 use crate::joins::show_join;
+use crate::reductions::show_reduced;
 use crate::searches::show_guided;
 use crate::searches::show_sweep;
 use crate::show::show_chart;
@@ -65,11 +66,13 @@ fn shown<'a>(c: Command, file: &'a [u8], chart: &'a [u8], rules: &'a [u8], more:
     let letter = c.letter;
     match letter {
         b'C' => show_chart(file),
-        b'D' => show_diagram(file, c.a as usize),
+        b'D' => show_diagram(file, c.a as usize, true),
+        b'L' => show_diagram(file, c.a as usize, false),
         b'F' => show_field(chart, rules, (c.a % 4294967296) as u32, c.b as usize),
         b'W' => show_sweep(chart, rules, c),
         b'G' => show_guided(chart, rules, c),
         b'J' => show_join(chart, rules, more, c),
+        b'R' => show_reduced(chart, rules, c),
         _ => {}
     }
 }

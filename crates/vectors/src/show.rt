@@ -1,4 +1,5 @@
 // What the calls answer, written.
+ghost use Prim.Native.Nat.{_≤_};
 use chart::ChartRead;
 use definitions::NONE;
 use diagram::DiagramRead;
@@ -43,10 +44,20 @@ pub fn show_chart(file: &[u8]) {
     chart_answer(chart::read_chart(file, &mut table));
 }
 
-// A diagram file over a chart of so many steps.
-pub fn show_diagram(file: &[u8], steps: usize) {
+// As many steps as a chart can have.
+pub fn within(steps: usize) -> usize
+    ensures { λ r. ⌜ r ≤ 1024 ⌝ }
+{
+    if 1024 <= steps {
+        return 1024;
+    }
+    steps
+}
+
+// A diagram file over a chart of so many steps, where padding is refused (strict) or taken.
+pub fn show_diagram(file: &[u8], steps: usize, strict: bool) {
     let mut table = [0u32; 512];
-    diagram_answer(diagram::read_diagram(file, steps, &mut table));
+    diagram_answer(diagram::read_diagram(file, within(steps), strict, &mut table));
 }
 
 // The refused field of a file mark and a place: how many bytes, and each in hexadecimal.
