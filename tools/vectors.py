@@ -6,7 +6,8 @@
 
 crates/vectors/data/readers.txt says how a case is written. The answers are computed here from docs/REFERENCE.md alone: the readers
 field by field, the sweep's costs stage by stage, the guided search as it is told there, the conjunction of two diagrams pair by
-pair. Where all ways, or all sets of the steps that two diagrams ask for, can be enumerated they are, and must give the same.
+pair, the reduction of one node by node. Where all ways, or all sets of the steps that the diagrams ask for, can be enumerated
+they are, and must give the same.
 A case in which REFERENCE leaves free what would be written is an error, and so is a case that is marked as free and is not.
 """
 import random
@@ -92,7 +93,8 @@ def read_chart(content):
     return Chart(stages, start, end, tuple(steps))
 
 
-def read_diagram(content, steps, file=2):
+def read_diagram(content, steps, file=2, strict=True):
+    """The diagram of a file; where `strict` is not set padding is taken."""
     root, nodes = 0, []
     for place, body in bodies(content, file, ((0x11, 2), (0x12, 6))):
         if place == 0:
@@ -103,6 +105,8 @@ def read_diagram(content, steps, file=2):
         sound = all(c < own and (c < 2 or nodes[c - 2][0] > at_step) for c in children)
         if len(nodes) == 510 or at_step >= steps or not sound:
             raise Refused(6, file, place)
+        if strict and (children[0] == children[1] or (at_step, *children) in nodes):
+            raise Refused(13, file, place)
         nodes.append((at_step, *children))
     if root >= len(nodes) + 2:
         raise Refused(6, file, 0)
@@ -263,7 +267,7 @@ def guided(chart, rules, call):
 SEARCHES = {"W": sweep, "G": guided}
 
 
-# ---- the conjunction
+# ---- the conjunction and the reduction
 
 def says_yes(diagram, chosen):
     n = diagram.root
@@ -314,6 +318,14 @@ def by_pairs(a, b):
     return reduced.walked(joined(a.root, b.root))
 
 
+def by_nodes(d):
+    """The reduction of a diagram, from node to node of its file."""
+    reduced, numbers = Reduced(), [0, 1]
+    for at_step, lo, hi in d.nodes:
+        numbers.append(reduced.node(at_step, numbers[lo], numbers[hi]))
+    return reduced.walked(numbers[d.root])
+
+
 def by_sets(steps, answers):
     """The reduced diagram with these answers to all sets of these steps, in the order of `sets_of`: by halves without and with the first step."""
     reduced = Reduced()
@@ -337,14 +349,20 @@ def sets_of(steps):
     return [{e for e, taken in zip(steps, choice) if taken} for choice in choices]
 
 
-def conjunction(a, b):
-    found = by_pairs(a, b)
-    steps = sorted({n[0] for d in (a, b) for n in d.nodes})
+def compared(found, *diagrams):
+    """What was found, a reduced diagram, after it is tried on sets: it must say yes exactly where all these diagrams do."""
+    steps = sorted({n[0] for d in diagrams for n in d.nodes})
     sets = sets_of(steps)
-    both = [says_yes(a, chosen) and says_yes(b, chosen) for chosen in sets]
-    assert [says_yes(found, chosen) for chosen in sets] == both
-    assert len(steps) > MOST_STEPS or by_sets(steps, both) == found
+    answers = [all(says_yes(d, chosen) for d in diagrams) for chosen in sets]
+    assert [says_yes(found, chosen) for chosen in sets] == answers
+    assert len(steps) > MOST_STEPS or by_sets(steps, answers) == found
     return found
+
+
+def fitting(content, room):
+    if room < len(content):
+        raise Refused(7, 0, 0)
+    return content
 
 
 def conjoined(chart, rules, more, work, room):
@@ -353,17 +371,24 @@ def conjoined(chart, rules, more, work, room):
     a, b = read_diagram(rules, steps), read_diagram(more, steps, 3)
     if work < (len(a.nodes) + 2) * (len(b.nodes) + 2):
         raise Refused(7, 0, 0)
-    found = conjunction(a, b)
+    found = compared(by_pairs(a, b), a, b)
     if len(found.nodes) > 510:
         raise Refused(12, 0, 0)
-    if room < len(found.file()):
-        raise Refused(7, 0, 0)
-    return found.file()
+    return fitting(found.file(), room)
 
 
-def join(chart, rules, more, work, room):
+def reduction(chart, rules, room):
+    """The file that is written, after all checks."""
+    d = read_diagram(rules, len(read_chart(chart).steps), strict=False)
+    found = compared(by_nodes(d), d)
+    assert by_pairs(d, Diagram(1)) == found
+    return fitting(found.file(), room)
+
+
+def written(call, *given):
+    """What is shown of a call that writes a file."""
     try:
-        found = conjoined(chart, rules, more, work, room)
+        found = call(*given)
     except Refused as r:
         return f"{verdict(r.number, r.file, r.place, 0)} length 0 count 0 bytes changed"
     return f"{verdict(0, 0, 0, 0)} length {len(found)} count 0 {words('bytes', [f'{x:02x}' for x in found])} changed"
@@ -440,8 +465,10 @@ class Player:
             if letter == "C":
                 c = read_chart(file)
                 return f"stages {c.stages} start {c.start} end {c.end} steps {len(c.steps)}"
-            if letter == "D":
-                d = read_diagram(file, numbers[0])
+            if letter in "DL":
+                if numbers[0] > 1024:
+                    raise Faulty("no chart has so many steps")
+                d = read_diagram(file, numbers[0], strict=letter == "D")
                 return f"root {d.root} nodes {len(d.nodes)}"
         except Refused as r:
             return f"refused {r.number} place {r.place}"
@@ -449,7 +476,9 @@ class Player:
             found = refused_field(chart, rules, *numbers[:2])
             return words(f"bytes {len(found)}", [f"{x:02x}" for x in found])
         if letter == "J":
-            return join(chart, rules, self.content("more"), *numbers[:2])
+            return written(conjoined, chart, rules, self.content("more"), *numbers[:2])
+        if letter == "R":
+            return written(reduction, chart, rules, numbers[0])
         if letter not in SEARCHES:
             raise Faulty(f"no call {letter}")
         return SEARCHES[letter](chart, rules, Call(*numbers))

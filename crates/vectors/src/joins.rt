@@ -6,24 +6,15 @@ use crate::lend::lend_work;
 use crate::searches::fill;
 use crate::show::How;
 use crate::show::each;
-use crate::show::each_byte;
-use crate::show::hexadecimal;
-use crate::show::named;
-use crate::show::text;
 use crate::show::within;
-use definitions::Answer;
+use crate::written::MOST_BYTES;
+use crate::written::low_byte;
+use crate::written::show_written;
 use script_files::read::Command;
-use script_files::read::part;
 use script_files::write::times;
 
-// The longest slices: a few entries more than any files need.
+// The longest work slice: a few entries more than any files need.
 const MOST: usize = 262152;
-
-pub const MOST_BYTES: usize = 4600;
-
-pub fn low_byte(x: u64) -> u8 {
-    (x % 256) as u8
-}
 
 // How many nodes a diagram over so many steps has, 0 and 1 included.
 fn references(file: &[u8], steps: usize) -> u64 {
@@ -46,20 +37,6 @@ fn own(number: u32, pairs: usize, lent: usize) -> usize {
         return pairs;
     }
     0
-}
-
-// An answer, the file, and which bytes past it have changed.
-pub fn show_written<'a>(a: Answer, file: &'a [u8; MOST_BYTES], full: u8) {
-    named(b" number ", a.number as u64);
-    named(b" file ", a.file as u64);
-    named(b" place ", a.place as u64);
-    named(b" cost ", a.cost as u64);
-    named(b" length ", a.length as u64);
-    named(b" count ", a.count as u64);
-    text(b" bytes");
-    hexadecimal(part(file, 0, a.length));
-    text(b" changed");
-    each_byte(file, a.length, MOST_BYTES, How::Changed(full as u32));
 }
 
 // The conjunction.

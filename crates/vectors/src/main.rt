@@ -6,6 +6,7 @@ mod reductions;
 mod script;
 mod searches;
 mod show;
+mod written;
 
 // Plays one script of at most 65,536 bytes.
 fn play(path: &[u8]) {

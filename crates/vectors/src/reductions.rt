@@ -1,10 +1,10 @@
 // The reduction of a diagram, into a buffer that is full of one byte: what the call answers, the file that it writes, and
 // which bytes it has changed that should stay. Of the command's numbers a is how many bytes of the buffer are lent, and b
 // what it is full of.
-use crate::joins::MOST_BYTES;
-use crate::joins::low_byte;
-use crate::joins::show_written;
 use crate::lend::lend_file;
+use crate::written::MOST_BYTES;
+use crate::written::low_byte;
+use crate::written::show_written;
 use script_files::read::Command;
 
 // The reduction.

@@ -44,7 +44,7 @@ pub fn show_chart(file: &[u8]) {
     chart_answer(chart::read_chart(file, &mut table));
 }
 
-// As many steps as a chart can have.
+// So many steps, or as many as a chart can have.
 pub fn within(steps: usize) -> usize
     ensures { λ r. ⌜ r ≤ 1024 ⌝ }
 {
