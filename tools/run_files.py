@@ -13,6 +13,7 @@ import re
 import shutil
 import sys
 from functools import cache
+from itertools import islice
 from pathlib import Path
 from typing import NamedTuple
 
@@ -77,6 +78,12 @@ class Diagram(NamedTuple):
 
     def file(self):
         return root(self.root) + b"".join(node(*n) for n in self.nodes)
+
+
+def taken(diagram):
+    """Whether all nodes may have their children, none has lo equal to hi, and no two are alike."""
+    fits = all(c < own and (c < 2 or diagram.nodes[c - 2][0] > n[0]) for own, n in enumerate(diagram.nodes, 2) for c in n[1:])
+    return fits and all(lo != hi for _, lo, hi in diagram.nodes) and len(set(diagram.nodes)) == len(diagram.nodes)
 
 
 class Noted(NamedTuple):
@@ -287,6 +294,15 @@ def all_of(conditions):
     return Diagram(below, tuple(nodes))
 
 
+def different_nodes(steps, count):
+    """So many inner nodes, none of them padding: all that there are with the last of the steps, then with the one before it, and so on."""
+    nodes = ()
+    for at_step in reversed(range(steps)):
+        below = range(len(nodes) + 2)
+        nodes += tuple(islice(((at_step, lo, hi) for lo in below for hi in below if lo != hi), count - len(nodes)))
+    return nodes
+
+
 FULL, TOO_WIDE = forked_chart(128), forked_chart(129)
 LAST = (2, 11, 20, 29, 38, 41)  # in a layered chart 5 × 3 the plan that leaves each stage by its last step
 
@@ -306,6 +322,14 @@ def bad_rules(fields, line, at=3):
 
 STEP_0, NODE_2 = step(0, 1, 40), node(2, 0, 1)
 LIKE_STEP, LIKE_NODE = bytes([0x82]) + STEP_0[1:], bytes([0x92]) + NODE_2[1:]  # remarks
+SOUND_NODES = [node(*n) for n in different_nodes(6, 510)]  # over the example's chart
+
+# step 0 needs step 2, and without step 0 there is step 3: reduced, padded, in another order, and with a node past the root
+EITHER = Diagram(4, ((3, 0, 1), (2, 0, 1), (0, 2, 3)))
+EITHER_PADDED = Diagram(6, ((3, 0, 1), (3, 0, 1), (2, 0, 1), (1, 2, 3), (0, 5, 4)))
+EITHER_TURNED = Diagram(4, ((2, 0, 1), (3, 0, 1), (0, 3, 2)))
+EITHER_AND_MORE = Diagram(5, ((5, 1, 0), (2, 0, 1), (3, 0, 1), (0, 4, 3)))
+EITHER_LINES = ["cost 200", "step 1", "step 3", "step 5", "settled 4 reached 7"]
 
 # each case: what it shows, the chart, the diagram, and the line of a refusal, or the lines where they are free. A file is a Chart or a Diagram, perhaps Noted, bytes, None (missing) or "folder"
 CASES = [
@@ -353,8 +377,8 @@ CASES = [
     ("a root that is no node", CHART, root(4) + node(2, 0, 1) + node(0, 1, 2), "refused 6 file 2 place 0"),
     ("a faulty node before the root", *bad_rules(node(6, 0, 1), "refused 6 file 2 place 5", at=9)),
     ("the chart before the diagram", head(0, 0, 0), b"", "refused 4 file 1 place 0"),
-    ("510 inner nodes pass, 8 stages", line_chart(8, lambda s: s + 1), Diagram(511, ((6, 0, 1),) * 510)),
-    ("the 511th node, in a longer file", *bad_rules(NODE_2 * 2000, "refused 6 file 2 place 4595")),
+    ("510 inner nodes pass, 8 stages", line_chart(8, lambda s: s + 1), Diagram(511, different_nodes(7, 509) + ((0, 0, 510),))),
+    ("the 511th node, in a longer file", *bad_rules(b"".join(SOUND_NODES) + NODE_2 * 1490, "refused 6 file 2 place 4595")),
     ("129 stages, N 32", TOO_WIDE, odd_of(dearer(TOO_WIDE)), "refused 7 file 0 place 0"),
     ("128 stages, N 32", FULL, odd_of(dearer(FULL))),
     ("two steps that no way has both of", EXAMPLE_CHART, all_of([(0, True), (1, True)])),
@@ -406,6 +430,31 @@ CASES = [
     ("values sum up otherwise than costs", Chart(4, 0, 3, ((0, 1, 10), (0, 3, 90), (1, 2, 10), (2, 3, 10))), ANYTHING),
     ("the same where the long step is ruled out", Chart(4, 0, 3, ((0, 1, 10), (0, 3, 90), (1, 2, 10), (2, 3, 10))), all_of([(1, False)])),
     ("values 1 to 42 that all cost 50", layered_chart(5, 3), ANYTHING, ["cost 300"] + [f"step {e}" for e in LAST] + ["settled 7 reached 17"]),
+    ("a node with lo and hi 0", *bad_rules(node(2, 0, 0), "refused 13 file 2 place 5", at=1)),
+    ("a node with lo and hi 1", *bad_rules(node(2, 1, 1), "refused 13 file 2 place 5", at=2)),
+    ("a node with an inner lo and hi", *bad_rules(NODE_2 + node(0, 2, 2), "refused 13 file 2 place 14")),
+    ("a node alike to the one before", *bad_rules(NODE_2 * 2, "refused 13 file 2 place 14")),
+    ("a node alike to one far before", *bad_rules(b"".join(SOUND_NODES[:100]) + SOUND_NODES[3], "refused 13 file 2 place 905")),
+    ("the 510th node alike to the first", *bad_rules(b"".join(SOUND_NODES[:509]) + SOUND_NODES[0], "refused 13 file 2 place 4586")),
+    ("the 511th node alike to the first", *bad_rules(b"".join(SOUND_NODES) + SOUND_NODES[0], "refused 6 file 2 place 4595")),
+    ("two alike nodes with remarks between", *bad_rules(NODE_2 + LIKE_NODE + remark(7) + NODE_2, "refused 13 file 2 place 33")),
+    ("a step that is not in the chart, lo and hi 0", *bad_rules(node(6, 0, 0), "refused 6 file 2 place 5")),
+    ("a node that is its own lo and hi", *bad_rules(NODE_2 + node(0, 3, 3), "refused 6 file 2 place 14")),
+    ("a lo and hi with the same step", *bad_rules(NODE_2 + node(2, 2, 2), "refused 6 file 2 place 14")),
+    ("an alike node that is cut", *bad_rules((NODE_2 * 2)[:-1], "refused 1 file 2 place 14")),
+    ("an alike node before one beyond a limit", *bad_rules(NODE_2 * 2 + node(6, 0, 1), "refused 13 file 2 place 14")),
+    ("an alike node before tag 7F", *bad_rules(NODE_2 * 2 + remark(tag=0x7F), "refused 13 file 2 place 14")),
+    ("an alike node before the root", *bad_rules(NODE_2 * 2, "refused 13 file 2 place 14", at=9)),
+    ("an alike node behind one beyond a limit", *bad_rules(node(6, 0, 1) + NODE_2 * 2, "refused 6 file 2 place 5")),
+    ("the chart before an alike node", head(5, 0, 5), root(3) + NODE_2 * 2, "refused 4 file 1 place 0"),
+    ("an alike node before the work space", FULL.file(), odd_of(dearer(FULL)).file() + node(*odd_of(dearer(FULL)).nodes[0]), "refused 13 file 2 place 275"),
+    ("a sound node in its place", FULL.file(), odd_of(dearer(FULL)).file() + node(0, 0, 1), "refused 7 file 0 place 0"),
+    ("an alike node where no plan is legal", CHART, root(0) + NODE_2 * 2, "refused 13 file 2 place 14"),
+    ("two nodes that the root does not lead to", EXAMPLE_CHART, Diagram(3, ((2, 0, 1), (0, 1, 2), (4, 0, 1), (1, 2, 4)))),
+    ("a padded diagram", CHART, EITHER_PADDED.file(), "refused 13 file 2 place 14"),
+    ("its reduction", EXAMPLE_CHART, EITHER),
+    ("the same in another order", EXAMPLE_CHART, EITHER_TURNED),
+    ("the same with a node past the root", EXAMPLE_CHART, EITHER_AND_MORE),
 ]
 
 # lines worked out by hand, by the case's title
@@ -426,6 +475,10 @@ STATED = {
     "value 1,000,000 passes": ["cost 1000000", "step 0", "settled 2 reached 2"],
     "values sum up otherwise than costs": ["cost 100", "step 1", "settled 2 reached 4"],
     "the same where the long step is ruled out": ["cost 150", "step 0", "step 2", "step 3", "settled 4 reached 4"],
+    "two nodes that the root does not lead to": EXAMPLE_LINES,
+    "its reduction": EITHER_LINES,
+    "the same in another order": EITHER_LINES,
+    "the same with a node past the root": EITHER_LINES,
 }
 
 
@@ -433,6 +486,7 @@ def expected(title, chart, rules, given=None):
     if isinstance(given, str):
         return [given]
     planned = Planned(getattr(chart, "plain", chart), getattr(rules, "plain", rules))
+    assert taken(planned.diagram), title
     if given:
         assert planned.allows(given), (title, given)
         return given

@@ -24,7 +24,7 @@ diagram root nodes = record { root = root; nodes = nodes }
 
 -- ---- conjunctions
 
--- the rule of REFERENCE 14 with a double, a node with lo equal to hi and one that is not arrived at; and in another order
+-- the rule of REFERENCE 14 with a double, a node that leads to either of the two and one that is not arrived at; and in another order
 abbrev pub padded : Diagram
 padded = diagram 6 (nd 5 1 0 ∷ nd 2 0 1 ∷ nd 2 0 1 ∷ nd 1 3 4 ∷ nd 0 1 5 ∷ [])
 

@@ -3,7 +3,7 @@
 -- Assumes nothing.
 use Prim.Native.Nat.{ℕ}
 use mathlib.Core.Path.{_≡_, refl, ap}
-use mathlib.Core.Bool.{Bool, true, false, _||_, _&&_}
+use mathlib.Core.Bool.{Bool, true, false}
 use mathlib.Core.List.{List, [], _∷_, _++_, map}
 use native.Mathlib.Omega.{arith}
 use lib.ListN.{take, replicate}
@@ -12,11 +12,11 @@ use Rattle.definitions.specs.Fields.{only, orRemark, fieldAt, firstField
 use Rattle.definitions.specs.Charts.{headFault, stepFault, readChart}
 use Rattle.definitions.specs.Diagrams.{Diagram, InnerNode, descend, descendIn, verdict, nodeFault, strict, lenient, padding, nodeFaultAfter, readDiagram}
 use Rattle.definitions.specs.Bytes.{chartBytes, bodyOfNode, rootBytes, nodeBytes, diagramBytes}
-use Rattle.definitions.specs.Reductions.{accepts, alike, mk, treeOf, member, position, postorder, ref, numbered, nodesOf, diagramOf, reducedOf, reduction, conjunction}
+use Rattle.definitions.specs.Reductions.{accepts, alike, mk, treeOf, member, position, postorder, ref, numbered, nodesOf, diagramOf, reducedOf, reduction}
 use Rattle.definitions.specs.Answers.{readFiles, load, loadTwo, fileAnswer, fileBuffer, refusal, accepted}
 use Rattle.definitions.specs.Promises.{ReduceCall}
 use Rattle.definitions.specs.Marked.{nd, rules, values, leaf}
-use Rattle.definitions.specs.Examples.{rooted, loadRefusal, rulesRefusal}
+use Rattle.definitions.specs.Examples.{rooted, loadRefusal}
 use Rattle.definitions.specs.Conjunctions.{shown, padded, crossed, uncrossed}
 use Rattle.definitions.specs.Slices.{differ}
 use Rattle.definitions.specs.declared.Answer.{Answer}

@@ -15,7 +15,7 @@ use Rattle.definitions.specs.declared.Field.{Field}
 use Rattle.definitions.specs.declared.Field.the-variants.{Absent, Faulty, Passed, Whole}
 use Rattle.fields.specs.First.{first-length}
 use Rattle.diagram_fields.specs.Words.{wordOf, leaf}
-use Rattle.diagram.specs.Files.{Room, tableWith, nodesAnswer, diagramAnswer, Reads}
+use Rattle.diagram.specs.Files.{Room, tableWith, diagramAnswer, Reads}
 use Rattle.diagram.specs.Turns.{Stored, Fresh, Over}
 use Rattle.diagram.proofs.Nodes.{nothing-stored, fresh-chains}
 use Rattle.diagram.specs.declared.reader.NodesRead.{NodesRead}

@@ -12,11 +12,11 @@ use Rattle.definitions.specs.Diagrams.{InnerNode, Diagram, noNode}
 use Rattle.definitions.specs.declared.Answer.{Answer}
 use Rattle.buffer.specs.Appending.{Appended}
 use Rattle.buffer.specs.Appends.{append-both}
-use Rattle.diagram_fields.specs.Words.{stepOf, loOf, hiOf, unpacked}
+use Rattle.diagram_fields.specs.Words.{stepOf, loOf, hiOf}
 use Rattle.field_writer.specs.Sizes.{diagram-long}
 use Rattle.file_answers.specs.Files.{filed-short, filed-whole}
 use Rattle.unique_table.specs.Nodes.{nodes-long, node-listed}
-use Rattle.unique_table.specs.Tables.{UniqueTable, innerNode, nodeAt, countIn, nodesIn}
+use Rattle.unique_table.specs.Tables.{UniqueTable, innerNode, countIn, nodesIn}
 
 abbrev pub drawn : ℕ → UniqueTable → Diagram
 drawn root t = record { root = root; nodes = nodesIn t }

@@ -1,26 +1,26 @@
 -- A diagram and the one that always says yes stand in tables, as the walk asks; and one law for each way out of the code.
 -- Assumes nothing.
-use Prim.Native.Nat.{ℕ, zero, suc, _+_, _*_, _≤_, _<_}
+use Prim.Native.Nat.{ℕ, _+_, _*_, _≤_}
 use mathlib.Core.Path.{_≡_, refl, sym, _∙_, ap, ap₂, subst}
-use mathlib.Core.List.{List, []}
+use mathlib.Core.List.{List}
 use native.Mathlib.Omega.{arith}
-use lib.ListN.{length, getD, replicate, length-replicate, getD-replicate}
+use lib.ListN.{length, replicate, getD-replicate}
 use mir.Syntax.{w64}
 use mir.Val.{Fits}
 use borrow.Author.Tests.{le-ltb}
-use Rattle.definitions.specs.Answers.{Load, ready, refused, readFiles, refusal, Filed}
+use Rattle.definitions.specs.Answers.{Load, readFiles, refusal, Filed}
 use Rattle.definitions.specs.Bytes.{diagramBytes}
 use Rattle.definitions.specs.Charts.{readChart}
 use Rattle.definitions.specs.Diagrams.{Diagram, size, lenient, readDiagram}
 use Rattle.definitions.specs.Diagrams as diagrams
 use Rattle.definitions.specs.Promises.{writtenAnswer, writtenBuffer, ReducePromise, ReduceCall}
-use Rattle.definitions.specs.Reductions.{reduction, conjunction}
+use Rattle.definitions.specs.Reductions.{conjunction}
 use Rattle.definitions.specs.declared.Answer.{Answer}
 use Rattle.theory.specs.Basics.{pick-false}
 use Rattle.theory.specs.Limits.{Sound}
 use Rattle.chart.specs.Tables.{chartAnswer}
 use Rattle.chart.specs.declared.reader.ChartRead.{ChartRead}
-use Rattle.diagram_fields.specs.Words.{wordOf, leaf, stepOf, MARK}
+use Rattle.diagram_fields.specs.Words.{wordOf, leaf, stepOf}
 use Rattle.diagram.specs.Files.{Reads}
 use Rattle.diagram.specs.declared.reader.DiagramRead.{DiagramRead}
 use Rattle.checks.specs.Outcome.{chart-refused, rules-refused, files-passed}

@@ -2,23 +2,20 @@
 -- lead to. So two files that every call takes and that mean the same have equal counts.
 -- Assumes nothing.
 use Prim.Native.Nat.{ℕ, _/_, _%_, _≤_, _<_}
-use mathlib.Core.Path.{_≡_, refl, sym, _∙_, ap, ap₂, subst}
+use mathlib.Core.Path.{_≡_, refl, sym, _∙_, ap, ap₂}
 use mathlib.Core.Bool.{Bool, true}
 use mathlib.Core.List.{List, [], _∷_, map}
-use mathlib.Core.Logic.{_⊎_, inl, inr}
-use mathlib.Core.Option.{Option, none, some}
 use native.Mathlib.Omega.{arith}
 use lib.ListN.{length, getD}
-use Rattle.definitions.specs.Answers.{Load, ready, refused, load}
 use Rattle.definitions.specs.Basics.{upto}
 use Rattle.definitions.specs.Charts.{Chart, readChart}
-use Rattle.definitions.specs.Diagrams.{Diagram, size, strict, readDiagram, advance}
-use Rattle.definitions.specs.Pairs.{Automaton, stands, reached, pair, stageOf, nodeOf, pairs, reachedPairs}
+use Rattle.definitions.specs.Diagrams.{Diagram, size, strict, advance}
+use Rattle.definitions.specs.Pairs.{Automaton, stands, reached, pair, stageOf, nodeOf, reachedPairs}
 use Rattle.definitions.specs.Plans.{graph, automaton, variable}
-use Rattle.definitions.specs.Promises.{SweepSlices, sweepLoad, Swept, Outcome, SweepCall}
+use Rattle.definitions.specs.Promises.{SweepSlices, SweepCall}
 use Rattle.definitions.specs.Reductions.{Tree, no-leaf, accepts, member, position}
 use Rattle.definitions.specs.declared.Answer.{Answer}
-use Rattle.theory.specs.Basics.{member-at, getD-map-upto, length-map-run, either}
+use Rattle.theory.specs.Basics.{member-at, getD-map-upto, length-map-run}
 use Rattle.theory.specs.Counting.{among}
 use Rattle.theory.specs.Diagrams.{advance-le}
 use Rattle.theory.specs.Limits.{Valid, Sound, Unpadded}
@@ -26,7 +23,6 @@ use Rattle.theory.specs.Pairs.{lawful, stands-inside, stageOf-pair, nodeOf-pair
 use Rattle.theory.specs.Ways.{end-inside}
 use Rattle.chart.specs.Accepted.{chart-accepted}
 use Rattle.diagram.specs.Accepted.{diagram-accepted, diagram-unpadded}
-use Rattle.checks.specs.Outcome.{ready-files, load-numbered}
 use Rattle.demands.specs.Counted.{pairs-only, pairs-once}
 use Rattle.demands.specs.Demands.{rulesRead, sweepCall, Reached, Searched}
 use Rattle.demands.specs.Demanded.{sweep-promised, swept-count}

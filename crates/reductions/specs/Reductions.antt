@@ -2,7 +2,7 @@
 -- file is taken by every call, and it allows the same plans. The diagrams are any within the limits of the file (`Sound`), padded or not.
 -- Assumes nothing.
 use Prim.Native.Nat.{ℕ, _≤_, _<_}
-use mathlib.Core.Path.{_≡_, refl, sym, _∙_, ap, ap₂}
+use mathlib.Core.Path.{_≡_, refl, sym, _∙_, ap}
 use mathlib.Core.Bool.{Bool, true, false, _&&_}
 use mathlib.Core.List.{List, [], map}
 use mathlib.Core.Logic.{_↔_}
@@ -13,8 +13,8 @@ use borrow.Author.Tests.{lt-ltb, le-ltb}
 use Rattle.definitions.specs.Basics.{has}
 use Rattle.definitions.specs.Bytes.{diagramBytes}
 use Rattle.definitions.specs.Charts.{Chart}
-use Rattle.definitions.specs.Diagrams.{Diagram, size, descend, descendIn, verdict, readDiagram}
-use Rattle.definitions.specs.Plans.{graph, variable, saysYes, Legal, legalWay, cheapest}
+use Rattle.definitions.specs.Diagrams.{Diagram, size, readDiagram}
+use Rattle.definitions.specs.Plans.{graph, variable, saysYes, Legal, cheapest}
 use Rattle.definitions.specs.Reductions.{accepts, Reduced, Arrives, reduction, conjunction}
 use Rattle.definitions.specs.Ways.{endOf, leastWay}
 use Rattle.theory.specs.Diagrams.{verdict-leaf}

@@ -2,7 +2,7 @@
 -- back, and a search on it answers as the diagram of the given file, padding and all, calls for.
 -- Assumes nothing.
 use Prim.Native.Nat.{ℕ}
-use mathlib.Core.Path.{_≡_, refl, sym, _∙_, ap, ap₂, subst}
+use mathlib.Core.Path.{_≡_, refl, sym, _∙_, ap, subst}
 use mathlib.Core.Bool.{Bool, true, false}
 use mathlib.Core.List.{List}
 use mathlib.Core.Logic.{_⊎_, inl, inr}
@@ -13,9 +13,9 @@ use Rattle.definitions.specs.Answers.{Load, ready, refused, readFiles, withSpac
 use Rattle.definitions.specs.Bytes.{diagramBytes}
 use Rattle.definitions.specs.Charts.{Chart, readChart}
 use Rattle.definitions.specs.Diagrams.{Diagram, DiagramRead, strict, lenient}
-use Rattle.definitions.specs.Plans.{graph, automaton, Legal, cheapest}
+use Rattle.definitions.specs.Plans.{graph, automaton, cheapest}
 use Rattle.definitions.specs.Pairs.{reachedPairs}
-use Rattle.definitions.specs.Promises.{Planned, Outcome, Swept, Guided, SweepSlices, sweepLoad, SweepCall, GuidedSlices, guidedLoad, GuidedCall, ReducePromise, ReduceCall}
+use Rattle.definitions.specs.Promises.{Outcome, Swept, Guided, SweepSlices, sweepLoad, SweepCall, GuidedSlices, guidedLoad, GuidedCall, ReducePromise, ReduceCall}
 use Rattle.definitions.specs.Reductions.{reduction}
 use Rattle.definitions.specs.declared.Answer.{Answer}
 use Rattle.theory.specs.Basics.{pick-true, pick-false, either, lt-or-le, same-or-not}

@@ -1,8 +1,7 @@
 -- `reduce::reduce` meets its contract.
-use mathlib.Core.Path.{refl}
+
 use lib.ListN.{length-replicate}
 use Prim.Native.Nat.{ℕ}
-use Rattle.diagram.specs.Files.{Room}
 use Rattle.conjoin.specs.Loads.{few-steps}
 use Rattle.reduce.specs.Reducing.{chart-out, rules-out, nodes-fit, pairs-fit, asked, reduced}
 use borrow.Author.Needs.{needs}

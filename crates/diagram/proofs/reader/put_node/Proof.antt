@@ -1,5 +1,5 @@
 -- `diagram::put_node` meets its contract.
-use Prim.Native.Nat.{_+_, _<_}
+use Prim.Native.Nat.{_<_}
 use native.Mathlib.Omega.{arith}
 use Rattle.diagram.proofs.Nodes.{node-room, node-lo-below, node-hi-below, count-is, take-bad, take-padded, take-node}
 use borrow.Author.Needs.{needs}
