@@ -4,6 +4,7 @@ use Prim.Native.Nat.{ℕ, _≤_, min}
 use mathlib.Core.Path.{_≡_, refl, sym, _∙_, ap, ap₂}
 use mathlib.Core.Bool.{Bool, true, false, not, cond}
 use mathlib.Core.List.{List, [], _∷_}
+use mathlib.Core.Logic.{_⊎_, inl, inr}
 use native.Mathlib.Omega.{arith}
 use lib.Dec.{leb}
 use lib.ListN.{length}
@@ -56,6 +57,17 @@ module _ (s t : List ℕ) (works : List ℕ) (plan : ℕ) where
       pub all-ready : spaceFits (chartIs strict s t) (rulesRead strict s t .diagram) works plan ≡ true → load s t works plan ≡ ready (chartIs strict s t) (rulesRead strict s t .diagram)
       unfolding load
       all-ready h = ap (withSpace works plan) (files-passed strict s t c d) ∙ pick-true _ _ _ h
+
+-- where the files pass, so do all checks, or the space is too small
+pub load-ready : (s t : List ℕ) (c : Chart) (d : Diagram) → readFiles strict s t ≡ ready c d → (works : List ℕ) (plan : ℕ)
+    → (load s t works plan ≡ ready c d) ⊎ ((spaceFits c d works plan ≡ false) × (load s t works plan ≡ refused 7 0 0))
+unfolding load
+load-ready s t c d e works plan = go (spaceFits c d works plan) refl
+  where
+    go : (b : Bool) → spaceFits c d works plan ≡ b
+        → (withSpace works plan (readFiles strict s t) ≡ ready c d) ⊎ ((spaceFits c d works plan ≡ false) × (withSpace works plan (readFiles strict s t) ≡ refused 7 0 0))
+    go true h = inl (ap (withSpace works plan) e ∙ pick-true _ _ _ h)
+    go false h = inr (h, ap (withSpace works plan) e ∙ pick-false _ _ _ h)
 
 -- two work slices are long enough where the shorter is
 shorter : (need a b : ℕ) (works : List ℕ) → every (leb need) (a ∷ b ∷ works) ≡ every (leb need) (min a b ∷ works)

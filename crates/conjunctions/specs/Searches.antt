@@ -22,7 +22,7 @@ use Rattle.theory.specs.Least.{IsLeast}
 use Rattle.theory.specs.Limits.{Sound, Valid}
 use Rattle.chart.specs.Accepted.{chart-accepted}
 use Rattle.diagram.specs.Accepted.{diagram-accepted}
-use Rattle.checks.specs.Outcome.{files-passed}
+use Rattle.checks.specs.Outcome.{files-passed, load-ready}
 use Rattle.reductions.specs.Written.{Written, written-is as taken-is}
 use Rattle.conjunctions.specs.Conjunctions.{AllowedCost, joint, conjunction-legal, conjunction-cheapest, conjunction-read}
 use Rattle.conjunctions.specs.Loads.{rulesRead}
@@ -124,15 +124,6 @@ module _ (chart rules more : List ℕ) (before after : ConjoinSlices) (r : Answe
       files-passed strict chart writtenFile (facts .files .chart-passes) (ap (λ (x : DiagramRead). x .number) written-read)
       ∙ ap (λ (x : DiagramRead). ready c (x .diagram)) written-read
 
-  loaded : (works : List ℕ) (plan : ℕ) → (load chart writtenFile works plan ≡ ready c (made chart rules more)) ⊎ (load chart writtenFile works plan ≡ refused 7 0 0)
-  unfolding load
-  loaded works plan = go (spaceFits c (made chart rules more) works plan) refl
-    where
-      go : (b : Bool) → spaceFits c (made chart rules more) works plan ≡ b
-          → (withSpace works plan (readFiles strict chart writtenFile) ≡ ready c (made chart rules more)) ⊎ (withSpace works plan (readFiles strict chart writtenFile) ≡ refused 7 0 0)
-      go true h = inl (ap (withSpace works plan) written-ready ∙ pick-true _ _ _ h)
-      go false h = inr (ap (withSpace works plan) written-ready ∙ pick-false _ _ _ h)
-
   sound-rules : Sound (length (c .steps)) d
   sound-rules = diagram-accepted strict rules (length (c .steps)) (facts .files .rules-pass)
 
@@ -145,18 +136,18 @@ module _ (chart rules more : List ℕ) (before after : ConjoinSlices) (r : Answe
   -- so both searches find on it what both diagrams allow
   pub sweep-answered : (lent lent′ : SweepSlices) (s : Answer) → SweepCall chart writtenFile lent lent′ s → Answered c d e (lent′ .plan) s
   sweep-answered lent lent′ s t =
-      either (loaded _ _)
+      either (load-ready chart writtenFile c (made chart rules more) written-ready _ _)
       (λ o. outcome-answered c d e sound-rules sound-more valid _ (lent .plan) (lent′ .plan) s (by o .0))
-      (λ o. short-answered c d e (lent′ .plan) s (by o .0))
+      (λ o. short-answered c d e (lent′ .plan) s (by (o .1) .0))
     where
       by : {o : Load} → sweepLoad chart writtenFile lent ≡ o → Swept o (lent .plan) (lent′ .plan) (lent .cost) (lent′ .cost) s
       by {o} q = subst (λ (x : Load). Swept x (lent .plan) (lent′ .plan) (lent .cost) (lent′ .cost) s) q (t .swept)
 
   pub guided-answered : (given given′ : GuidedSlices) (s : Answer) → GuidedCall chart writtenFile given given′ s → Answered c d e (given′ .plan) s
   guided-answered given given′ s t =
-      either (loaded _ _)
+      either (load-ready chart writtenFile c (made chart rules more) written-ready _ _)
       (λ o. outcome-answered c d e sound-rules sound-more valid _ (given .plan) (given′ .plan) s (by o .0))
-      (λ o. short-answered c d e (given′ .plan) s (by o .0))
+      (λ o. short-answered c d e (given′ .plan) s (by (o .1) .0))
     where
       by : {o : Load} → guidedLoad chart writtenFile given ≡ o → Guided o (given .plan) (given′ .plan) (given .log) (given′ .log) s
       by {o} q = subst (λ (x : Load). Guided x (given .plan) (given′ .plan) (given .log) (given′ .log) s) q (t .guided)

@@ -1,4 +1,4 @@
--- What the calls check first, in order, and what they answer (REFERENCE 2.5, 3.1 to 3.3, 11, 16).
+-- What the calls check first, in order, and what they answer (REFERENCE 2.5, 2.6, 3.1 to 3.3, 11, 16, 17).
 -- Assumes nothing.
 use Prim.Native.Nat.{ℕ, _*_, _-_}
 use mathlib.Core.Path.{_≡_}

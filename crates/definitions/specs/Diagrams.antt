@@ -1,4 +1,4 @@
--- The rule diagram (an ordered binary decision diagram), its file (REFERENCE 2.3, 2.4), and how it is walked (4.3, 4.6, 4.7).
+-- The rule diagram (an ordered binary decision diagram), its file (REFERENCE 2.3, 2.4, 2.6), and how it is walked (4.3, 4.6, 4.7).
 -- Assumes nothing.
 use Prim.Native.Nat.{ℕ, zero, suc, _+_, _-_}
 use mathlib.Core.Bool.{Bool, true, false, not, _&&_, _||_}

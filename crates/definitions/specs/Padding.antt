@@ -6,16 +6,19 @@ use mathlib.Core.Path.{_≡_, refl, ap}
 use mathlib.Core.Bool.{Bool, true, false}
 use mathlib.Core.List.{List, [], _∷_, _++_, map}
 use native.Mathlib.Omega.{arith}
-use lib.ListN.{take, replicate}
-use Rattle.definitions.specs.Basics.{pick}
+use lib.ListN.{length, take, replicate}
+use Rattle.definitions.specs.Basics.{pick, smaller}
 use Rattle.definitions.specs.Fields.{only, orRemark, fieldAt, firstField, onField, scan}
 use Rattle.definitions.specs.Charts.{headFault, stepFault, readChart}
-use Rattle.definitions.specs.Diagrams.{Diagram, InnerNode, descend, descendIn, verdict, nodeFault, strict, lenient, padding, nodeFaultAfter, readDiagram}
+use Rattle.definitions.specs.Diagrams.{Diagram, InnerNode, descend, descendIn, advance, verdict, nodeFault, strict, lenient, padding, nodeFaultAfter, readDiagram}
+use Rattle.definitions.specs.Ways.{waysIn, ways, leastWay}
+use Rattle.definitions.specs.Pairs.{stands, leastCost, reached, reachedPairs}
+use Rattle.definitions.specs.Plans.{graph, variable, automaton}
 use Rattle.definitions.specs.Bytes.{chartBytes, bodyOfNode, rootBytes, nodeBytes, diagramBytes}
 use Rattle.definitions.specs.Reductions.{accepts, alike, mk, treeOf, member, position, postorder, ref, numbered, nodesOf, diagramOf, reducedOf, reduction}
 use Rattle.definitions.specs.Answers.{readFiles, load, loadTwo, fileAnswer, fileBuffer, refusal, accepted}
 use Rattle.definitions.specs.Promises.{ReduceCall}
-use Rattle.definitions.specs.Marked.{nd, rules, values, leaf}
+use Rattle.definitions.specs.Marked.{nd, rules, values, leaf, chart as exampleChart}
 use Rattle.definitions.specs.Examples.{rooted, loadRefusal}
 use Rattle.definitions.specs.Conjunctions.{shown, padded, crossed, uncrossed}
 use Rattle.definitions.specs.Slices.{differ}
@@ -23,17 +26,18 @@ use Rattle.definitions.specs.declared.Answer.{Answer}
 
 -- ---- one node behind others
 
--- three nodes that are no padding
+-- four nodes that are no padding
 abbrev before : List InnerNode
-before = nd 5 0 1 ∷ nd 4 2 1 ∷ nd 4 1 2 ∷ []
+before = nd 5 0 1 ∷ nd 4 2 1 ∷ nd 4 1 2 ∷ nd 1 3 4 ∷ []
 
--- alike to the first, to the second and to the last; lo equal to hi, with 0, with 1 and with an inner node; another step, another lo, another hi than the second; lo and hi
--- exchanged; the first node of all
+-- alike to the first, to the second, to the third and to the last; lo equal to hi, with 0, with 1 and with an inner node; another step, another lo, another hi than the
+-- second; lo and hi exchanged; the first node of all, of any step
 pub paddings : List Bool
 paddings =
     padding before (nd 5 0 1)
     ∷ padding before (nd 4 2 1)
     ∷ padding before (nd 4 1 2)
+    ∷ padding before (nd 1 3 4)
     ∷ padding before (nd 3 0 0)
     ∷ padding before (nd 3 1 1)
     ∷ padding before (nd 3 2 2)
@@ -43,9 +47,11 @@ paddings =
     ∷ padding before (nd 5 1 0)
     ∷ padding [] (nd 5 0 1)
     ∷ padding [] (nd 5 1 1)
+    ∷ padding (nd 1023 509 510 ∷ []) (nd 1023 509 510)
+    ∷ padding (nd 1023 509 510 ∷ []) (nd 1022 509 510)
     ∷ []
 
-pub paddings-hold : paddings ≡ true ∷ true ∷ true ∷ true ∷ true ∷ true ∷ false ∷ false ∷ false ∷ false ∷ false ∷ true ∷ []
+pub paddings-hold : paddings ≡ true ∷ true ∷ true ∷ true ∷ true ∷ true ∷ true ∷ false ∷ false ∷ false ∷ false ∷ false ∷ true ∷ true ∷ false ∷ []
 unfolding paddings padding
 paddings-hold = refl
 
@@ -59,7 +65,7 @@ strictFaults =
     fault strict (nd 5 0 1)
     ∷ fault strict (nd 3 2 2)
     ∷ fault strict (nd 6 1 1)
-    ∷ fault strict (nd 3 5 5)
+    ∷ fault strict (nd 3 6 6)
     ∷ fault strict (nd 5 2 2)
     ∷ fault strict (nd 3 2 1)
     ∷ []
@@ -70,7 +76,7 @@ lenientFaults =
     fault lenient (nd 5 0 1)
     ∷ fault lenient (nd 3 2 2)
     ∷ fault lenient (nd 6 1 1)
-    ∷ fault lenient (nd 3 5 5)
+    ∷ fault lenient (nd 3 6 6)
     ∷ fault lenient (nd 5 2 2)
     ∷ fault lenient (nd 3 2 1)
     ∷ []
@@ -133,7 +139,7 @@ chart = chartBytes values
 abbrev doubles : List ℕ
 doubles = diagramBytes (rooted 4 doubled)
 
--- a search, and a conjunction with such a file 2 and such a file 3: before the space; a faulty chart before all; no file of a reduction
+-- a search, and a conjunction with such a file 2 and such a file 3: before the space; a faulty chart before all; both ways of reading the files
 pub paddedLoads : List (List ℕ)
 paddedLoads =
     loadRefusal (load chart doubles (0 ∷ []) 0)
@@ -213,7 +219,27 @@ pub refused-holds : ReduceCall chart (take 13 flat) short short (refusal 1 2 5 0
 unfolding pick only orRemark fieldAt firstField onField scan headFault stepFault readChart nodeFault nodeFaultAfter padding readDiagram readFiles
 refused-holds = (refl, refl)
 
--- a byte behind the file; a byte of the file; a count; a cost; the padded node left in; 13; a buffer that is written under 7, and under a refusal; 7 before the file's refusal
+-- the padded rule of REFERENCE 17.5: 13 at its second node of two that are alike, and its reduction, the rule itself
+pub padded-refused : readAs strict (diagramBytes padded) ≡ 13 ∷ 23 ∷ []
+unfolding pick only orRemark fieldAt firstField onField scan nodeFault nodeFaultAfter padding readDiagram
+padded-refused = refl
+
+pub padded-call : ReduceCall chart (diagramBytes padded) (replicate 24 9) (diagramBytes rules ++ 9 ∷ []) (accepted 0 23 0)
+unfolding pick only orRemark fieldAt firstField onField scan headFault stepFault readChart nodeFault nodeFaultAfter padding readDiagram readFiles reduction reducedOf treeOf accepts verdict descend descendIn mk alike diagramOf postorder member position ref numbered nodesOf fileAnswer fileBuffer
+padded-call = record { answer = refl; buffer = refl }
+
+-- with padding the count of reached pairs may be another, though it means the same, here that step 2 is taken: 6 in place of 5
+abbrev twice : Diagram
+twice = rooted 4 (nd 2 0 1 ∷ nd 2 0 1 ∷ nd 0 2 3 ∷ [])
+
+abbrev once : Diagram
+once = rooted 2 (nd 2 0 1 ∷ [])
+
+pub counts : length (reachedPairs (graph exampleChart) (automaton exampleChart twice)) ∷ length (reachedPairs (graph exampleChart) (automaton exampleChart once)) ∷ [] ≡ 6 ∷ 5 ∷ []
+unfolding pick smaller descend descendIn advance waysIn ways leastWay stands leastCost reached reachedPairs variable
+counts = refl
+
+-- a byte behind the file; a byte of the file; a count; a cost; the padded node left in; 13; a buffer that is written under 7, and under a refusal; 7 before the file's refusal; another place, another file, a count under it
 call-behind : ReduceCall chart flat out (17 ∷ 2 ∷ 0 ∷ 1 ∷ 0 ∷ 0 ∷ []) (accepted 0 5 0) → ⊥
 unfolding pick only orRemark fieldAt firstField onField scan headFault stepFault readChart nodeFault nodeFaultAfter padding readDiagram readFiles reduction reducedOf treeOf accepts verdict descend descendIn mk alike diagramOf postorder member position ref numbered nodesOf fileBuffer
 call-behind s = let e = differ (s .buffer) 5 in omega arith
@@ -249,3 +275,15 @@ refused-written s = let e = differ (s .1) 0 in omega arith
 refused-seven : ReduceCall chart (take 13 flat) short short (refusal 7 0 0 0) → ⊥
 unfolding pick only orRemark fieldAt firstField onField scan headFault stepFault readChart nodeFault nodeFaultAfter padding readDiagram readFiles
 refused-seven s = let e = ap (λ (a : Answer). a .number) (s .0) in omega arith
+
+refused-place : ReduceCall chart (take 13 flat) short short (refusal 1 2 14 0) → ⊥
+unfolding pick only orRemark fieldAt firstField onField scan headFault stepFault readChart nodeFault nodeFaultAfter padding readDiagram readFiles
+refused-place s = let e = ap (λ (a : Answer). a .place) (s .0) in omega arith
+
+refused-mark : ReduceCall chart (take 13 flat) short short (refusal 1 3 5 0) → ⊥
+unfolding pick only orRemark fieldAt firstField onField scan headFault stepFault readChart nodeFault nodeFaultAfter padding readDiagram readFiles
+refused-mark s = let e = ap (λ (a : Answer). a .file) (s .0) in omega arith
+
+refused-count : ReduceCall chart (take 13 flat) short short (refusal 1 2 5 1) → ⊥
+unfolding pick only orRemark fieldAt firstField onField scan headFault stepFault readChart nodeFault nodeFaultAfter padding readDiagram readFiles
+refused-count s = let e = ap (λ (a : Answer). a .count) (s .0) in omega arith

@@ -1,4 +1,4 @@
--- What the calls promise (REFERENCE 7 to 10, 16): their answer, and every lent slice after the call (plan′, log′ ..) by what it was before it (plan, log ..).
+-- What the calls promise (REFERENCE 7 to 10, 16, 17): their answer, and every lent slice after the call (plan′, log′ ..) by what it was before it (plan, log ..).
 -- Left free are which of several cheapest plans is given, and so its length; the order of equal sums in the log and, through that alone, which pairs with a sum
 -- equal to the plan's cost stand in it and so its count; and the entries of work slices that `Scratch` and, for a conjunction, `ConjoinPromise` name.
 -- Assumes nothing.

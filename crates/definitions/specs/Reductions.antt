@@ -1,4 +1,4 @@
--- Reduced diagrams (REFERENCE 16): what one is, and the one that says yes to just the sets with a property. In standard terms the reduced ordered binary decision
+-- Reduced diagrams (REFERENCE 16, 17): what one is, and the one that says yes to just the sets with a property. In standard terms the reduced ordered binary decision
 -- diagram of a Boolean function, which is unique: any two that are reduced and say yes to the same sets are equal.
 -- Assumes nothing.
 use Prim.Native.Nat.{ℕ, zero, suc, _+_, _≤_, _<_}

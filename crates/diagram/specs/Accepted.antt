@@ -1,25 +1,25 @@
 -- A diagram that the reader accepts is within the limits: it is ordered, its steps exist, it has at most 510 inner nodes, and its root is one of its nodes; and it stands in the table.
--- Read strictly it holds no padding.
+-- Read strictly it holds no padding, and leniently it is the same.
 -- Assumes nothing.
 use Prim.Native.Nat.{ℕ, _+_, _-_, _≤_, _<_}
 use mathlib.Core.Path.{_≡_, refl, sym, _∙_, ap}
-use mathlib.Core.Bool.{Bool, true, false}
+use mathlib.Core.Bool.{Bool, true, false, not}
 use mathlib.Core.List.{List, [], _∷_, _++_}
 use lib.Dec.{leb, eqb}
 use lib.ListN.{length, getD, length-append, List·getD-append, List·getD-eq-default}
 use lib.Seq.{getD-append-seam}
 use mathlib.Core.Logic.{_⊎_, inl, inr}
 use native.Mathlib.Omega.{arith}
-use borrow.Author.Tests.{leb-false, eqb-false}
+use borrow.Author.Tests.{leb-false, eqb-false, ne-eqb}
 use Rattle.definitions.specs.Basics.{pick}
 use Rattle.definitions.specs.Fields.{two, part, only, firstField, onField, Scan}
-use Rattle.definitions.specs.Diagrams.{Diagram, InnerNode, noNode, size, inner, innerNodeOf, strict, DiagramRead, diagramRefused, withNodes, nodeGrammar, scanNodes, readDiagram}
+use Rattle.definitions.specs.Diagrams.{Diagram, InnerNode, noNode, size, inner, innerNodeOf, strict, lenient, nodeFaultAfter, DiagramRead, diagramRefused, withNodes, nodeGrammar, scanNodes, readDiagram}
 use Rattle.theory.specs.Limits.{Ordered, Sound, Unpadded}
-use Rattle.theory.specs.Padding.{unpadded, fault-none}
+use Rattle.theory.specs.Padding.{unpadded, fault-within, fault-none}
 use Rattle.definitions.specs.declared.Field.{Field}
 use Rattle.definitions.specs.declared.Field.the-variants.{Absent, Faulty, Passed, Whole}
-use Rattle.fields.specs.Scans.{scan-keeps}
-use Rattle.theory.specs.Basics.{either, lt-or-le, Order, less, same, more, order}
+use Rattle.fields.specs.Scans.{scan-milder, scan-keeps}
+use Rattle.theory.specs.Basics.{pick-true, pick-false, either, lt-or-le, same-or-not, Order, less, same, more, order}
 use Rattle.diagram.specs.Files.{tableWith, Filled}
 use Rattle.diagram.specs.Held.{table-filled}
 use Rattle.diagram.specs.Limits.{Child, node-fits}
@@ -205,3 +205,28 @@ field-unpadded s steps (Whole p a b) = with-unpadded (two (part s a b) 0) (scanN
 pub diagram-unpadded : (s : List ℕ) (steps : ℕ) → Unpadded (readDiagram strict s steps .diagram)
 unfolding readDiagram
 diagram-unpadded s steps = field-unpadded s steps (firstField s (only 17 2))
+
+-- ---- what is accepted strictly is accepted leniently, as the same diagram
+
+module _ (s : List ℕ) (steps : ℕ) where
+  milder-fault : (before : List InnerNode) (tag : ℕ) (b : List ℕ) → nodeFaultAfter strict steps before b ≡ 0 → nodeFaultAfter lenient steps before b ≡ 0
+  milder-fault before tag b e = fault-within lenient steps before b (fault-none strict steps before b e .0) ∙ pick-false _ _ _ refl
+
+  same-nodes : (at : ℕ) → scanNodes strict s steps at .number ≡ 0 → scanNodes lenient s steps at ≡ scanNodes strict s steps at
+  same-nodes at = scan-milder s (nodeGrammar strict steps) (λ before tag. nodeFaultAfter lenient steps before) milder-fault (length s) at []
+
+  scanned-number : (root : ℕ) (x : Scan InnerNode) → withNodes root x .number ≡ 0 → x .number ≡ 0
+  scanned-number root x e =
+      either (same-or-not (x .number) 0) (λ z. z)
+      (λ n. ap (λ (y : DiagramRead). y .number) (sym (pick-true _ _ _ (ap not (ne-eqb (x .number) 0 n)))) ∙ e)
+
+  by-field : (r : Field) → readFrom strict s steps r .number ≡ 0 → readFrom lenient s steps r ≡ readFrom strict s steps r
+  unfolding onField
+  by-field Absent e = refl
+  by-field (Passed p) e = refl
+  by-field (Faulty k p) e = refl
+  by-field (Whole p a b) e = ap (withNodes (two (part s a b) 0)) (same-nodes b (scanned-number (two (part s a b) 0) (scanNodes strict s steps b) e))
+
+  pub strict-lenient : readDiagram strict s steps .number ≡ 0 → readDiagram lenient s steps ≡ readDiagram strict s steps
+  unfolding readDiagram
+  strict-lenient = by-field (firstField s (only 17 2))

@@ -7,7 +7,7 @@ use mathlib.Core.List.{List, [], _∷_, _++_}
 use lib.Dec.{eqb}
 use lib.ListN.{length, getD}
 use native.Mathlib.Omega.{arith}
-use borrow.Author.Tests.{eqb-true, eq-eqb, ne-eqb}
+use borrow.Author.Tests.{eqb-true, eqb-false, eq-eqb, ne-eqb}
 use Rattle.definitions.specs.Basics.{pick}
 use Rattle.definitions.specs.Fields.{part, Kind, orRemark, fieldAt, onField, Grammar, Scan, stopped, scan}
 use Rattle.definitions.specs.declared.Field.{Field}
@@ -108,6 +108,41 @@ module _ {A : Type 0} (s : List ℕ) (g : Grammar A) where
         same = read .same ∙ scan-step at before place a e (sym found ∙ given) (read .turns) (read .enough) (sym judged ∙ p);
         enough = omega (arith, read .enough, within s at (kinds before) place a e (sym found ∙ given));
       }
+
+  -- ---- a grammar that refuses less
+
+  -- where no field is refused, fewer refusals change nothing
+  module _ (less : List A → ℕ → List ℕ → ℕ) (weaker : (before : List A) (tag : ℕ) (b : List ℕ) → g .fault before tag b ≡ 0 → less before tag b ≡ 0) where
+    abbrev milder : Grammar A
+    milder = record { kind = g .kind; fault = less; holds = g .holds }
+
+    -- what a whole field leads to
+    abbrev found : Grammar A → ℕ → List A → ℕ → ℕ → ℕ → Scan A
+    found h turns before p a e =
+        pick (eqb (h .fault before (getD s p 0) (part s a e)) 0) (scan s h turns e (before ++ h .holds before (getD s p 0) (part s a e) ∷ []))
+        (stopped before (h .fault before (getD s p 0) (part s a e)) p)
+
+    pub scan-milder : (turns at : ℕ) (before : List A) → scan s g turns at before .number ≡ 0 → scan s milder turns at before ≡ scan s g turns at before
+    unfolding scan onField pick
+    scan-milder zero at before e = refl
+    scan-milder (suc n) at before e = go (fieldAt s at (kinds before)) (scan-milder n) e
+      where
+        chosen : (p a e′ : ℕ) → ((at : ℕ) (before : List A) → scan s g n at before .number ≡ 0 → scan s milder n at before ≡ scan s g n at before)
+            → (b : Bool) → eqb (faultOf p before a e′) 0 ≡ b
+            → pick b (scan s g n e′ (with p before a e′)) (stopped before (faultOf p before a e′) p) .number ≡ 0
+            → found milder n before p a e′ ≡ pick b (scan s g n e′ (with p before a e′)) (stopped before (faultOf p before a e′) p)
+        chosen p a e′ k true t z =
+            rw (eq-eqb (less before (getD s p 0) (part s a e′)) 0 (weaker before (getD s p 0) (part s a e′) (eqb-true (faultOf p before a e′) 0 t))) (k e′ (with p before a e′) z)
+        chosen p a e′ k false t z = absurd (eqb-false (faultOf p before a e′) 0 t z)
+
+        go : (r : Field) → ((at : ℕ) (before : List A) → scan s g n at before .number ≡ 0 → scan s milder n at before ≡ scan s g n at before)
+            → onField r (stopped before 0 0) (stopped before) (λ end. scan s g n end before) (found g n before) .number ≡ 0
+            → onField r (stopped before 0 0) (stopped before) (λ end. scan s milder n end before) (found milder n before)
+            ≡ onField r (stopped before 0 0) (stopped before) (λ end. scan s g n end before) (found g n before)
+        go Absent k z = refl
+        go (Faulty number place) k z = refl
+        go (Passed end) k z = k end before z
+        go (Whole p a e′) k z = chosen p a e′ k (eqb (faultOf p before a e′) 0) refl z
 
   -- ---- what holds at the start, and is kept by each field that passes, holds of all that passed
 

@@ -9,10 +9,10 @@ use native.Mathlib.Omega.{arith}
 use lib.ListN.{length, getD}
 use Rattle.definitions.specs.Basics.{upto}
 use Rattle.definitions.specs.Charts.{Chart, readChart}
-use Rattle.definitions.specs.Diagrams.{Diagram, size, strict, advance}
+use Rattle.definitions.specs.Diagrams.{DiagramRead, Diagram, size, strict, advance}
 use Rattle.definitions.specs.Pairs.{Automaton, stands, reached, pair, stageOf, nodeOf, reachedPairs}
 use Rattle.definitions.specs.Plans.{graph, automaton, variable}
-use Rattle.definitions.specs.Promises.{SweepSlices, SweepCall}
+use Rattle.definitions.specs.Promises.{SweepSlices, SweepCall, ReduceCall}
 use Rattle.definitions.specs.Reductions.{Tree, no-leaf, accepts, member, position}
 use Rattle.definitions.specs.declared.Answer.{Answer}
 use Rattle.theory.specs.Basics.{member-at, getD-map-upto, length-map-run}
@@ -33,6 +33,8 @@ use Rattle.reduction_theory.specs.Reduced.{trees-apart}
 use Rattle.reduction_theory.specs.Reduction.{tree-leaf, same-trees}
 use Rattle.reduction_theory.specs.Trees.{tree}
 use Rattle.reductions.specs.Reductions.{SameSets, sets-all}
+use Rattle.reductions.specs.Reduces.{held-strict}
+use Rattle.reductions.specs.Searches.{reducedFile, reduced-file, reduced-means}
 
 -- the node of a tree, among a diagram's nodes
 node-of : Diagram → Tree → ℕ
@@ -136,3 +138,14 @@ sweeps-count chart rules more lent lent′ r given given′ s promise other is-r
   where
     counted : Chart → Diagram → ℕ
     counted c d = length (reachedPairs (graph c) (automaton c d))
+
+-- So a file that every call takes and its own reduction have equal counts
+pub reduced-count : (chart rules out out′ : List ℕ) (r : Answer) (promise : ReduceCall chart rules out out′ r) (passed : r .number ≡ 0)
+    → (lent lent′ : SweepSlices) (a : Answer) (given given′ : SweepSlices) (b : Answer)
+    → SweepCall chart rules lent lent′ a → SweepCall chart (reducedFile chart rules out out′ r promise passed) given given′ b → Searched a → Searched b → a .count ≡ b .count
+reduced-count chart rules out out′ r promise passed lent lent′ a given given′ b first second is-a is-b =
+    let x = searched-passes chart rules (sweepCall lent lent′ a) (sweep-promised chart rules lent lent′ a first) is-a in
+    let held = held-strict chart rules (x .2 .files .rules-pass) in
+    let written = reduced-file chart rules out out′ r promise passed strict in
+    sweeps-count chart rules (reducedFile chart rules out out′ r promise passed) lent lent′ a given given′ b first second is-a is-b (λ s i.
+    ap (λ (y : DiagramRead). accepts (y .diagram) s) (sym held) ∙ sym (reduced-means chart rules out out′ r promise passed s) ∙ ap (λ (y : DiagramRead). accepts (y .diagram) s) (sym written))

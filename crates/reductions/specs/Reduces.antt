@@ -3,6 +3,7 @@
 use Prim.Native.Nat.{ℕ, _≤_, _<_}
 use mathlib.Core.Path.{_≡_, refl, sym, _∙_, subst}
 use mathlib.Core.List.{List}
+use mathlib.Core.Logic.{_↔_}
 use native.Mathlib.Omega.{arith}
 use lib.ListN.{length, drop}
 use Rattle.definitions.specs.Answers.{Load, ready, refused, readFiles, Filed}
@@ -14,9 +15,12 @@ use Rattle.definitions.specs.Reductions.{reduction}
 use Rattle.definitions.specs.declared.Answer.{Answer}
 use Rattle.theory.specs.Basics.{either, same-or-not}
 use Rattle.checks.specs.Outcome.{chart-refused, rules-refused, files-passed}
-use Rattle.demands.specs.Demands.{Refusal}
+use Rattle.diagram.specs.Accepted.{diagram-accepted, strict-lenient}
+use Rattle.field_writer.specs.Sizes.{diagram-long}
+use Rattle.demands.specs.Demands.{Refusal, rulesRead}
 use Rattle.demands.specs.Results.{refusal-is}
 use Rattle.demands.specs.Numbers.{files-own, lenient-own}
+use Rattle.reductions.specs.Reductions.{reduction-small, SameSets, reduction-exactly}
 use Rattle.reductions.specs.Written.{Written, filed-short, filed-written, filed-number, Ended, stops, filed-ended, ended-free, ended-left, ended-long, ended-rest}
 
 -- a diagram file, of which padding is taken, read for the chart of the chart file
@@ -89,16 +93,43 @@ module _ (chart rules out out′ : List ℕ) (r : Answer) (promise : ReduceCall 
     file-rest = ended-rest (bytes chart rules) out out′ r ends;
   }
 
-  -- 12 and 13 never come
-  other-numbers : (o : Load) → readFiles lenient chart rules ≡ o → (r .number ≡ 12 → ⊥) × (r .number ≡ 13 → ⊥)
+  -- 8, 12 and 13 never come
+  other-numbers : (o : Load) → readFiles lenient chart rules ≡ o → (r .number ≡ 8 → ⊥) × (r .number ≡ 12 → ⊥) × (r .number ≡ 13 → ⊥)
   other-numbers (refused n f p) e =
       let x = stopped n f p e .0 in
-      (λ q. files-own lenient chart rules n f p e .2 (sym (x .number) ∙ q), λ q. lenient-own chart rules n f p e (sym (x .number) ∙ q))
+      let own = files-own lenient chart rules n f p e in
+      (λ q. own .1 (sym (x .number) ∙ q), λ q. own .2 (sym (x .number) ∙ q), λ q. lenient-own chart rules n f p e (sym (x .number) ∙ q))
   other-numbers (ready c d) e =
-      either (filed-number (diagramBytes (reduction (length (c .steps)) d)) out out′ r (by e)) (λ z. (λ q. omega arith, λ q. omega arith)) (λ z. (λ q. omega arith, λ q. omega arith))
+      either (filed-number (diagramBytes (reduction (length (c .steps)) d)) out out′ r (by e)) (λ z. (λ q. omega arith, λ q. omega arith, λ q. omega arith))
+      (λ z. (λ q. omega arith, λ q. omega arith, λ q. omega arith))
+
+  pub never-eight : r .number ≡ 8 → ⊥
+  never-eight = other-numbers (readFiles lenient chart rules) refl .0
 
   pub never-large : r .number ≡ 12 → ⊥
-  never-large = other-numbers (readFiles lenient chart rules) refl .0
+  never-large = other-numbers (readFiles lenient chart rules) refl .1
 
   pub never-padded : r .number ≡ 13 → ⊥
-  never-padded = other-numbers (readFiles lenient chart rules) refl .1
+  never-padded = other-numbers (readFiles lenient chart rules) refl .2
+
+  -- and 7 not where 4,595 bytes are lent: a reduction has at most 510 nodes
+  pub always-room : 4595 ≤ length out → r .number ≡ 7 → ⊥
+  always-room h q =
+      either (same-or-not (readChart chart .number) 0)
+      (λ c. either (same-or-not (rulesHeld chart rules .number) 0)
+      (λ d. let f : Files chart rules = record { chart-passes = c; rules-pass = d } in
+      let sound = diagram-accepted lenient rules (length (readChart chart .chart .steps)) d in
+      omega (arith, q, filed-written (bytes chart rules) out out′ r (filed f) (omega (arith, diagram-long (made chart rules), reduction-small _ _ sound, sound .few)) .number))
+      (λ b. files-own lenient chart rules _ _ _ (rules-refused lenient chart rules c b) .0 (sym (rules-bad c b .0 .number) ∙ q)))
+      (λ b. files-own lenient chart rules _ _ _ (chart-refused lenient chart rules b) .0 (sym (chart-bad b .0 .number) ∙ q))
+
+-- Two files over one chart, padding aside accepted, have the same reduction, byte for byte, exactly if they say yes to the same sets of the chart's steps
+pub files-exactly : (chart rules more : List ℕ) → Files chart rules → Files chart more
+    → (bytes chart rules ≡ bytes chart more) ↔ SameSets (length (readChart chart .chart .steps)) (rulesHeld chart rules .diagram) (rulesHeld chart more .diagram)
+files-exactly chart rules more f g =
+    let n = length (readChart chart .chart .steps) in
+    reduction-exactly n (rulesHeld chart rules .diagram) (rulesHeld chart more .diagram) (diagram-accepted lenient rules n (f .rules-pass)) (diagram-accepted lenient more n (g .rules-pass))
+
+-- a file that is accepted strictly holds the same diagram when padding is taken
+pub held-strict : (chart rules : List ℕ) → rulesRead chart rules .number ≡ 0 → rulesHeld chart rules ≡ rulesRead chart rules
+held-strict chart rules = strict-lenient rules (length (readChart chart .chart .steps))

@@ -4,7 +4,7 @@
 use Prim.Native.Nat.{ℕ}
 use mathlib.Core.Path.{_≡_, refl, sym, _∙_, ap, subst}
 use mathlib.Core.Bool.{Bool, true, false}
-use mathlib.Core.List.{List}
+use mathlib.Core.List.{List, [], _∷_}
 use mathlib.Core.Logic.{_⊎_, inl, inr}
 use mathlib.Core.Option.{Option, none, some}
 use native.Mathlib.Omega.{arith}
@@ -12,18 +12,18 @@ use lib.ListN.{length, take}
 use Rattle.definitions.specs.Answers.{Load, ready, refused, readFiles, withSpace, load, spaceFits, refusal, Filed}
 use Rattle.definitions.specs.Bytes.{diagramBytes}
 use Rattle.definitions.specs.Charts.{Chart, readChart}
-use Rattle.definitions.specs.Diagrams.{Diagram, DiagramRead, strict, lenient}
+use Rattle.definitions.specs.Diagrams.{Diagram, DiagramRead, strict, lenient, readDiagram}
 use Rattle.definitions.specs.Plans.{graph, automaton, cheapest}
 use Rattle.definitions.specs.Pairs.{reachedPairs}
 use Rattle.definitions.specs.Promises.{Outcome, Swept, Guided, SweepSlices, sweepLoad, SweepCall, GuidedSlices, guidedLoad, GuidedCall, ReducePromise, ReduceCall}
-use Rattle.definitions.specs.Reductions.{reduction}
+use Rattle.definitions.specs.Reductions.{accepts, reduction}
 use Rattle.definitions.specs.declared.Answer.{Answer}
 use Rattle.theory.specs.Basics.{pick-true, pick-false, either, lt-or-le, same-or-not}
 use Rattle.theory.specs.Limits.{Sound}
 use Rattle.diagram.specs.Accepted.{diagram-accepted}
-use Rattle.checks.specs.Outcome.{files-passed}
+use Rattle.checks.specs.Outcome.{files-passed, load-ready}
 use Rattle.demands.specs.Demanded.{outcome-count}
-use Rattle.reductions.specs.Reductions.{reduction-read, reduction-twice, reduction-legal, reduction-cheapest}
+use Rattle.reductions.specs.Reductions.{reduction-accepts, reduction-read, reduction-twice, reduction-legal, reduction-cheapest}
 use Rattle.reductions.specs.Written.{Written, written-is}
 use Rattle.reductions.specs.Reduces.{rulesHeld, made, bytes, Files, Reduces, reduces}
 
@@ -87,12 +87,19 @@ module _ (chart rules out out′ : List ℕ) (r : Answer) (promise : ReduceCall 
   pub reduced-is : reducedFile ≡ bytes chart rules
   reduced-is = written-is (bytes chart rules) out out′ r (facts .written)
 
-  -- every call takes it, with the same chart, strictly or not
+  -- whichever file of a call it is, it is read as the reduction, strictly or not
+  pub reduced-file : (mode : Bool) → readDiagram mode reducedFile (length (c .steps)) ≡ record { number = 0; place = 0; diagram = made chart rules }
+  reduced-file mode = ap (λ (b : List ℕ). readDiagram mode b (length (c .steps))) reduced-is ∙ reduction-read (length (c .steps)) d sound mode
+
+  -- and that says yes to the sets to which the diagram of the given file says yes
+  pub reduced-means : (set : ℕ → Bool) → accepts (made chart rules) set ≡ accepts d set
+  reduced-means = reduction-accepts (length (c .steps)) d sound
+
+  -- so every call takes it, with the same chart
   pub reduced-ready : (mode : Bool) → readFiles mode chart reducedFile ≡ ready c (made chart rules)
   reduced-ready mode =
-      let read = reduction-read (length (c .steps)) d sound mode in
-      ap (readFiles mode chart) reduced-is ∙ files-passed mode chart (bytes chart rules) (facts .files .chart-passes) (ap (λ (x : DiagramRead). x .number) read)
-      ∙ ap (λ (x : DiagramRead). ready c (x .diagram)) read
+      files-passed mode chart reducedFile (facts .files .chart-passes) (ap (λ (x : DiagramRead). x .number) (reduced-file mode))
+      ∙ ap (λ (x : DiagramRead). ready c (x .diagram)) (reduced-file mode)
 
   -- to reduce it again writes the same file
   pub reduced-again : (out₂ out₂′ : List ℕ) (s : Answer) → ReduceCall chart reducedFile out₂ out₂′ s → Filed reducedFile out₂ out₂′ s
@@ -100,20 +107,16 @@ module _ (chart rules out out′ : List ℕ) (r : Answer) (promise : ReduceCall 
       subst (λ (b : List ℕ). Filed b out₂ out₂′ s) (ap diagramBytes (reduction-twice (length (c .steps)) d sound) ∙ sym reduced-is)
       (subst (λ (o : Load). ReducePromise o out₂ out₂′ s) (reduced-ready lenient) again)
 
-  loaded : (works : List ℕ) (plan : ℕ) → (load chart reducedFile works plan ≡ ready c (made chart rules)) ⊎ (load chart reducedFile works plan ≡ refused 7 0 0)
-  unfolding load
-  loaded works plan = go (spaceFits c (made chart rules) works plan) refl
-    where
-      go : (b : Bool) → spaceFits c (made chart rules) works plan ≡ b
-          → (withSpace works plan (readFiles strict chart reducedFile) ≡ ready c (made chart rules)) ⊎ (withSpace works plan (readFiles strict chart reducedFile) ≡ refused 7 0 0)
-      go true h = inl (ap (withSpace works plan) (reduced-ready strict) ∙ pick-true _ _ _ h)
-      go false h = inr (ap (withSpace works plan) (reduced-ready strict) ∙ pick-false _ _ _ h)
+  -- the lengths of the work slices and of the plan slice that a search is lent are too short for it
+  abbrev pub Short : List ℕ → ℕ → Type 0
+  Short works plan = spaceFits c (made chart rules) works plan ≡ false
 
   -- Both searches on it answer with the cheapest cost of the diagram that the given file holds and a plan that this diagram allows, or with 8 exactly where it allows
   -- none; or with 7, where their slices are too short
   pub sweep-held : (lent lent′ : SweepSlices) (s : Answer) → SweepCall chart reducedFile lent lent′ s
-      → Outcome (cheapest c d) c d (s .count) (lent .plan) (lent′ .plan) s ⊎ (s ≡ refusal 7 0 0 0)
-  sweep-held lent lent′ s t = either (loaded _ _) (λ o. inl (counted (length (reachedPairs (graph c) (automaton c (made chart rules)))) (by o .0))) (λ o. inr (by o .0))
+      → Outcome (cheapest c d) c d (s .count) (lent .plan) (lent′ .plan) s
+      ⊎ (Short (length (lent .cost) ∷ length (lent .via) ∷ length (lent .nodes) ∷ []) (length (lent .plan)) × (s ≡ refusal 7 0 0 0))
+  sweep-held lent lent′ s t = either (load-ready chart reducedFile c (made chart rules) (reduced-ready strict) _ _) (λ o. inl (counted (length (reachedPairs (graph c) (automaton c (made chart rules)))) (by o .0))) (λ o. inr (o .0, by (o .1) .0))
     where
       by : {o : Load} → sweepLoad chart reducedFile lent ≡ o → Swept o (lent .plan) (lent′ .plan) (lent .cost) (lent′ .cost) s
       by {o} q = subst (λ (x : Load). Swept x (lent .plan) (lent′ .plan) (lent .cost) (lent′ .cost) s) q (t .swept)
@@ -124,8 +127,12 @@ module _ (chart rules out out′ : List ℕ) (r : Answer) (promise : ReduceCall 
           subst (λ (j : ℕ). Outcome (cheapest c d) c d j (lent .plan) (lent′ .plan) s) (sym (outcome-count (cheapest c d) c d k (lent .plan) (lent′ .plan) s n)) n
 
   pub guided-held : (given given′ : GuidedSlices) (s : Answer) → GuidedCall chart reducedFile given given′ s
-      → Outcome (cheapest c d) c d (s .count) (given .plan) (given′ .plan) s ⊎ (s ≡ refusal 7 0 0 0)
-  guided-held given given′ s t = either (loaded _ _) (λ o. inl (outcome-held c d sound (s .count) (given .plan) (given′ .plan) s (by o .0))) (λ o. inr (by o .0))
+      → Outcome (cheapest c d) c d (s .count) (given .plan) (given′ .plan) s
+      ⊎ (Short (length (given .keys) ∷ length (given .via) ∷ length (given .heap) ∷ length (given .pos) ∷ length (given .stack) ∷ length (given .log) ∷ []) (length (given .plan))
+      × (s ≡ refusal 7 0 0 0))
+  guided-held given given′ s t =
+      either (load-ready chart reducedFile c (made chart rules) (reduced-ready strict) _ _)
+      (λ o. inl (outcome-held c d sound (s .count) (given .plan) (given′ .plan) s (by o .0))) (λ o. inr (o .0, by (o .1) .0))
     where
       by : {o : Load} → guidedLoad chart reducedFile given ≡ o → Guided o (given .plan) (given′ .plan) (given .log) (given′ .log) s
       by {o} q = subst (λ (x : Load). Guided x (given .plan) (given′ .plan) (given .log) (given′ .log) s) q (t .guided)

@@ -20,7 +20,7 @@ fn chain(w: u32) -> usize
     w as usize * 2654435769 / 8388608 % 512
 }
 
-// The number of a node, or 0 where the table lacks it.
+// The number of a node, or one below 2 where the table lacks it.
 pub fn find<'a>(nodes: &'a [u32; 512], chains: &'a [u16; 1024], w: u32) -> usize
     requires { ⌜ Table (uniqueTable (now nodes) (now chains)) ⌝ }
     ensures { λ r. ⌜ Finds (uniqueTable (now (nodes .entry)) (now (chains .entry))) w r ⌝ }
