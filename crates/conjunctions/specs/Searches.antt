@@ -3,9 +3,7 @@
 -- Assumes nothing.
 use Prim.Native.Nat.{ℕ, _≤_}
 use mathlib.Core.Path.{_≡_, refl, sym, _∙_, ap, subst}
-use mathlib.Core.Bool.{Bool, true, false}
 use mathlib.Core.List.{List}
-use mathlib.Core.Logic.{_⊎_, inl, inr}
 use mathlib.Core.Option.{Option, none, some}
 use native.Mathlib.Omega.{arith}
 use lib.ListN.{length, take}
@@ -13,11 +11,11 @@ use Rattle.definitions.specs.Charts.{Chart, readChart}
 use Rattle.definitions.specs.Diagrams.{Diagram, strict, DiagramRead}
 use Rattle.definitions.specs.Ways.{wayCost}
 use Rattle.definitions.specs.Plans.{graph, Legal, cheapest}
-use Rattle.definitions.specs.Answers.{Load, ready, refused, readFiles, withSpace, load, spaceFits, refusal}
+use Rattle.definitions.specs.Answers.{Load, ready, readFiles, refusal}
 use Rattle.definitions.specs.Bytes.{diagramBytes}
 use Rattle.definitions.specs.Promises.{Outcome, Swept, Guided, SweepSlices, sweepLoad, SweepCall, GuidedSlices, guidedLoad, GuidedCall, ConjoinSlices, ConjoinCall}
 use Rattle.definitions.specs.declared.Answer.{Answer}
-use Rattle.theory.specs.Basics.{pick-true, pick-false, either, lt-or-le, same-or-not}
+use Rattle.theory.specs.Basics.{either, lt-or-le, same-or-not}
 use Rattle.theory.specs.Least.{IsLeast}
 use Rattle.theory.specs.Limits.{Sound, Valid}
 use Rattle.chart.specs.Accepted.{chart-accepted}

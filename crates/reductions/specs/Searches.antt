@@ -2,14 +2,14 @@
 -- back, and a search on it answers as the diagram of the given file, padding and all, calls for.
 -- Assumes nothing.
 use Prim.Native.Nat.{ℕ}
-use mathlib.Core.Path.{_≡_, refl, sym, _∙_, ap, subst}
-use mathlib.Core.Bool.{Bool, true, false}
+use mathlib.Core.Path.{_≡_, sym, _∙_, ap, subst}
+use mathlib.Core.Bool.{Bool, false}
 use mathlib.Core.List.{List, [], _∷_}
 use mathlib.Core.Logic.{_⊎_, inl, inr}
 use mathlib.Core.Option.{Option, none, some}
 use native.Mathlib.Omega.{arith}
 use lib.ListN.{length, take}
-use Rattle.definitions.specs.Answers.{Load, ready, refused, readFiles, withSpace, load, spaceFits, refusal, Filed}
+use Rattle.definitions.specs.Answers.{Load, ready, readFiles, spaceFits, refusal, Filed}
 use Rattle.definitions.specs.Bytes.{diagramBytes}
 use Rattle.definitions.specs.Charts.{Chart, readChart}
 use Rattle.definitions.specs.Diagrams.{Diagram, DiagramRead, strict, lenient, readDiagram}
@@ -18,7 +18,7 @@ use Rattle.definitions.specs.Pairs.{reachedPairs}
 use Rattle.definitions.specs.Promises.{Outcome, Swept, Guided, SweepSlices, sweepLoad, SweepCall, GuidedSlices, guidedLoad, GuidedCall, ReducePromise, ReduceCall}
 use Rattle.definitions.specs.Reductions.{accepts, reduction}
 use Rattle.definitions.specs.declared.Answer.{Answer}
-use Rattle.theory.specs.Basics.{pick-true, pick-false, either, lt-or-le, same-or-not}
+use Rattle.theory.specs.Basics.{either, lt-or-le, same-or-not}
 use Rattle.theory.specs.Limits.{Sound}
 use Rattle.diagram.specs.Accepted.{diagram-accepted}
 use Rattle.checks.specs.Outcome.{files-passed, load-ready}
