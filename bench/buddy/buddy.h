@@ -1,4 +1,4 @@
-/* The conjunction of two diagram files by BuDDy. */
+/* The conjunction of two diagram files, and the reduction of one, by BuDDy. */
 #ifndef BUDDY_H
 #define BUDDY_H
 
@@ -7,7 +7,7 @@
 /* The numbers of a conjunction: accepted, or the reduced diagram has more than 510 inner nodes. */
 enum { ACCEPTED = 0, TOO_MANY_NODES = 12 };
 
-/* What a conjunction gives: a number and, where that is 0, a file. */
+/* What a conjunction or a reduction gives: a number and, where that is 0, a file. */
 typedef struct outcome {
     unsigned number;
     size_t len;

@@ -64,8 +64,8 @@ static void some_alike(diagram *d, random_state *r, int nodes)
     tree(d, steps, depth, leaves);
 }
 
-/* A diagram over the chart's steps, at most so many nodes. */
-static void some_diagram(diagram *d, random_state *r, int steps, int nodes)
+/* A diagram over the chart's steps, at most so many nodes; some of them may be padding. */
+static void any_diagram(diagram *d, random_state *r, int steps, int nodes)
 {
     static void (*const shapes[])(diagram *, random_state *, int) = {
         some_chain, some_count, some_parity, some_needs, some_alike, layered, layered, tangled, tangled};
@@ -75,6 +75,14 @@ static void some_diagram(diagram *d, random_state *r, int steps, int nodes)
         return;
     }
     shapes[below(r, sizeof shapes / sizeof shapes[0])](d, r, nodes);
+}
+
+/* The same without padding. */
+static void some_diagram(diagram *d, random_state *r, int steps, int nodes)
+{
+    diagram any;
+    any_diagram(&any, r, steps, nodes);
+    stripped(d, &any);
 }
 
 /* ---- pairs ---- */
@@ -108,44 +116,43 @@ static void constant(pair_case *c, random_state *r, int steps, int nodes)
     c->second.root = (unsigned)below(r, 2);
 }
 
-/* The same again, with nodes to spare; rarely with another verdict at one edge. */
-static void padded_equal(pair_case *c, random_state *r, int steps, int nodes)
+/* The same again, with nodes to spare. */
+static void strewn_equal(pair_case *c, random_state *r, int steps, int nodes)
 {
     some_diagram(&c->first, r, steps, nodes);
-    padded(&c->second, r, &c->first);
-    if (c->second.inner > 0 && chance(r, 1, 4)) {
-        c->second.nodes[below(r, c->second.inner)].lo = (uint16_t)below(r, 2);
-    }
+    strewn(&c->second, r, &c->first);
 }
 
-static void padded_opposed(pair_case *c, random_state *r, int steps, int nodes)
+static void strewn_opposed(pair_case *c, random_state *r, int steps, int nodes)
 {
     diagram opposite;
     some_diagram(&c->first, r, steps, nodes);
     complement(&opposite, &c->first);
-    padded(&c->second, r, &opposite);
+    strewn(&c->second, r, &opposite);
 }
 
-static void padded_both(pair_case *c, random_state *r, int steps, int nodes)
+static void strewn_both(pair_case *c, random_state *r, int steps, int nodes)
 {
     diagram first, second;
     some_diagram(&first, r, steps, nodes);
     some_diagram(&second, r, steps, nodes);
-    padded(&c->first, r, &first);
-    padded(&c->second, r, &second);
+    strewn(&c->first, r, &first);
+    strewn(&c->second, r, &second);
 }
 
 /* One node, or one edge, of the second is another. */
 static void nearly_equal(pair_case *c, random_state *r, int steps, int nodes)
 {
+    diagram other;
     some_diagram(&c->first, r, steps, nodes);
-    c->second = c->first;
-    if (c->second.inner > 0) {
-        node *n = &c->second.nodes[below(r, c->second.inner)];
+    other = c->first;
+    if (other.inner > 0) {
+        node *n = &other.nodes[below(r, other.inner)];
         uint16_t lo = n->lo;
         n->lo = chance(r, 1, 2) ? n->hi : (uint16_t)below(r, 2);
         n->hi = chance(r, 1, 2) ? lo : n->hi;
     }
+    stripped(&c->second, &other);
 }
 
 /* Chains of different steps: the result has as many nodes as both together, which is the limit or near it. */
@@ -178,35 +185,19 @@ static const int *steps_from(int first)
     return steps;
 }
 
-/*
- * About half of all pairs are reached, and files of 510 nodes cannot reach many more: each node of a chain beside each
- * of 255 alike nodes that a tree leads to. Nothing of the tree is left in the result.
- */
-static void alike_by_chain(pair_case *c, random_state *r, int steps, int nodes)
-{
-    unsigned leaves[1 << 8];
-    int count = smaller(nodes, steps - 9), i;
-    if (count < 1) {
-        equal(c, r, steps, nodes);
-        return;
-    }
-    clear(&c->first, steps);
-    clear(&c->second, steps);
-    for (i = 0; i < 1 << 8; i++) {
-        leaves[i] = i == 255 ? leaves[254] : add(&c->first, steps - 1, 0, 1);
-    }
-    tree(&c->first, steps_from(0), 8, leaves);
-    chain(&c->second, r, steps_from(8), smaller(count, MOST_INNER - 1), below(r, 4), 1);
-}
+/* What a tree and a chain have to do with each other. */
+enum { EXCLUDED, IMPLIED, OPEN };
 
 /*
- * As many pairs without doubles. The chain ends at a last step that must be there, the other file at the same step,
- * which must be absent: no set passes both, and only the last step shows it. With `open` the last step is left out, and
- * the result has a node for each pair.
+ * About half of all pairs are reached, and files of 510 nodes cannot reach many more: each node of a chain beside each
+ * of 255 nodes that a tree leads to. The chain ends at a last step that must be there. EXCLUDED: all ends of the tree
+ * say that it must be absent, so that no set passes both, and only the last step shows it. IMPLIED: they all say yes
+ * where it is there, so that the chain is the result. OPEN: the last step is left out, and the result has a node for
+ * each pair.
  */
-static void tree_by_chain(pair_case *c, random_state *r, int steps, int nodes, int open)
+static void tree_by_chain(pair_case *c, random_state *r, int steps, int nodes, int how)
 {
-    unsigned leaves[1 << 8];
+    unsigned leaves[1 << 8], rest = how == IMPLIED;
     int last = steps - 1, i;
     int count = smaller(nodes, smaller(last - 262, MOST_INNER - 1));
     if (count < 1) {
@@ -215,23 +206,28 @@ static void tree_by_chain(pair_case *c, random_state *r, int steps, int nodes, i
     }
     clear(&c->first, steps);
     clear(&c->second, steps);
-    chain(&c->second, r, steps_from(8), count, SOME_OF, open ? 1 : add(&c->second, last, 0, 1));
-    leaves[0] = open ? 1 : add(&c->first, last, 1, 0);
+    chain(&c->second, r, steps_from(8), count, SOME_OF, how == OPEN ? 1 : add(&c->second, last, 0, 1));
+    leaves[0] = how == OPEN ? 1 : how == IMPLIED ? add(&c->first, last, 0, 1) : add(&c->first, last, 1, 0);
     for (i = 1; i < 255; i++) {
-        leaves[i] = add(&c->first, last - i, i == 1 ? 0 : leaves[i - 1], leaves[0]);
+        leaves[i] = add(&c->first, last - i, i == 1 ? rest : leaves[i - 1], leaves[0]);
     }
-    leaves[255] = 0;
+    leaves[255] = rest;
     tree(&c->first, steps_from(0), 8, leaves);
 }
 
 static void contradiction(pair_case *c, random_state *r, int steps, int nodes)
 {
-    tree_by_chain(c, r, steps, nodes, 0);
+    tree_by_chain(c, r, steps, nodes, EXCLUDED);
+}
+
+static void implication(pair_case *c, random_state *r, int steps, int nodes)
+{
+    tree_by_chain(c, r, steps, nodes, IMPLIED);
 }
 
 static void beyond_limit(pair_case *c, random_state *r, int steps, int nodes)
 {
-    tree_by_chain(c, r, steps, nodes, 1);
+    tree_by_chain(c, r, steps, nodes, OPEN);
 }
 
 typedef struct kind {
@@ -245,13 +241,13 @@ static const kind kinds[] = {
     {"equal", equal, 2},
     {"complement", opposed, 2},
     {"constant", constant, 2},
-    {"padded equal", padded_equal, 3},
-    {"padded complement", padded_opposed, 2},
-    {"padded both", padded_both, 4},
+    {"strewn equal", strewn_equal, 3},
+    {"strewn complement", strewn_opposed, 2},
+    {"strewn both", strewn_both, 4},
     {"nearly equal", nearly_equal, 4},
     {"at the limit", at_the_limit, 3},
-    {"alike by chain", alike_by_chain, 1},
     {"contradiction", contradiction, 1},
+    {"implication", implication, 1},
     {"beyond the limit", beyond_limit, 1},
 };
 
@@ -278,6 +274,25 @@ static void write_either(file *f, const diagram *d, random_state *r)
     }
 }
 
+/* A diagram to be reduced: the first one padded, rarely with another verdict at one edge, or any other. */
+static void make_drawer(pair_case *c, random_state *r)
+{
+    diagram other;
+    if (chance(r, 1, 4)) {
+        any_diagram(&c->third, r, c->first.steps, draw_size(r, MOST_INNER));
+    } else {
+        padded(&c->third, r, &c->first);
+    }
+    if (c->third.inner > 0 && chance(r, 1, 8)) {
+        c->third.nodes[below(r, c->third.inner)].lo = (uint16_t)below(r, 2);
+    }
+    if (chance(r, 1, 3)) {
+        other = c->third;
+        shuffled(&c->third, r, &other);
+    }
+    write_either(&c->drawer, &c->third, r);
+}
+
 /* Files 2 and 3 may change places, and a file's nodes their order. */
 static void write_case(pair_case *c, random_state *r)
 {
@@ -294,6 +309,7 @@ static void write_case(pair_case *c, random_state *r)
     write_chart(&c->chart, r, c->first.steps);
     write_either(&c->rules, &c->first, r);
     write_either(&c->more, &c->second, r);
+    make_drawer(c, r);
 }
 
 void make_case(pair_case *c, uint64_t seed, int number)
@@ -404,30 +420,20 @@ static void complements(pair_case *c, random_state *r)
     complement(&c->second, &c->first);
 }
 
-/* Each file is twice as long as it need be. */
-static void padded_files(pair_case *c, random_state *r)
-{
-    diagram reduced;
-    needs_by_needs(c, r, MOST_STEPS, 60);
-    reduced = c->first;
-    padded(&c->first, r, &reduced);
-    reduced = c->second;
-    padded(&c->second, r, &reduced);
-}
-
 static void two_layered(pair_case *c, random_state *r)
 {
-    clear(&c->first, MOST_STEPS);
-    clear(&c->second, MOST_STEPS);
-    layered(&c->first, r, MOST_INNER);
-    layered(&c->second, r, MOST_INNER);
+    diagram any;
+    clear(&any, MOST_STEPS);
+    layered(&any, r, MOST_INNER);
+    stripped(&c->first, &any);
+    clear(&any, MOST_STEPS);
+    layered(&any, r, MOST_INNER);
+    stripped(&c->second, &any);
 }
 
-static void worst_alike(pair_case *c, random_state *r)
+static void worst_implied(pair_case *c, random_state *r)
 {
-    alike_by_chain(c, r, MOST_STEPS, MOST_INNER);
-    clear(&c->second, MOST_STEPS);
-    chain(&c->second, r, steps_from(8), MOST_INNER - 1, ALL_OF, 1);
+    implication(c, r, MOST_STEPS, MOST_INNER);
 }
 
 static void worst_reduced(pair_case *c, random_state *r)
@@ -448,14 +454,13 @@ static const struct {
     {"constants: reading alone", two_constants},
     {"5 needs x 5 needs", few_needs},
     {"60 needs x 60 needs", many_needs},
-    {"the same, padded", padded_files},
     {"at most 4 x parity of 40", count_by_parity},
     {"at most 4 of 100 x 4 of 50", count_by_count},
     {"chain 255 x chain 255", chains},
     {"equal files, parity of 255", equal_files},
     {"complements, parity of 255", complements},
     {"random layers x random layers", two_layered},
-    {"255 alike x chain 509", worst_alike},
+    {"tree x chain 509, chain implies", worst_implied},
     {"tree x chain 509, contradiction", worst_reduced},
     {"tree x chain 509, refused (12)", worst_refused},
 };
@@ -473,4 +478,80 @@ void make_timed(pair_case *c, int number)
     write_chart(&c->chart, &r, c->first.steps);
     write_diagram(&c->rules, &c->first);
     write_diagram(&c->more, &c->second);
+}
+
+/* ---- timed reductions ---- */
+
+/* The example's rule with nodes that it doesn't need. */
+static void padded_example(diagram *d, random_state *r)
+{
+    diagram rule;
+    clear(&rule, 6);
+    add(&rule, 0, 1, add(&rule, 2, 0, 1));
+    padded(d, r, &rule);
+}
+
+/* Twice as long as it need be. */
+static void padded_needs(diagram *d, random_state *r)
+{
+    int drawn[MOST_STEPS];
+    diagram rule;
+    clear(&rule, MOST_STEPS);
+    draw_steps(r, 0, MOST_STEPS, 240, drawn);
+    needs(&rule, r, drawn, 120);
+    padded(d, r, &rule);
+}
+
+static void alike_leaves(diagram *d, random_state *r)
+{
+    unsigned leaves[1 << 8];
+    int i;
+    (void)r;
+    clear(d, MOST_STEPS);
+    for (i = 0; i < 1 << 8; i++) {
+        leaves[i] = i == 255 ? leaves[254] : add(d, MOST_STEPS - 1, 0, 1);
+    }
+    tree(d, steps_from(0), 8, leaves);
+}
+
+static void reduced_already(diagram *d, random_state *r)
+{
+    (void)r;
+    full_parity(d);
+}
+
+static void idle_tests(diagram *d, random_state *r)
+{
+    unsigned next = 1;
+    int i;
+    (void)r;
+    clear(d, MOST_STEPS);
+    for (i = MOST_INNER - 1; i >= 0; i--) {
+        next = add(d, 2 * i, next, next);
+    }
+}
+
+static const struct {
+    const char *name;
+    void (*make)(diagram *, random_state *);
+} reductions[] = {
+    {"example chart, a padded rule", padded_example},
+    {"120 needs, padded", padded_needs},
+    {"tree with 255 alike leaves", alike_leaves},
+    {"parity of 255, reduced already", reduced_already},
+    {"510 tests that change nothing", idle_tests},
+};
+
+int timed_reductions(void)
+{
+    return (int)(sizeof reductions / sizeof reductions[0]);
+}
+
+void make_timed_reduction(pair_case *c, int number)
+{
+    random_state r = random_of(1, 1);
+    c->name = reductions[number].name;
+    reductions[number].make(&c->third, &r);
+    write_chart(&c->chart, &r, c->third.steps);
+    write_diagram(&c->drawer, &c->third);
 }

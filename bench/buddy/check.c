@@ -23,11 +23,12 @@ static uint8_t buffer[MOST_FILE + GUARD];
 /* A call, with the lengths of what it is lent and what it must give. */
 typedef struct call {
     const char *label, *name;
-    const file *chart, *rules, *more;
+    const file *chart, *rules, *more; /* without `more` it is a reduction */
     size_t work_len, file_len;
     size_t work_free; /* entries that may change */
     unsigned number;
-    const outcome *result; /* what the buffer must hold under number 0 */
+    size_t at_file, at_place; /* of the field at fault */
+    const outcome *result;    /* what the buffer must hold under number 0 */
 } call;
 
 static int differs(const call *c, const char *what, size_t got, size_t wanted)
@@ -47,8 +48,8 @@ static int check_answer(const call *c, uint32_t returned, const planner_answer *
     size_t len = c->number == ACCEPTED ? c->result->len : 0;
     return returned != c->number    ? differs(c, "the number returned", returned, c->number)
            : a->number != c->number ? differs(c, "the answer's number", a->number, c->number)
-           : a->file != 0           ? differs(c, "the answer's file", a->file, 0)
-           : a->place != 0          ? differs(c, "the answer's place", a->place, 0)
+           : a->file != c->at_file  ? differs(c, "the answer's file", a->file, c->at_file)
+           : a->place != c->at_place ? differs(c, "the answer's place", a->place, c->at_place)
            : a->cost != 0           ? differs(c, "the answer's cost", a->cost, 0)
            : a->length != len       ? differs(c, "the answer's length", a->length, len)
            : a->count != 0          ? differs(c, "the answer's count", a->count, 0)
@@ -88,8 +89,13 @@ static int check_call(const call *c)
     for (i = 0; i < c->work_len + GUARD; i++) {
         work[i] = WORK_FILL;
     }
-    returned = planner_conjoin(c->chart->bytes, c->chart->len, c->rules->bytes, c->rules->len, c->more->bytes,
-                               c->more->len, work, c->work_len, buffer, c->file_len, &answer);
+    if (c->more == NULL) {
+        returned = planner_reduce(c->chart->bytes, c->chart->len, c->rules->bytes, c->rules->len, buffer, c->file_len,
+                                  &answer);
+    } else {
+        returned = planner_conjoin(c->chart->bytes, c->chart->len, c->rules->bytes, c->rules->len, c->more->bytes,
+                                   c->more->len, work, c->work_len, buffer, c->file_len, &answer);
+    }
     return check_answer(c, returned, &answer) || check_slices(c);
 }
 
@@ -105,15 +111,22 @@ static int check_exchanged(call c, size_t pairs)
     return check_call(&c);
 }
 
+/* What was written, as a file to be read again. */
+static const file *read_again(const outcome *o)
+{
+    static file result;
+    result.len = o->len;
+    memcpy(result.bytes, o->bytes, result.len);
+    return &result;
+}
+
 /* The result under the first file is the result: its file is read again. */
 static int check_again(call c, const pair_case *p)
 {
-    static file result;
+    const file *result = read_again(c.result);
     c.name = "the result and file 2";
-    result.len = c.result->len;
-    memcpy(result.bytes, c.result->bytes, result.len);
-    c.more = &result;
-    c.work_free = ((size_t)p->first.inner + 2) * ((result.len - 5) / 9 + 2);
+    c.more = result;
+    c.work_free = ((size_t)p->first.inner + 2) * ((result->len - 5) / 9 + 2);
     return check_call(&c);
 }
 
@@ -135,11 +148,18 @@ static int check_short_file(call c)
     return check_call(&c);
 }
 
-/* BuDDy's result, its length held against BuDDy's own count of nodes. */
-static int expect(const pair_case *p, const char *label, outcome *expected, int *inner)
+/* BuDDy's result, a conjunction or without `more` a reduction, its length held against BuDDy's own count of nodes. */
+static int expect(const char *label, const file *rules, const file *more, outcome *expected, int *inner)
 {
+    int root;
     buddy_keep_room(MADE_AT_MOST);
-    *inner = buddy_inner(buddy_conjoin(expected, &p->rules, &p->more));
+    if (more == NULL) {
+        root = buddy_read(rules);
+        buddy_write(expected, root);
+    } else {
+        root = buddy_conjoin(expected, rules, more);
+    }
+    *inner = buddy_inner(root);
     buddy_expect_no_collection();
     if ((*inner > MOST_INNER) != (expected->number == TOO_MANY_NODES) ||
         (*inner <= MOST_INNER && expected->len != 5 + 9 * (size_t)*inner)) {
@@ -153,8 +173,8 @@ int check_case(const pair_case *p, const char *label, int *inner)
 {
     static outcome expected;
     size_t pairs = (size_t)(p->first.inner + 2) * (size_t)(p->second.inner + 2);
-    call c = {label, "enough lent", &p->chart, &p->rules, &p->more, MOST_PAIRS, MOST_FILE, pairs, 0, &expected};
-    if (expect(p, label, &expected, inner)) {
+    call c = {label, "enough lent", &p->chart, &p->rules, &p->more, MOST_PAIRS, MOST_FILE, pairs, 0, 0, 0, &expected};
+    if (expect(label, &p->rules, &p->more, &expected, inner)) {
         return 1;
     }
     c.number = expected.number;
@@ -162,14 +182,83 @@ int check_case(const pair_case *p, const char *label, int *inner)
            (c.number == ACCEPTED && check_again(c, p));
 }
 
+/* Where a node's field stands in a file. */
+static size_t place_of(const file *f, int at)
+{
+    size_t place = 5;
+    while (f->bytes[place] != DIAGRAM_NODE || at-- > 0) {
+        place += 3 + two_bytes(f->bytes + place + 1);
+    }
+    return place;
+}
+
+/* A conjunction refuses a padded file, as file 2 and as file 3. */
+static int check_padded(call c, const pair_case *p, int padding)
+{
+    c.name = "padded file 2";
+    c.more = &p->rules;
+    c.work_len = MOST_PAIRS;
+    c.number = PLANNER_PADDED;
+    c.at_file = 2;
+    c.at_place = place_of(&p->drawer, padding);
+    if (check_call(&c)) {
+        return 1;
+    }
+    c.name = "padded file 3";
+    c.rules = &p->rules;
+    c.more = &p->drawer;
+    c.at_file = 3;
+    return check_call(&c);
+}
+
+/* What was reduced is reduced, in just the bytes that are needed. */
+static int check_reduced_again(call c)
+{
+    c.name = "reduced again";
+    c.rules = read_again(c.result);
+    c.file_len = c.result->len;
+    return check_call(&c);
+}
+
+int check_reduction(const pair_case *p, const char *label, int *inner)
+{
+    static outcome expected;
+    call c = {label, "reduced", &p->chart, &p->drawer, NULL, 0, MOST_FILE, 0, ACCEPTED, 0, 0, &expected};
+    if (expect(label, &p->drawer, NULL, &expected, inner)) {
+        return 1;
+    }
+    return check_call(&c) || check_short_file(c) || check_reduced_again(c);
+}
+
+/* Both, and that padding is refused where it may not be. */
+static int check_all(const pair_case *p, const char *label, int *inner, int *reduced)
+{
+    static const outcome nothing;
+    call c = {label, "", &p->chart, &p->drawer, NULL, 0, MOST_FILE, 0, 0, 0, 0, &nothing};
+    int padding = first_padding(&p->third);
+    return check_case(p, label, inner) || check_reduction(p, label, reduced) ||
+           (padding >= 0 && check_padded(c, p, padding));
+}
+
 /* What the cases came to. */
 typedef struct tally {
     int cases, constant, accepted, limit, just_refused, refused, most_pairs;
+    int padded, same, most_left_out; /* of the files that are reduced */
 } tally;
 
-static void count_case(tally *t, const pair_case *p, int inner)
+/* Whether a file is reduced to what another is reduced to. */
+static int mean_the_same(const file *a, const file *b)
 {
-    int pairs = reached_pairs(&p->first, &p->second);
+    buddy_keep_room(4 * MOST_NODES);
+    return buddy_read(a) == buddy_read(b);
+}
+
+static void count_case(tally *t, const pair_case *p, int inner, int reduced)
+{
+    int pairs = reached_pairs(&p->first, &p->second), left_out = p->third.inner - reduced;
+    t->padded += first_padding(&p->third) >= 0;
+    t->same += mean_the_same(&p->rules, &p->drawer);
+    t->most_left_out = left_out > t->most_left_out ? left_out : t->most_left_out;
     t->cases++;
     t->constant += inner == 0;
     t->accepted += 0 < inner && inner <= MOST_INNER;
@@ -182,12 +271,16 @@ static void count_case(tally *t, const pair_case *p, int inner)
 /* 1 where many cases leave out a corner. */
 static int print_tally(const tally *t, int different)
 {
-    int all_corners = t->constant > 0 && t->limit > 0 && t->just_refused > 0 && t->most_pairs >= 130000;
+    int all_corners = t->constant > 0 && t->limit > 0 && t->just_refused > 0 && t->most_pairs >= 130000 &&
+                      t->padded > t->cases / 2 && t->same > t->cases / 2 && t->most_left_out >= 500;
     printf("%d cases compared, %d differ. Results: %d constant, %d with 1 to 510 nodes (%d with 510),\n"
-           "%d refused with 12 (%d with 511). Up to %d pairs of inner nodes reached.\n",
-           t->cases, different, t->constant, t->accepted, t->limit, t->refused, t->just_refused, t->most_pairs);
+           "%d refused with 12 (%d with 511). Up to %d pairs of inner nodes reached.\n"
+           "As many files reduced, %d of them padded, up to %d nodes left out; %d mean the same as file 2.\n",
+           t->cases, different, t->constant, t->accepted, t->limit, t->refused, t->just_refused, t->most_pairs,
+           t->padded, t->most_left_out, t->same);
     if (t->cases >= 1000 && !all_corners && different == 0) {
-        puts("The cases fall short of a corner: a constant, 510 nodes, 511 nodes or 130,000 pairs.");
+        puts("The cases fall short of a corner: a constant, 510 nodes, 511 nodes, 130,000 pairs, padded files, files\n"
+             "that mean the same, or 500 nodes left out.");
         return 1;
     }
     return 0;
@@ -209,23 +302,24 @@ static void save_case(const char *folder, const pair_case *p)
     save_file(folder, "chart.bin", &p->chart);
     save_file(folder, "rules.bin", &p->rules);
     save_file(folder, "more.bin", &p->more);
-    printf("  saved in %s: chart.bin, rules.bin, more.bin\n", folder);
+    save_file(folder, "drawer.bin", &p->drawer);
+    printf("  saved in %s: chart.bin, rules.bin, more.bin, and drawer.bin, which is reduced\n", folder);
 }
 
 int check_cases(uint64_t seed, int first, int end, const char *save)
 {
     static pair_case p;
-    tally t = {0, 0, 0, 0, 0, 0, 0};
+    tally t = {0, 0, 0, 0, 0, 0, 0, 0, 0, 0};
     char label[100];
-    int different = 0, inner, i;
+    int different = 0, inner, reduced = 0, i;
     buddy_start(4 * MADE_AT_MOST, CACHE, MOST_STEPS);
     for (i = first; i < end && different < MOST_DIFFERENCES; i++) {
         make_case(&p, seed, i);
         snprintf(label, sizeof label, "seed %llu case %d (%s)", (unsigned long long)seed, i, p.name);
-        if (check_case(&p, label, &inner) && different++ == 0 && save != NULL) {
+        if (check_all(&p, label, &inner, &reduced) && different++ == 0 && save != NULL) {
             save_case(save, &p);
         }
-        count_case(&t, &p, inner);
+        count_case(&t, &p, inner, reduced);
     }
     buddy_end();
     return different + print_tally(&t, different);

@@ -12,9 +12,12 @@
 int check_cases(uint64_t seed, int first, int end, const char *save);
 
 /*
- * Compares one case; BuDDy has been started. 0 where both agree; else the difference is told, with the case's label.
- * `inner` gets the number of inner nodes of BuDDy's result.
+ * Compares the conjunction of one case; BuDDy has been started. 0 where both agree; else the difference is told, with
+ * the case's label. `inner` gets the number of inner nodes of BuDDy's result.
  */
 int check_case(const pair_case *p, const char *label, int *inner);
+
+/* The same of the reduction of its padded file. */
+int check_reduction(const pair_case *p, const char *label, int *inner);
 
 #endif

@@ -29,6 +29,41 @@ static unsigned add_needed(diagram *d, int step, unsigned lo, unsigned hi)
     return add(d, step, lo, hi);
 }
 
+/* Where a node stands among the first `count`; -1 if it doesn't. */
+static int find(const diagram *d, node n, int count)
+{
+    int i;
+    for (i = 0; i < count; i++) {
+        if (d->nodes[i].step == n.step && d->nodes[i].lo == n.lo && d->nodes[i].hi == n.hi) {
+            return i;
+        }
+    }
+    return -1;
+}
+
+/* As `add_needed`, but no node like an earlier one. */
+static unsigned add_once(diagram *d, int step, unsigned lo, unsigned hi)
+{
+    node n = {(uint16_t)step, (uint16_t)lo, (uint16_t)hi};
+    int known = find(d, n, d->inner);
+    if (known >= 0) {
+        d->root = (unsigned)known + 2;
+        return d->root;
+    }
+    return add_needed(d, step, lo, hi);
+}
+
+int first_padding(const diagram *d)
+{
+    int i;
+    for (i = 0; i < d->inner; i++) {
+        if (d->nodes[i].lo == d->nodes[i].hi || find(d, d->nodes[i], i) >= 0) {
+            return i;
+        }
+    }
+    return -1;
+}
+
 int step_of(const diagram *d, unsigned ref)
 {
     return ref < 2 ? d->steps : d->nodes[ref - 2].step;
@@ -195,6 +230,34 @@ void padded(diagram *d, random_state *r, const diagram *from)
         }
     }
     d->root = copies[from->root][1];
+}
+
+/* Without padding, and with up to `spare` nodes that are not arrived at. */
+static void once_each(diagram *d, random_state *r, const diagram *from, int spare)
+{
+    unsigned moved[MOST_NODES] = {0, 1};
+    int i;
+    clear(d, from->steps);
+    for (i = 0; i < from->inner; i++) {
+        node n = from->nodes[i];
+        unsigned lo = moved[n.lo], hi = moved[n.hi];
+        if (spare > 0 && chance(r, 1, 2)) {
+            add_once(d, n.step, lo, hi == 1 ? 0 : 1);
+            spare--;
+        }
+        moved[i + 2] = add_once(d, n.step, lo, hi);
+    }
+    d->root = moved[from->root];
+}
+
+void stripped(diagram *d, const diagram *from)
+{
+    once_each(d, NULL, from, 0);
+}
+
+void strewn(diagram *d, random_state *r, const diagram *from)
+{
+    once_each(d, r, from, MOST_INNER - from->inner);
 }
 
 void shuffled(diagram *d, random_state *r, const diagram *from)

@@ -50,7 +50,7 @@ void needs(diagram *d, random_state *r, const int *steps, int rules);
 /* Layers of nodes, each layer of one step, with edges to any lower layer. */
 void layered(diagram *d, random_state *r, int nodes);
 
-/* Nodes with edges to any lower ones: some are alike, have lo equal to hi or are not arrived at. */
+/* Nodes with edges to any lower ones: some are padding or are not arrived at. */
 void tangled(diagram *d, random_state *r, int nodes);
 
 /* A tree that tests `depth` steps and leads to the 2^depth references, the first for all steps absent. */
@@ -58,6 +58,15 @@ void tree(diagram *d, const int *steps, int depth, const unsigned *leaves);
 
 /* The same verdicts with nodes that are alike, have lo equal to hi or are not arrived at, as far as there is room. */
 void padded(diagram *d, random_state *r, const diagram *from);
+
+/* The same verdicts without padding: no node with lo equal to hi, or like an earlier one. */
+void stripped(diagram *d, const diagram *from);
+
+/* The same without padding, with nodes that are not arrived at, as far as there is room. */
+void strewn(diagram *d, random_state *r, const diagram *from);
+
+/* Where the first node of padding stands in `nodes`; -1 if there is none. */
+int first_padding(const diagram *d);
 
 /* The same nodes in another order, children still first. */
 void shuffled(diagram *d, random_state *r, const diagram *from);

@@ -1,4 +1,7 @@
-/* Compares the library's conjunction with BuDDy's and times both. bench/buddy-compare builds and runs this. */
+/*
+ * Compares the library's conjunctions and reductions with BuDDy's and times both. bench/buddy-compare builds and runs
+ * this.
+ */
 #include "check.h"
 #include "timing.h"
 

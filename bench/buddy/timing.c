@@ -32,7 +32,14 @@ static uint32_t work[MOST_PAIRS];
 static uint8_t buffer[MOST_FILE];
 static outcome by_buddy;
 
-static double time_library(const pair_case *p)
+/* What is done with a case. */
+typedef struct job {
+    double (*library)(const pair_case *);
+    double (*buddy)(const pair_case *);
+    double (*alone)(const pair_case *); /* null: there is nothing to be timed alone */
+} job;
+
+static double conjoin_by_library(const pair_case *p)
 {
     planner_answer answer;
     double begin = now();
@@ -41,11 +48,27 @@ static double time_library(const pair_case *p)
     return now() - begin;
 }
 
+static double reduce_by_library(const pair_case *p)
+{
+    planner_answer answer;
+    double begin = now();
+    planner_reduce(p->chart.bytes, p->chart.len, p->drawer.bytes, p->drawer.len, buffer, MOST_FILE, &answer);
+    return now() - begin;
+}
+
 /* Reads both files, conjoins and writes. */
-static double time_buddy(const pair_case *p)
+static double conjoin_by_buddy(const pair_case *p)
 {
     double begin = now();
     buddy_conjoin(&by_buddy, &p->rules, &p->more);
+    return now() - begin;
+}
+
+/* Reads the file, which reduces it, and writes. */
+static double reduce_by_buddy(const pair_case *p)
+{
+    double begin = now();
+    buddy_write(&by_buddy, buddy_read(&p->drawer));
     return now() - begin;
 }
 
@@ -63,15 +86,18 @@ static double time_and(const pair_case *p)
     return taken;
 }
 
+static const job conjoining = {conjoin_by_library, conjoin_by_buddy, time_and};
+static const job reducing = {reduce_by_library, reduce_by_buddy, NULL};
+
 /* One time of each kind. Those without results of earlier runs begin with empty caches and tables. */
-static void time_once(const pair_case *p, double *times)
+static void time_once(const job *j, const pair_case *p, double *times)
 {
-    time_library(p); /* fills the processor's caches, as the runs before do for BuDDy */
-    times[LIBRARY] = time_library(p);
+    j->library(p); /* fills the processor's caches, as the runs before do for BuDDy */
+    times[LIBRARY] = j->library(p);
     buddy_forget();
-    times[WHOLE] = time_buddy(p);
-    times[KEPT] = time_buddy(p);
-    times[AND_ALONE] = time_and(p);
+    times[WHOLE] = j->buddy(p);
+    times[KEPT] = j->buddy(p);
+    times[AND_ALONE] = j->alone == NULL ? 0 : j->alone(p);
 }
 
 static int by_size(const void *a, const void *b)
@@ -80,13 +106,13 @@ static int by_size(const void *a, const void *b)
     return (x > y) - (x < y);
 }
 
-static void time_case(row *w, const pair_case *p, int runs)
+static void time_case(row *w, const job *j, const pair_case *p, int runs)
 {
     static double times[TIMES][MOST_RUNS];
     double once[TIMES];
     int run, kind;
     for (run = -1; run < runs; run++) { /* the first is not counted */
-        time_once(p, once);
+        time_once(j, p, once);
         for (kind = 0; kind < TIMES && run >= 0; kind++) {
             times[kind][run] = once[kind];
         }
@@ -124,6 +150,19 @@ static void print_table(const row *rows, int count, int least)
     }
 }
 
+static void print_reductions(const row *rows, int count, int least)
+{
+    int i;
+    printf("%-32s %5s %7s %8s %9s %9s %9s %6s\n", "case", "steps", "nodes", "reduced", "library", "BuDDy", "kept",
+           "ratio");
+    for (i = 0; i < count; i++) {
+        const row *w = &rows[i];
+        const double *times = least ? w->least : w->median;
+        printf("%-32s %5d %7d %8d %9.1f %9.1f %9.1f %6.2f\n", w->name, w->steps, w->reached, w->inner, times[LIBRARY],
+               times[WHOLE], times[KEPT], times[LIBRARY] / times[WHOLE]);
+    }
+}
+
 static const char legend[] =
     "pairs      references of file 2 x references of file 3: the work entries\n"
     "reached    pairs of inner nodes that a walk through both files meets\n"
@@ -133,6 +172,13 @@ static const char legend[] =
     "kept       the same once more, with all results of the run before still in the caches\n"
     "and alone  bdd_and of diagrams read before, with empty caches\n"
     "ratio      library / BuDDy\n";
+
+static const char legend_of_reductions[] =
+    "nodes      inner nodes of the file\n"
+    "reduced    inner nodes of the result\n"
+    "library    planner_reduce: reads and checks the chart and the file, reduces, writes\n"
+    "BuDDy      reads the file unchecked, which reduces it, and writes; nothing known from earlier runs\n"
+    "kept       the same once more, with all results of the run before still in the caches\n";
 
 /* Starts BuDDy with tables of some sizes and leaves it with those that make it fastest. */
 static void start_at_best(const pair_case *p)
@@ -148,7 +194,7 @@ static void start_at_best(const pair_case *p)
     for (i = 0; i < 6; i++) {
         row w;
         buddy_start(nodes[i / 3] * half, cache[i % 3] * half, p->first.steps);
-        time_case(&w, p, TRIALS);
+        time_case(&w, &conjoining, p, TRIALS);
         if (i == 0 || w.least[WHOLE] < least) {
             least = w.least[WHOLE];
             best = i;
@@ -157,28 +203,63 @@ static void start_at_best(const pair_case *p)
     buddy_start(nodes[best / 3] * half, cache[best % 3] * half, p->first.steps);
 }
 
-int time_cases(int runs)
+static row *rows_for(int count)
 {
-    static pair_case p;
-    int count = timed_count(), different = 0, inner, i;
     row *rows = calloc((size_t)count, sizeof rows[0]);
     if (rows == NULL) {
         fputs("no memory\n", stderr);
         exit(2);
     }
-    runs = runs < MOST_RUNS ? runs : MOST_RUNS;
+    return rows;
+}
+
+static int time_conjunctions(int runs)
+{
+    static pair_case p;
+    int count = timed_count(), different = 0, inner, i;
+    row *rows = rows_for(count);
     for (i = 0; i < count; i++) {
         make_timed(&p, i);
         start_at_best(&p);
         different += check_case(&p, p.name, &inner);
         describe(&rows[i], &p, inner);
-        time_case(&rows[i], &p, runs);
+        time_case(&rows[i], &conjoining, &p, runs);
         buddy_end();
     }
-    printf("\n%s\nMedian of %d runs, us\n\n", legend, runs);
+    printf("\nConjunctions\n%s\nMedian of %d runs, us\n\n", legend, runs);
     print_table(rows, count, 0);
     printf("\nLeast of %d runs, us\n\n", runs);
     print_table(rows, count, 1);
     free(rows);
     return different;
+}
+
+static int time_reductions(int runs)
+{
+    static pair_case p;
+    int count = timed_reductions(), different = 0, inner, i;
+    row *rows = rows_for(count);
+    for (i = 0; i < count; i++) {
+        make_timed_reduction(&p, i);
+        buddy_start(4 * MOST_NODES, 4 * MOST_NODES, p.third.steps);
+        different += check_reduction(&p, p.name, &inner);
+        rows[i].name = p.name;
+        rows[i].steps = p.third.steps;
+        rows[i].reached = p.third.inner;
+        rows[i].inner = inner;
+        time_case(&rows[i], &reducing, &p, runs);
+        buddy_end();
+    }
+    printf("\nReductions\n%s\nMedian of %d runs, us\n\n", legend_of_reductions, runs);
+    print_reductions(rows, count, 0);
+    printf("\nLeast of %d runs, us\n\n", runs);
+    print_reductions(rows, count, 1);
+    free(rows);
+    return different;
+}
+
+int time_cases(int runs)
+{
+    runs = runs < MOST_RUNS ? runs : MOST_RUNS;
+    return time_conjunctions(runs) + time_reductions(runs);
 }

@@ -1,4 +1,4 @@
-/* Times of both conjunctions on the timed cases. */
+/* Times of conjunctions and reductions, by the library and by BuDDy, on the timed cases. */
 #ifndef TIMING_H
 #define TIMING_H
 

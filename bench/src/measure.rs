@@ -2,7 +2,7 @@
 //! slices dirty. Times are processor time of the thread, so that other work on the machine counts
 //! little.
 
-pub mod conjoin;
+pub mod making;
 
 use std::ffi::{c_int, c_long};
 use std::hint::black_box;

@@ -2,10 +2,10 @@
 
 use std::fs;
 
-use crate::measure::conjoin::Conjoined;
+use crate::measure::making::Made;
 use crate::measure::Call;
 use crate::ratios::{placement_spread, spread, Measured, Spread, RATIOS};
-use crate::report::{left_out, longest_conjunction, number, per_pair};
+use crate::report::{left_out, longest_making, number, per_pair};
 use crate::stacks::Peak;
 use crate::targets::verdicts;
 
@@ -22,8 +22,8 @@ pub struct Run<'a> {
     pub growth: &'a [Measured],
     /// Held to no target, and in no mean.
     pub remarks: &'a [Measured],
-    /// Timed in one placement, and in no mean.
-    pub conjunctions: &'a [Conjoined],
+    /// Conjunctions and reductions: timed in one placement, and in no mean.
+    pub makings: &'a [Made],
     pub peaks: &'a [Peak],
 }
 
@@ -77,6 +77,7 @@ impl Run<'_> {
             .extend(left_out(self.remarks, self.planners).map(|text| format!("Left out: {text}.")));
         parts.extend(Call::ALL.map(|call| self.loads(self.remarks, call)));
         parts.extend(["## Conjunctions".into(), self.conjunctions()]);
+        parts.extend(["## Reductions".into(), self.reductions()]);
         parts.extend(["## Placements".into(), self.placements(&all)]);
         parts.extend(["## Stack".into(), self.stacks()]);
         parts.join("\n\n") + "\n"
@@ -146,21 +147,40 @@ impl Run<'_> {
 
     /// One line for each conjunction.
     fn conjunctions(&self) -> String {
-        let subject = self.subject();
-        let rows = self.conjunctions.iter().map(|one| {
-            let Conjoined { name, pairs, visited, .. } = one;
-            let time = number(one.microseconds(subject), 2);
-            let ratios = [(subject, "same", 2), ("textbook", subject, 1)];
-            let [same, textbook] = ratios.map(|(of, to, digits)| number(one.ratio(of, to), digits));
-            format!(
-                "{name} | {pairs} | {visited} | {} | {time} | {same} | {textbook}",
-                one.result()
-            )
+        let rows = self.makings_of("conjoin").map(|one| {
+            let Made { name, pairs, visited, .. } = one;
+            format!("{name} | {pairs} | {visited} | {} | {}", one.result(), self.times(one))
         });
         let table = table("Load | Pairs | Visited | Nodes | µs | / same | textbook /", 1, rows);
         let text = "In one placement, in no mean above. \"Pairs\" are the entries of the work slice, \
                     \"Visited\" those that are come to, \"Nodes\" the inner nodes of the result, or 12.";
-        format!("{text}\n\n{table}\n\nTarget {}.", longest_conjunction(self.conjunctions))
+        format!("{text}\n\n{table}\n\nTarget {}.", longest_making(self.makings))
+    }
+
+    /// One line for each reduction.
+    fn reductions(&self) -> String {
+        let rows = self.makings_of("reduce").map(|one| {
+            let Made { name, before, nodes, .. } = one;
+            format!("{name} | {before} | {nodes} | {}", self.times(one))
+        });
+        let table = table("Load | Nodes | Reduced | µs | / same | textbook /", 1, rows);
+        let text =
+            "In one placement, in no mean above. \"Nodes\" are the inner nodes of the file, \
+                    \"Reduced\" those of the result.";
+        format!("{text}\n\n{table}")
+    }
+
+    fn makings_of<'a>(&'a self, call: &'a str) -> impl Iterator<Item = &'a Made> {
+        self.makings.iter().filter(move |one| one.call == call)
+    }
+
+    /// The cells of a call's times.
+    fn times(&self, one: &Made) -> String {
+        let subject = self.subject();
+        let time = number(one.microseconds(subject), 2);
+        let ratios = [(subject, "same", 2), ("textbook", subject, 1)];
+        let [same, textbook] = ratios.map(|(of, to, digits)| number(one.ratio(of, to), digits));
+        format!("{time} | {same} | {textbook}")
     }
 
     /// How far single placements are off the least time.

@@ -1,6 +1,6 @@
 //! Measurements as text and as CSV.
 
-use crate::measure::conjoin::{longest, Conjoined, MOST_US};
+use crate::measure::making::{longest, Made, MOST_US};
 use crate::measure::{Call, Timing};
 use crate::ratios::{spread, Measured, Spread, RATIOS};
 use crate::targets::{verdicts, Verdict};
@@ -98,43 +98,67 @@ pub fn left_out(all: &[Measured], planners: &[&str]) -> Option<String> {
     (!lines.is_empty()).then(|| format!("{}: {why}", lines.join(", ")))
 }
 
-/// The conjunctions, a line each, and what the library is held to.
-pub fn conjunctions(all: &[Conjoined], planners: &[&str]) -> String {
-    let mut head = format!("{:<28}{:>8}{:>9}{:>8}", "conjoin", "pairs", "visited", "nodes");
-    head.extend(planners.iter().map(|planner| format!("{:>13}", format!("{planner} µs"))));
-    let mut lines = vec![head + &format!("{:>16}", "library / same")];
-    for one in all {
-        let Conjoined { name, pairs, visited, .. } = one;
-        let mut line = format!("{name:<28}{pairs:>8}{visited:>9}{:>8}", one.result());
-        for planner in planners {
-            line += &format!("{:>13}", number(one.microseconds(planner), 2));
-        }
-        lines.push(line + &format!("{:>16}", number(one.ratio("library", "same"), 2)));
+/// The conjunctions and the reductions, a line each, and what the library is held to.
+pub fn makings(all: &[Made], planners: &[&str]) -> String {
+    let (conjunctions, reductions): (Vec<&Made>, Vec<&Made>) =
+        all.iter().partition(|one| one.call == "conjoin");
+    let mut lines = Vec::new();
+    if !conjunctions.is_empty() {
+        let head = format!("{:<32}{:>8}{:>9}{:>8}", "conjoin", "pairs", "visited", "nodes");
+        lines.push(head + &making_head(planners));
     }
-    lines.push(longest_conjunction(all));
+    lines.extend(conjunctions.iter().map(|one| {
+        let Made { name, pairs, visited, .. } = one;
+        let begin = format!("{name:<32}{pairs:>8}{visited:>9}{:>8}", one.result());
+        begin + &making_times(one, planners)
+    }));
+    if !reductions.is_empty() {
+        let head = format!("{:<32}{:>17}{:>8}", "reduce", "nodes before", "after");
+        lines.push(head + &making_head(planners));
+    }
+    lines.extend(reductions.iter().map(|one| {
+        let Made { name, before, nodes, .. } = one;
+        format!("{name:<32}{before:>17}{nodes:>8}") + &making_times(one, planners)
+    }));
+    lines.push(longest_making(all));
     lines.join("\n")
 }
 
-/// The library's longest conjunction, beside the most that it may take.
-pub fn longest_conjunction(all: &[Conjoined]) -> String {
+fn making_head(planners: &[&str]) -> String {
+    let times = planners.iter().map(|planner| format!("{:>13}", format!("{planner} µs")));
+    times.chain([format!("{:>16}", "library / same")]).collect()
+}
+
+fn making_times(one: &Made, planners: &[&str]) -> String {
+    let times = planners.iter().map(|by| format!("{:>13}", number(one.microseconds(by), 2)));
+    times.chain([format!("{:>16}", number(one.ratio("library", "same"), 2))]).collect()
+}
+
+/// The library's longest conjunction or reduction, beside the most that it may take.
+pub fn longest_making(all: &[Made]) -> String {
     let most = MOST_US / 1_000.0;
+    let aim = format!("library, every conjunction and reduction, at most {most:.0} ms");
     match longest(all, "library") {
-        None => format!("not measured: library, every conjunction, at most {most:.0} ms"),
+        None => format!("not measured: {aim}"),
         Some((took, name)) => {
             let word = if took <= MOST_US { "met" } else { "NOT MET" };
-            let took = took / 1_000.0;
-            format!("{word}: library, every conjunction, at most {most:.0} ms: {took:.2} ({name})")
+            format!("{word}: {aim}: {:.2} ({name})", took / 1_000.0)
         }
     }
 }
 
-/// All timings of conjunctions, as further lines of the CSV; the count is the result's nodes.
-pub fn csv_of_conjunctions(all: &[Conjoined]) -> String {
+/// All timings of conjunctions and reductions, as further lines of the CSV; the count is the result's
+/// nodes. A reduction has no pairs, a conjunction the nodes of two files.
+pub fn csv_of_makings(all: &[Made]) -> String {
     let mut text = String::new();
-    for Conjoined { name, steps, pairs, nodes, times, .. } in all {
+    for Made { call, name, steps, before, pairs, nodes, times, .. } in all {
+        let size = match *call {
+            "conjoin" => format!(",{pairs}"),
+            _ => format!("{before},"),
+        };
         for (planner, least) in times {
             text += &format!(
-                "\"{name}\",,{steps},,{pairs},conjoin,{planner},{nodes},{least:.1},{least:.1}\n"
+                "\"{name}\",,{steps},{size},{call},{planner},{nodes},{least:.1},{least:.1}\n"
             );
         }
     }

@@ -10,7 +10,7 @@ mod ticks;
 
 use std::borrow::Cow;
 
-use crate::files::{read_chart, LONGEST_FILE};
+use crate::files::{read_both, read_chart, Diagram, LONGEST_FILE};
 use crate::planner::{self, Answer, ConjoinSlices, GuidedSlices, Planner, Space, SweepSlices};
 use crate::steps::{StepAtFault, StepFaults};
 use conjunctions::{Call, Conjoiner, SpoilConjoined};
@@ -60,6 +60,8 @@ enum Spoil {
     Conjoined(SpoilConjoined),
     /// How diagrams are read for padding.
     Padding(Misreading),
+    /// What a sweep counts besides the reached pairs.
+    Counted(fn(&Diagram) -> usize),
     /// How a diagram is reduced.
     Reducer(Conjoiner),
     /// The answer and the buffer of a reduction.
@@ -281,11 +283,20 @@ impl Spoiled {
         }
     }
 
-    fn spoil_sweep(&self, chart: &[u8], mut answer: Answer, lent: &mut SweepSlices) -> Answer {
+    fn spoil_sweep(
+        &self,
+        (chart, rules): (&[u8], &[u8]),
+        mut answer: Answer,
+        lent: &mut SweepSlices,
+    ) -> Answer {
         answer.number = self.number(chart, answer.number);
         match self.sabotage.spoil {
             Spoil::Answer(spoil) => spoil(&mut answer),
             Spoil::Sweep(spoil) => spoil(&mut answer, lent),
+            Spoil::Counted(more) if matches!(answer.number, 0 | 8) => {
+                let more = read_both(chart, rules).map_or(0, |problem| more(&problem.diagram));
+                answer.count += more as u32;
+            }
             _ => {}
         }
         answer
@@ -314,7 +325,7 @@ impl Planner for Spoiled {
             return answer;
         }
         let answer = self.planner.sweep(&chart, &rules, lent);
-        self.spoil_sweep(&chart, answer, lent)
+        self.spoil_sweep((&chart, &rules), answer, lent)
     }
 
     fn guided(&self, chart: &[u8], rules: &[u8], lent: &mut GuidedSlices) -> Answer {
@@ -341,7 +352,7 @@ impl Planner for Spoiled {
             }
         }
         let (swept, found) = self.planner.both(&chart, &rules, sweep, guided)?;
-        let swept = self.spoil_sweep(&chart, swept, sweep);
+        let swept = self.spoil_sweep((&chart, &rules), swept, sweep);
         Some((swept, self.spoil_guided(&chart, found, guided)))
     }
 

@@ -1,10 +1,8 @@
 //! The peak stack of every call over all loads.
 
-use crate::generate::operands::named;
-use crate::generate::three_files::{written, ThreeFiles};
 use crate::loads::Load;
+use crate::measure::making::Job;
 use crate::planner::{ConjoinSlices, GuidedSlices, Planner, SweepSlices};
-use crate::reference::conjunction::conjoin;
 use crate::reference::judge;
 use crate::stack::peak;
 
@@ -17,8 +15,11 @@ pub struct Peak {
 }
 
 const CALLS: [&str; 5] = ["sweep", "guided", "both", "space needed", "refused field"];
+/// The calls that write a diagram.
+const MAKING: [&str; 2] = ["conjoin", "reduce"];
 
-/// Of some implementations that have all calls, over the loads; of conjunctions over those that are timed.
+/// Of some implementations that have all calls, over the loads; of conjunctions and reductions over those
+/// that are timed.
 pub fn peaks(planners: &[Box<dyn Planner>], loads: &[Load]) -> Vec<Peak> {
     let mut all = Vec::new();
     for planner in planners {
@@ -27,19 +28,21 @@ pub fn peaks(planners: &[Box<dyn Planner>], loads: &[Load]) -> Vec<Peak> {
             let bytes = used.max().unwrap_or(0);
             all.push(Peak { planner: planner.name(), call, bytes });
         }
-        let files = named().into_iter().map(|(_, operands)| written(&operands));
-        let used = files.map(|files| used_by_conjunction(planner.as_ref(), &files));
-        let bytes = used.max().unwrap_or(0);
-        all.push(Peak { planner: planner.name(), call: "conjoin", bytes });
+        for call in MAKING {
+            let jobs = Job::all().into_iter().filter(|(_, job)| job.call() == call);
+            let used = jobs.map(|(_, job)| used_by(planner.as_ref(), &job));
+            let bytes = used.max().unwrap_or(0);
+            all.push(Peak { planner: planner.name(), call, bytes });
+        }
     }
     all
 }
 
-fn used_by_conjunction(planner: &dyn Planner, (chart, rules, more): &ThreeFiles) -> usize {
-    let Ok(found) = conjoin(chart, rules, more) else { return 0 };
+fn used_by(planner: &dyn Planner, job: &Job) -> usize {
+    let Ok(found) = job.judged() else { return 0 };
     let mut lent = ConjoinSlices::of(found.operands.pairs(), found.length());
     peak(move || {
-        let _ = planner.conjoin(chart, rules, more, &mut lent);
+        let _ = job.run(planner, &mut lent);
     })
 }
 

@@ -6,17 +6,16 @@ use std::hint::black_box;
 use std::path::{Path, PathBuf};
 use std::process::ExitCode;
 
-use planner_bench::generate::operands;
 use planner_bench::history;
 use planner_bench::loads::{growth, remarks, standard, Group, Load};
-use planner_bench::measure::conjoin;
+use planner_bench::measure::making::{self, Job};
 use planner_bench::page::{load_average, Run};
 use planner_bench::placements::{serve, Placement, SERVE};
 use planner_bench::planner::{self, Planner};
 use planner_bench::plot::svg;
 use planner_bench::ratios::Measured;
 use planner_bench::report::{
-    conjunctions, csv, csv_of_conjunctions, left_out, summary, table_head, table_rows,
+    csv, csv_of_makings, left_out, makings, summary, table_head, table_rows,
 };
 use planner_bench::stacks::{peaks, Peak};
 
@@ -24,15 +23,16 @@ const HELP: &str = "\
 benchmark: times both searches, and reading alone, of every implementation on every load, after
 their results have been checked. A time is the least processor time of a call over all runs, rounds
 and placements; in a round all implementations run in turn, from slices that hold what the calls
-before left in them. Reading both files is part of a search's time. Conjunctions of two diagrams are
-timed after all searches, in one placement.
+before left in them. Reading both files is part of a search's time. Conjunctions of two diagrams and
+reductions of one are timed after all searches, in one placement.
 
 usage: benchmark [OPTION...]
 
   --runs N              how often all loads are gone through (default 2)
   --rounds N            samples of each call in each run and placement (default 12)
   --elsewhere FILE      this program linked with other padding, one more placement; any number
-  --only TEXT           only loads whose name has this text; \"conjoin\": conjunctions alone
+  --only TEXT           only loads whose name has this text; \"conjoin\": conjunctions alone,
+                        \"reduce:\": reductions alone
   --csv FILE            where the times are written (default benchmark.csv)
   --svg FILE            where the plot of time against pairs is written (default benchmark.svg)
   --docs DIR            write performance.csv, performance.svg and PERFORMANCE-TABLES.md there
@@ -165,8 +165,8 @@ fn run(options: &Options, loads: &[Load]) -> Result<(), String> {
     let (main, growing) = plain.split_at(main);
     println!("\n{}\n", summary(main, &plain));
     left_out(&all, &names).iter().for_each(|text| println!("{text}\n"));
-    let conjoined = conjoin::measure(&planners, options.runs * options.rounds, &options.only)?;
-    println!("{}\n", conjunctions(&conjoined, &names));
+    let made = making::measure(&planners, options.runs * options.rounds, &options.only)?;
+    println!("{}\n", makings(&made, &names));
     let peaks = peaks(&planner::complete(), &[standard(), remarks()].concat());
     for Peak { planner, call, bytes } in &peaks {
         println!("peak stack of {planner}, {call}: {bytes} bytes");
@@ -175,7 +175,7 @@ fn run(options: &Options, loads: &[Load]) -> Result<(), String> {
         Some(docs) => (docs.join("performance.csv"), docs.join("performance.svg")),
         None => (options.csv.clone(), options.svg.clone()),
     };
-    write(&table, csv(&all) + &csv_of_conjunctions(&conjoined))?;
+    write(&table, csv(&all) + &csv_of_makings(&made))?;
     let drawn: Vec<&str> = names.iter().copied().filter(|name| *name != "control").collect();
     write(&plot, svg(&plain, &drawn))?;
     let Some(docs) = &options.docs else { return Ok(()) };
@@ -188,7 +188,7 @@ fn run(options: &Options, loads: &[Load]) -> Result<(), String> {
         standard: main,
         growth: growing,
         remarks: &remarked,
-        conjunctions: &conjoined,
+        makings: &made,
         peaks: &peaks,
     };
     write(&docs.join("PERFORMANCE-TABLES.md"), run.page())?;
@@ -258,8 +258,8 @@ fn measure_all(
     let names: Vec<&str> = planners.iter().map(|planner| planner.name()).collect();
     let chosen = |load: &Load| load.name.contains(&options.only);
     let chosen: Vec<usize> = (0..loads.len()).filter(|at| chosen(&loads[*at])).collect();
-    let is_conjunction = |name| conjoin::is_chosen(name, &options.only);
-    if chosen.is_empty() && !operands::named().iter().any(|(name, _)| is_conjunction(name)) {
+    let is_making = |(name, job): &(&str, Job)| making::is_chosen(name, job, &options.only);
+    if chosen.is_empty() && !Job::all().iter().any(is_making) {
         return Err(format!("no load has \"{}\" in its name", options.only));
     }
     let (loads_of, places) = (chosen.len(), placements.len());

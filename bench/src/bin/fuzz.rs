@@ -14,9 +14,9 @@ use planner_bench::saved;
 
 const HELP: &str = "\
 fuzz: spoils sound chart and diagram files (bits, cuts, numbers, lengths, tags; fields doubled,
-exchanged, left out, spliced; remarks; steps with several faults) and holds every call of the
-library on them against the reference: number, file and place of a refusal, and all that a search
-answers and writes.
+exchanged, left out, spliced; remarks; steps with several faults; padded nodes) and holds every call
+of the library on them against the reference: number, file and place of a refusal, and all that a
+call answers and writes.
 
 usage: fuzz [--seconds N] [--cases N] [--seed N] [--first N] [--threads N] [--save DIR]
             [--sabotage NAME]

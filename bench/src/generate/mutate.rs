@@ -27,7 +27,7 @@ fn mutate(random: &mut Random, bytes: &mut Vec<u8>, other: &[u8]) {
         bytes.extend(&other[..random.between(0, other.len())]);
         return;
     }
-    match random.below(16) {
+    match random.below(15) {
         0 | 1 => flip(random, bytes),
         2 => cut(random, bytes),
         3..=5 => change_number(random, bytes),

@@ -57,12 +57,13 @@ pub fn systematic() -> Vec<Files> {
 }
 
 fn each_node(steps: &[u16], references: &[u16]) -> Vec<Node> {
-    let children = || references.iter().flat_map(|lo| references.iter().map(move |hi| (*lo, *hi)));
-    let of_step = |step: &u16| {
-        let step = *step;
-        children().map(move |(lo, hi)| Node { step, lo, hi }).collect::<Vec<Node>>()
-    };
-    steps.iter().flat_map(of_step).collect()
+    let mut nodes = Vec::new();
+    for step in steps {
+        for lo in references {
+            nodes.extend(references.iter().map(|hi| Node { step: *step, lo: *lo, hi: *hi }));
+        }
+    }
+    nodes
 }
 
 /// A node with one more field behind it, sound or at fault.

@@ -268,7 +268,7 @@ pub fn named() -> Vec<(&'static str, Problem)> {
     let over = |chart: Chart, diagram: Diagram| Problem { chart, diagram };
     let whole = |diagram: Diagram| over(parallel(MAX_STEPS), diagram);
     let Problem { chart, diagram } = example_problem();
-    let example = padded(&mut Random::new(1), &diagram, chart.steps.len(), 8);
+    let example = padded(&mut Random::new(14), &diagram, chart.steps.len(), 8);
     let leaf = Node { step: LAST, lo: 0, hi: 1 };
     vec![
         ("example, padded", over(chart, example)),

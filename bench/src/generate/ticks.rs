@@ -3,8 +3,9 @@
 
 use super::corners::{most_reached, Size};
 use super::costs::SOUND;
-use super::diagrams::{random_diagram, Padding};
-use super::rules::{diagram_of, Rule};
+use super::diagrams::random_diagram;
+use super::rules::{AtMost, Rule};
+use super::shapes::rule;
 use super::Random;
 use crate::files::{Chart, Diagram, Node, Problem, Step, MAX_COST, MAX_STAGES, TICK};
 
@@ -23,7 +24,8 @@ pub fn any(random: &mut Random) -> Problem {
         let (small, large) = (random.between(0, 400), random.between(0, MAX_COST as usize));
         let total = random.pick(&[small, small, small, large]);
         let costs = [(); 2].map(|()| drawn_costs(random, total));
-        return two_routes([&costs[0], &costs[1]], random.percent(50));
+        let known = random.pick(&[Known::ByChart, Known::ByDiagram, Known::ByNeither]);
+        return two_routes([&costs[0], &costs[1]], known);
     }
     let (layers, width) = (random.between(0, 4), random.between(1, 4));
     let span = random.pick(&SPANS);
@@ -58,7 +60,8 @@ fn close_routes() -> Vec<Problem> {
     let mut problems = Vec::new();
     for (at, first) in routes.iter().enumerate() {
         for second in routes[..at].iter().filter(|second| are_close(first, second)) {
-            problems.extend([false, true].map(|is_ruled| two_routes([first, second], is_ruled)));
+            let known = [Known::ByChart, Known::ByDiagram, Known::ByNeither];
+            problems.extend(known.map(|known| two_routes([first, second], known)));
         }
     }
     problems
@@ -85,10 +88,18 @@ fn are_close(first: &[u32], second: &[u32]) -> bool {
         || in_ticks(first).abs_diff(in_ticks(second)) <= 1
 }
 
+/// Which estimate knows what the routes cost.
+#[derive(Clone, Copy, Debug, PartialEq, Eq)]
+enum Known {
+    ByChart,
+    ByDiagram,
+    ByNeither,
+}
+
 /// Two ways from the first stage to the last that share no stage between them. Without a rule the chart
 /// estimate knows what they cost. With one, a free step leads to the end from everywhere, but is never
-/// legal: then only the diagram estimate knows.
-fn two_routes(costs: [&[u32]; 2], is_ruled: bool) -> Problem {
+/// legal. If the rule wants one of the routes, the diagram estimate knows; else none does.
+fn two_routes(costs: [&[u32]; 2], known: Known) -> Problem {
     let end = costs[0].len() + costs[1].len() - 1;
     let mut links: Vec<(usize, Step)> = Vec::new();
     for (route, first) in [1, costs[0].len()].into_iter().enumerate() {
@@ -99,20 +110,21 @@ fn two_routes(costs: [&[u32]; 2], is_ruled: bool) -> Problem {
             links.push((route, step(from, to, *cost)));
         }
     }
-    if is_ruled {
+    if known != Known::ByChart {
         links.extend((0..end).map(|from| (FREE, step(from, end, 0))));
     }
     links.sort_by_key(|(_, step)| step.from);
     let route_of: Vec<usize> = links.iter().map(|(route, _)| *route).collect();
     let steps = links.into_iter().map(|(_, step)| step).collect();
-    let diagram = match is_ruled {
-        true => diagram_of(&OneRoute(route_of), Padding::Without),
-        false => Some(Diagram::YES),
+    let diagram = match known {
+        Known::ByChart => Diagram::YES,
+        Known::ByDiagram => rule(&OneRoute(route_of)),
+        Known::ByNeither => {
+            let free = (0..).zip(&route_of).filter(|(_, route)| **route == FREE);
+            rule(&AtMost { most: 0, steps: free.map(|(step, _)| step).collect() })
+        }
     };
-    Problem {
-        chart: Chart { stages: end as u16 + 1, start: 0, end: end as u16, steps },
-        diagram: diagram.expect("few nodes"),
-    }
+    Problem { chart: Chart { stages: end as u16 + 1, start: 0, end: end as u16, steps }, diagram }
 }
 
 /// All steps of one route and no other step, by the route of each.

@@ -100,7 +100,7 @@ fn alike(before: &[Node], node: Node, are: impl Fn(&Node, &Node) -> bool) -> boo
     node.lo == node.hi || before.iter().any(|other| are(other, &node))
 }
 
-pub(super) static PADDING: [Sabotage; 47] = [
+pub(super) static PADDING: [Sabotage; 49] = [
     test("13-for-alike-alone", |before, node| before.contains(&node)),
     test("13-for-equal-children-alone", |_, node| node.lo == node.hi),
     test("13-not-for-equal-constants", |before, node| {
@@ -183,6 +183,8 @@ pub(super) static PADDING: [Sabotage; 47] = [
     new("13-touches-cost", Spoil::Sweep(|a, s| change(&mut s.cost, 0, a.number == 13))),
     new("13-touches-log", Spoil::Guided(|a, s| change(&mut s.log, 0, a.number == 13))),
     new("13-with-space", Spoil::Space(|s| s.work += usize::from(s.number == 13))),
+    new("reached-with-strays", Spoil::Counted(|d| d.nodes.len() - walked(d).len())),
+    new("reached-by-numbering", Spoil::Counted(|d| usize::from(!walked(d).is_sorted()))),
 ];
 
 /// Those that only a conjunction shows.
