@@ -79,8 +79,8 @@ enum {
 #define PLANNER_MOST_FILE 4595
 
 /* Bytes of stack that are enough for any call. Measured peaks, the same for all files (docs/PERFORMANCE-TABLES.md):
- * planner_sweep 15,096, planner_guided 17,816, planner_both 18,392, planner_conjoin 18,008, planner_reduce 0,
- * planner_space_needed 11,736, planner_refused_field 88. */
+ * planner_sweep 16,136, planner_guided 18,856, planner_both 19,432, planner_conjoin 21,128, planner_reduce 21,000,
+ * planner_space_needed 12,776, planner_refused_field 88. */
 #define PLANNER_STACK 32768
 
 /*
