@@ -213,6 +213,15 @@ static row *rows_for(int count)
     return rows;
 }
 
+/* The same table twice: of the medians, then of the least times. */
+static void print_times(void (*table)(const row *, int, int), const row *rows, int count, int runs)
+{
+    printf("\nMedian of %d runs, us\n\n", runs);
+    table(rows, count, 0);
+    printf("\nLeast of %d runs, us\n\n", runs);
+    table(rows, count, 1);
+}
+
 static int time_conjunctions(int runs)
 {
     static pair_case p;
@@ -226,10 +235,8 @@ static int time_conjunctions(int runs)
         time_case(&rows[i], &conjoining, &p, runs);
         buddy_end();
     }
-    printf("\nConjunctions\n%s\nMedian of %d runs, us\n\n", legend, runs);
-    print_table(rows, count, 0);
-    printf("\nLeast of %d runs, us\n\n", runs);
-    print_table(rows, count, 1);
+    printf("\nConjunctions\n%s", legend);
+    print_times(print_table, rows, count, runs);
     free(rows);
     return different;
 }
@@ -250,10 +257,8 @@ static int time_reductions(int runs)
         time_case(&rows[i], &reducing, &p, runs);
         buddy_end();
     }
-    printf("\nReductions\n%s\nMedian of %d runs, us\n\n", legend_of_reductions, runs);
-    print_reductions(rows, count, 0);
-    printf("\nLeast of %d runs, us\n\n", runs);
-    print_reductions(rows, count, 1);
+    printf("\nReductions\n%s", legend_of_reductions);
+    print_times(print_reductions, rows, count, runs);
     free(rows);
     return different;
 }

@@ -1,8 +1,11 @@
 //! The conjunction of two diagrams: bytes written out by hand, the order of its refusals, what stays, and
 //! both of the reference's methods.
 
+mod bytes;
+
 use std::collections::BTreeSet;
 
+use bytes::{CHART, NEEDS, NO, YES};
 use planner_bench::cases::{example_problem, Case, Cases};
 use planner_bench::check::conjunction::{conjunction, is_reduced};
 use planner_bench::compare::run;
@@ -24,30 +27,12 @@ use planner_bench::reference::Facts;
 use planner_bench::same::Same;
 use planner_bench::saved;
 
-/// 5 stages from 0 to 4 with 6 steps.
-const CHART: [u8; 75] = [
-    0x01, 6, 0, 5, 0, 0, 0, 4, 0, //
-    0x02, 8, 0, 0, 0, 1, 0, 40, 0, 0, 0, //
-    0x02, 8, 0, 0, 0, 1, 0, 90, 0, 0, 0, //
-    0x02, 8, 0, 1, 0, 2, 0, 200, 0, 0, 0, //
-    0x02, 8, 0, 1, 0, 3, 0, 30, 0, 0, 0, //
-    0x02, 8, 0, 2, 0, 3, 0, 20, 0, 0, 0, //
-    0x02, 8, 0, 3, 0, 4, 0, 50, 0, 0, 0,
-];
-/// Step 0 needs step 2.
-const NEEDS: [u8; 23] = [
-    0x11, 2, 0, 3, 0, //
-    0x12, 6, 0, 2, 0, 0, 0, 1, 0, //
-    0x12, 6, 0, 0, 0, 1, 0, 2, 0,
-];
 /// Not both of steps 1 and 3.
 const NOT_BOTH: [u8; 23] = [
     0x11, 2, 0, 3, 0, //
     0x12, 6, 0, 3, 0, 1, 0, 0, 0, //
     0x12, 6, 0, 1, 0, 1, 0, 2, 0,
 ];
-const NO: [u8; 5] = [0x11, 2, 0, 0, 0];
-const YES: [u8; 5] = [0x11, 2, 0, 1, 0];
 
 /// Where every implementation agrees with the reference: what that answers with enough space, and the
 /// file.

@@ -1,6 +1,9 @@
 //! Padding: which nodes are refused with 13, where, and before or after which other faults; and the reduction
 //! of files that have it. Bytes, numbers and places are worked out by hand.
 
+mod bytes;
+
+use bytes::{CHART, NEEDS, NO, YES};
 use planner_bench::cases::{example_problem, Case, Cases};
 use planner_bench::check::conjunction::{is_reduced, reduction as checked};
 use planner_bench::compare::run;
@@ -21,22 +24,6 @@ use planner_bench::reference::rules::verdict;
 use planner_bench::reference::{judge, Facts};
 use planner_bench::same::Same;
 
-/// 5 stages from 0 to 4 with 6 steps.
-const CHART: [u8; 75] = [
-    0x01, 6, 0, 5, 0, 0, 0, 4, 0, //
-    0x02, 8, 0, 0, 0, 1, 0, 40, 0, 0, 0, //
-    0x02, 8, 0, 0, 0, 1, 0, 90, 0, 0, 0, //
-    0x02, 8, 0, 1, 0, 2, 0, 200, 0, 0, 0, //
-    0x02, 8, 0, 1, 0, 3, 0, 30, 0, 0, 0, //
-    0x02, 8, 0, 2, 0, 3, 0, 20, 0, 0, 0, //
-    0x02, 8, 0, 3, 0, 4, 0, 50, 0, 0, 0,
-];
-/// Step 0 needs step 2.
-const NEEDS: [u8; 23] = [
-    0x11, 2, 0, 3, 0, //
-    0x12, 6, 0, 2, 0, 0, 0, 1, 0, //
-    0x12, 6, 0, 0, 0, 1, 0, 2, 0,
-];
 /// The same with a double of node 2, a test of step 1 that changes nothing then, and a node that nothing
 /// leads to.
 const PADDED: [u8; 50] = [
@@ -47,8 +34,6 @@ const PADDED: [u8; 50] = [
     0x12, 6, 0, 5, 0, 1, 0, 0, 0, //
     0x12, 6, 0, 0, 0, 1, 0, 4, 0,
 ];
-const NO: [u8; 5] = [0x11, 2, 0, 0, 0];
-const YES: [u8; 5] = [0x11, 2, 0, 1, 0];
 
 /// Every call of every implementation on two files agrees with the reference.
 fn implementations_agree(chart: &[u8], rules: &[u8]) {
