@@ -167,6 +167,52 @@ uint32_t planner_guided(const uint8_t *chart, size_t chart_len,
                         uint16_t *plan, size_t plan_len,
                         planner_answer *answer);
 
+/* A start, an end and space for the answer to them: an entry of the list of planner_cycles. 24 bytes. */
+typedef struct planner_cycle {
+    uint16_t start;  /* stages of the chart; what is given here stays */
+    uint16_t end;
+    uint32_t number; /* PLANNER_ACCEPTED, PLANNER_HEAD where start or end is no stage of the chart, or PLANNER_NO_PLAN */
+    uint32_t cost;   /* the cost of a cheapest legal plan, as in an answer; 0 where the number is not */
+    size_t count;    /* settled pairs, also under 8; 0 under 4 */
+} planner_cycle;
+
+/* The layout that the library knows: a compiler with another one refuses this. */
+typedef char planner_cycle_has_24_bytes[sizeof(planner_cycle) == 24 ? 1 : -1];
+typedef char planner_cycle_end_at_2[offsetof(planner_cycle, end) == 2 ? 1 : -1];
+typedef char planner_cycle_number_at_4[offsetof(planner_cycle, number) == 4 ? 1 : -1];
+typedef char planner_cycle_cost_at_8[offsetof(planner_cycle, cost) == 8 ? 1 : -1];
+typedef char planner_cycle_count_at_16[offsetof(planner_cycle, count) == 16 ? 1 : -1];
+
+/*
+ * A list of starts and ends on one chart: each entry of `cycles` gets the number, cost and count that planner_guided
+ * would give for the chart with that start and end in its head. The files are read and checked once, so a list costs
+ * much less than its calls one by one. The list may be empty. An entry whose start or end is no stage of the chart gets
+ * 4, cost 0 and count 0, and the others are answered all the same. The head's own start and end are checked, and used by
+ * no entry.
+ *
+ * Lent, with the least length; a shorter slice gives 7:
+ *   keys, via, heap, pos, stack, log   space.work
+ * No plan slice is lent, and no plan is given: ask planner_guided for it.
+ *
+ * All six entries of *answer are written; the number is returned. Accepted: all six are 0, also where no entry of the
+ * list has a plan. What the slices hold then:
+ *   number        0                                  any other
+ *   cycles        number, cost and count of every    as it was
+ *                 entry written, start and end stay
+ *   keys .. log   first space.work entries: free     as they were
+ * All further entries stay as they were.
+ */
+uint32_t planner_cycles(const uint8_t *chart, size_t chart_len,
+                        const uint8_t *rules, size_t rules_len,
+                        uint32_t *keys, size_t keys_len,
+                        uint32_t *via, size_t via_len,
+                        uint32_t *heap, size_t heap_len,
+                        uint32_t *pos, size_t pos_len,
+                        uint32_t *stack, size_t stack_len,
+                        uint32_t *log, size_t log_len,
+                        planner_cycle *cycles, size_t cycles_len,
+                        planner_answer *answer);
+
 /*
  * Both searches: the sweep on cost, cost_via, nodes and cost_plan, the guided search on keys to plan. Each has its
  * own answer and is refused for its own slices alone. Where neither answers 7 both have the same number and cost,

@@ -73,6 +73,54 @@ pub struct GuidedSlices<'a> {
     pub plan: &'a mut [u16],
 }
 
+/// A start, an end and space for the answer to them: an entry of the list of [`cycles`].
+#[repr(C)]
+#[derive(Clone, Copy, Debug, Default, PartialEq, Eq)]
+pub struct Cycle {
+    /// The stage where the cycle begins; stays as it is given.
+    pub start: u16,
+    /// The stage where it ends; stays as it is given.
+    pub end: u16,
+    /// 0; 4 where start or end is no stage of the chart; 8 where there is no legal plan.
+    pub number: u32,
+    /// The cost of a cheapest legal plan in ns, as in an [`Answer`]; 0 where the number is not 0.
+    pub cost: u32,
+    /// The settled pairs of its guided search, under 8 too; 0 under 4.
+    pub count: usize,
+}
+
+impl Cycle {
+    /// A start and an end, without an answer.
+    pub fn new(start: u16, end: u16) -> Cycle {
+        Cycle { start, end, ..Cycle::default() }
+    }
+}
+
+// The layout that the library knows.
+const _: () = assert!(std::mem::size_of::<Cycle>() == 24);
+const _: () = assert!(std::mem::offset_of!(Cycle, start) == 0);
+const _: () = assert!(std::mem::offset_of!(Cycle, end) == 2);
+const _: () = assert!(std::mem::offset_of!(Cycle, number) == 4);
+const _: () = assert!(std::mem::offset_of!(Cycle, cost) == 8);
+const _: () = assert!(std::mem::offset_of!(Cycle, count) == 16);
+
+/// The slices lent for a list of cycles: those of a guided search without a plan slice.
+#[derive(Debug)]
+pub struct CycleSlices<'a> {
+    /// Left free.
+    pub keys: &'a mut [u32],
+    /// Left free.
+    pub via: &'a mut [u32],
+    /// Left free.
+    pub heap: &'a mut [u32],
+    /// Left free.
+    pub pos: &'a mut [u32],
+    /// Left free.
+    pub stack: &'a mut [u32],
+    /// Left free.
+    pub log: &'a mut [u32],
+}
+
 /// The slices lent to a conjunction.
 #[derive(Debug)]
 pub struct ConjoinSlices<'a> {
@@ -138,6 +186,43 @@ pub fn guided(chart: &[u8], rules: &[u8], lent: GuidedSlices, answer: &mut Answe
             log.len(),
             plan.as_mut_ptr(),
             plan.len(),
+            answer,
+        )
+    }
+}
+
+/// A list of starts and ends on one chart: each entry gets the number, cost and count that [`guided`]
+/// would give for the chart with that start and end in its head. The files are read once. Returns the
+/// number; where it isn't 0 no entry and no slice was touched, else every field of the answer is 0.
+pub fn cycles(
+    chart: &[u8],
+    rules: &[u8],
+    lent: CycleSlices,
+    list: &mut [Cycle],
+    answer: &mut Answer,
+) -> u32 {
+    let CycleSlices { keys, via, heap, pos, stack, log } = lent;
+    // SAFETY: as for the sweep.
+    unsafe {
+        raw::planner_cycles(
+            chart.as_ptr(),
+            chart.len(),
+            rules.as_ptr(),
+            rules.len(),
+            keys.as_mut_ptr(),
+            keys.len(),
+            via.as_mut_ptr(),
+            via.len(),
+            heap.as_mut_ptr(),
+            heap.len(),
+            pos.as_mut_ptr(),
+            pos.len(),
+            stack.as_mut_ptr(),
+            stack.len(),
+            log.as_mut_ptr(),
+            log.len(),
+            list.as_mut_ptr(),
+            list.len(),
             answer,
         )
     }

@@ -41,6 +41,24 @@
 //! # Ok::<(), planner::Refusal>(())
 //! ```
 //!
+//! Many starts and ends on one chart are asked for at once, and the files are read once:
+//!
+//! ```
+//! use planner::Cycle;
+//! # let chart = [
+//! #     0x01, 6, 0, 3, 0, 0, 0, 2, 0, //
+//! #     0x02, 8, 0, 0, 0, 2, 0, 5, 0, 0, 0, //
+//! #     0x02, 8, 0, 0, 0, 1, 0, 40, 0, 0, 0, //
+//! #     0x02, 8, 0, 1, 0, 2, 0, 60, 0, 0, 0,
+//! # ];
+//! # let rules = [0x11, 2, 0, 2, 0, 0x12, 6, 0, 0, 0, 1, 0, 0, 0];
+//! // The first chart and its rule again; there is no stage 3, and no step back.
+//! let mut list = [(0, 2), (0, 1), (2, 0), (0, 3)].map(|(start, end)| Cycle::new(start, end));
+//! planner::cycles(&chart, &rules, &mut list)?;
+//! assert_eq!(list.map(|cycle| (cycle.number, cycle.cost)), [(0, 150), (0, 50), (8, 0), (4, 0)]);
+//! # Ok::<(), planner::Refusal>(())
+//! ```
+//!
 //! Two rule diagrams over one chart can be made one, which allows what both allow:
 //!
 //! ```
@@ -102,9 +120,10 @@ mod refusal;
 mod work;
 
 pub use conjoin::{conjoin, ConjoinWork};
+pub use lent::Cycle;
 pub use reduce::reduce;
 pub use refusal::{refused_field, File, Refusal};
-pub use work::{plan, space_needed, Plan, Work};
+pub use work::{cycles, plan, space_needed, Plan, Work};
 
 /// The bytes of the longest file that is taken. Remarks, fields of a tag from 80 to FF (hexadecimal)
 /// after the head, leave room for text beside steps and nodes.

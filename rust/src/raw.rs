@@ -1,6 +1,6 @@
 //! The declarations of `include/planner.h`. Nothing checks them against it: change them together.
 
-use crate::lent::{Answer, Space};
+use crate::lent::{Answer, Cycle, Space};
 
 extern "C" {
     pub fn planner_space_needed(
@@ -46,6 +46,28 @@ extern "C" {
         log_len: usize,
         plan: *mut u16,
         plan_len: usize,
+        answer: *mut Answer,
+    ) -> u32;
+
+    pub fn planner_cycles(
+        chart: *const u8,
+        chart_len: usize,
+        rules: *const u8,
+        rules_len: usize,
+        keys: *mut u32,
+        keys_len: usize,
+        via: *mut u32,
+        via_len: usize,
+        heap: *mut u32,
+        heap_len: usize,
+        pos: *mut u32,
+        pos_len: usize,
+        stack: *mut u32,
+        stack_len: usize,
+        log: *mut u32,
+        log_len: usize,
+        cycles: *mut Cycle,
+        cycles_len: usize,
         answer: *mut Answer,
     ) -> u32;
 

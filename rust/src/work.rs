@@ -1,6 +1,6 @@
 //! Work space that is kept from call to call, and plans.
 
-use crate::lent::{self, Answer, GuidedSlices, Space, SweepSlices};
+use crate::lent::{self, Answer, Cycle, CycleSlices, GuidedSlices, Space, SweepSlices};
 use crate::refusal::Refusal;
 
 /// A cheapest legal plan.
@@ -20,6 +20,13 @@ pub struct Plan {
 /// a [`Work`] and call [`Work::plan`]; to leave out the sweep, call [`Work::guided`].
 pub fn plan(chart: &[u8], rules: &[u8]) -> Result<Plan, Refusal> {
     Work::for_files(chart, rules)?.plan(chart, rules)
+}
+
+/// Fills a list of starts and ends on one chart: number, cost and settled pairs of each entry, as a
+/// guided search from that start to that end gives them. To fill lists often, keep a [`Work`] and call
+/// [`Work::cycles`].
+pub fn cycles(chart: &[u8], rules: &[u8], list: &mut [Cycle]) -> Result<(), Refusal> {
+    Work::for_files(chart, rules)?.cycles(chart, rules, list)
 }
 
 /// The entries that the slices of a search need: those of each work slice, those of a plan slice.
@@ -110,6 +117,24 @@ impl Work {
         let mut answer = Answer::default();
         lent::guided(chart, rules, self.slices().1, &mut answer);
         answer
+    }
+
+    /// A list of starts and ends on one chart. A refusal leaves the whole list as it was; a start or an
+    /// end that is no stage is told by its entry alone.
+    pub fn cycles(
+        &mut self,
+        chart: &[u8],
+        rules: &[u8],
+        list: &mut [Cycle],
+    ) -> Result<(), Refusal> {
+        let mut answer = Answer::default();
+        let GuidedSlices { keys, via, heap, pos, stack, log, .. } = self.slices().1;
+        let lent = CycleSlices { keys, via, heap, pos, stack, log };
+        lent::cycles(chart, rules, lent, list, &mut answer);
+        match Refusal::of(&answer) {
+            None => Ok(()),
+            Some(refusal) => Err(refusal),
+        }
     }
 
     /// Both searches: the sweep's answer, then the guided search's.
