@@ -1,4 +1,4 @@
--- What the calls check first, in order, and what they answer (REFERENCE 2.5, 2.6, 3.1 to 3.3, 11, 16, 17).
+-- What the calls check first, in order, and what they answer (REFERENCE 2.5, 2.6, 3.1 to 3.3, 11, 16 to 18).
 -- Assumes nothing.
 use Prim.Native.Nat.{ℕ, _*_, _-_}
 use mathlib.Core.Path.{_≡_}
@@ -23,9 +23,12 @@ workNeed c d = c .stages * size d
 abbrev pub planNeed : Chart → ℕ
 planNeed c = c .stages - 1
 
--- the lengths of the work slices and of the plan slice are enough
+-- the lengths of the work slices are enough, and that of the plan slice too
+abbrev pub workFits : Chart → Diagram → List ℕ → Bool
+workFits c d works = every (leb (workNeed c d)) works
+
 abbrev pub spaceFits : Chart → Diagram → List ℕ → ℕ → Bool
-spaceFits c d works plan = every (leb (workNeed c d)) works && leb (planNeed c) plan
+spaceFits c d works plan = workFits c d works && leb (planNeed c) plan
 
 -- the chart (file 1), then the diagram (file 2), which is read in one of the two ways: strictly by every call but the reduction
 unfoldable pub readFiles : Bool → List ℕ → List ℕ → Load
@@ -44,6 +47,14 @@ withSpace works plan (ready c d) = pick (spaceFits c d works plan) (ready c d) (
 -- all checks of a search
 unfoldable pub load : List ℕ → List ℕ → List ℕ → ℕ → Load
 load chart rules works plan = withSpace works plan (readFiles strict chart rules)
+
+-- all checks of a call that is lent work slices and no plan slice
+abbrev pub withWork : List ℕ → Load → Load
+withWork works (refused number file place) = refused number file place
+withWork works (ready c d) = pick (workFits c d works) (ready c d) (refused 7 0 0)
+
+unfoldable pub loadWork : List ℕ → List ℕ → List ℕ → Load
+loadWork chart rules works = withWork works (readFiles strict chart rules)
 
 -- a refusal has cost 0 and length 0
 abbrev pub refusal : ℕ → ℕ → ℕ → ℕ → Answer

@@ -20,6 +20,10 @@ pub record Chart : Type 0 where
   pub end : ℕ
   pub steps : List ChartStep
 
+-- the chart with another start and end in its head
+abbrev pub headed : Chart → ℕ → ℕ → Chart
+headed c start end = record { stages = c .stages; start = start; end = end; steps = c .steps }
+
 -- past the steps
 abbrev pub noStep : ChartStep
 noStep = record { from = 0; to = 0; cost = 0 }

@@ -1,24 +1,26 @@
--- What the calls promise (REFERENCE 7 to 10, 16, 17): their answer, and every lent slice after the call (plan′, log′ ..) by what it was before it (plan, log ..).
+-- What the calls promise (REFERENCE 7 to 10, 16 to 18): their answer, and every lent slice after the call (plan′, log′ ..) by what it was before it (plan, log ..).
 -- Left free are which of several cheapest plans is given, and so its length; the order of equal sums in the log and, through that alone, which pairs with a sum
--- equal to the plan's cost stand in it and so its count; and the entries of work slices that `Scratch` and, for a conjunction, `ConjoinPromise` name.
+-- equal to the plan's cost stand in it and so its count, here and in `CycleSearched`; and the entries of work slices that `Scratch` and, for a conjunction,
+-- `ConjoinPromise` name.
 -- Assumes nothing.
 use Prim.Native.Nat.{ℕ, suc, _+_, _-_, _≤_, _<_}
 use mathlib.Core.Path.{_≡_}
-use mathlib.Core.Bool.{Bool}
+use mathlib.Core.Bool.{Bool, true, false, _&&_}
 use mathlib.Core.List.{List, [], _∷_, _++_, map, List·Memᴰ}
 use mathlib.Core.Option.{Option, none, some}
 use lib.Dec.{ltb, eqb}
 use lib.ListN.{length, getD, take, drop}
 use Rattle.definitions.specs.Basics.{NONE, pick, upto}
-use Rattle.definitions.specs.Charts.{Chart}
+use Rattle.definitions.specs.Charts.{Chart, headed}
 use Rattle.definitions.specs.Diagrams.{Diagram, lenient}
 use Rattle.definitions.specs.Ways.{Graph, wayCost}
 use Rattle.definitions.specs.Pairs.{Automaton, Estimate, pair, pairs, stageOf, nodeOf, leastCost, goal, sum, reachedPairs}
 use Rattle.definitions.specs.Plans.{graph, automaton, Legal, cheapest, estimate}
-use Rattle.definitions.specs.Answers.{Load, ready, refused, readFiles, load, workNeed, refusal, accepted, LoadTwo, readyTwo, refusedTwo, loadTwo, pairNeed, fileAnswer, fileBuffer, Filed}
+use Rattle.definitions.specs.Answers.{Load, ready, refused, readFiles, load, loadWork, workNeed, refusal, accepted, LoadTwo, readyTwo, refusedTwo, loadTwo, pairNeed, fileAnswer, fileBuffer, Filed}
 use Rattle.definitions.specs.Bytes.{diagramBytes}
 use Rattle.definitions.specs.Reductions.{reduction, conjunction}
 use Rattle.definitions.specs.declared.Answer.{Answer}
+use Rattle.definitions.specs.declared.Cycle.{Cycle}
 
 -- ---- the plan slice, for both searches
 
@@ -180,6 +182,82 @@ pub record GuidedPromise (o : Load) (before after : GuidedSlices) (r : Answer) :
 
 abbrev pub GuidedCall : List ℕ → List ℕ → GuidedSlices → GuidedSlices → Answer → Type 0
 GuidedCall chart rules before after r = GuidedPromise (guidedLoad chart rules before) before after r
+
+-- ---- a list of starts and ends on one chart (REFERENCE 18)
+
+-- an entry's start and end are stages of the chart
+abbrev pub onChart : Chart → Cycle → Bool
+onChart c x = ltb (x .start) (c .stages) && ltb (x .end) (c .stages)
+
+-- an entry with its number, cost and count; its start and end stay
+abbrev pub answeredBy : Cycle → ℕ → ℕ → ℕ → Cycle
+answeredBy x number cost count = record { start = x .start; end = x .end; number = number; cost = cost; count = count }
+
+-- number and cost of a search, by the cost of a cheapest legal plan
+abbrev pub foundNumber : Option ℕ → ℕ
+foundNumber none = 8
+foundNumber (some m) = 0
+
+abbrev pub foundCost : Option ℕ → ℕ
+foundCost none = 0
+foundCost (some m) = m
+
+-- An entry before and after a guided search of the chart c. What that leaves free is free here too: the count is the length of some log that keeps
+-- all that the guided search promises of its own
+pub record CycleSearched (c : Chart) (d : Diagram) (x x′ : Cycle) : Type 0 where
+  pub log : List ℕ
+  pub logged : Logged (graph c) (automaton c d) (estimate c d) (cheapest c d) (length log) log log
+  pub answered : x′ ≡ answeredBy x (foundNumber (cheapest c d)) (foundCost (cheapest c d)) (length log)
+
+-- by whether its start and end are stages: 4, with cost 0 and count 0, where one is not; else what a guided search gives on the chart with that start and end in its head
+abbrev pub CycledIf : Bool → Chart → Diagram → Cycle → Cycle → Type 0
+CycledIf false c d x x′ = x′ ≡ answeredBy x 4 0 0
+CycledIf true c d x x′ = CycleSearched (headed c (x .start) (x .end)) d x x′
+
+abbrev pub Cycled : Chart → Diagram → Cycle → Cycle → Type 0
+Cycled c d x x′ = CycledIf (onChart c x) c d x x′
+
+-- past the list
+abbrev pub noCycle : Cycle
+noCycle = record { start = 0; end = 0; number = 0; cost = 0; count = 0 }
+
+-- each entry of the list, which stays as long as it was
+pub record EachCycled (c : Chart) (d : Diagram) (list list′ : List Cycle) : Type 0 where
+  pub long : length list′ ≡ length list
+  pub each : (i : ℕ) → i < length list → Cycled c d (getD list i noCycle) (getD list′ i noCycle)
+
+-- the list before and after, and the answer: a refusal leaves every entry, and an accepted call answers all 0
+abbrev pub Listed : Load → List Cycle → List Cycle → Answer → Type 0
+Listed (refused number file place) list list′ r = (r ≡ refusal number file place 0) × (list′ ≡ list)
+Listed (ready c d) list list′ r = (r ≡ accepted 0 0 0) × EachCycled c d list list′
+
+-- the slices that the call is lent: those of a guided search but for the plan slice
+pub record CycleSlices : Type 0 where
+  pub keys : List ℕ
+  pub via : List ℕ
+  pub heap : List ℕ
+  pub pos : List ℕ
+  pub stack : List ℕ
+  pub log : List ℕ
+
+abbrev pub cycleSlices : List ℕ → List ℕ → List ℕ → List ℕ → List ℕ → List ℕ → CycleSlices
+cycleSlices keys via heap pos stack log = record { keys = keys; via = via; heap = heap; pos = pos; stack = stack; log = log }
+
+abbrev pub cyclesLoad : List ℕ → List ℕ → CycleSlices → Load
+cyclesLoad chart rules x = loadWork chart rules (length (x .keys) ∷ length (x .via) ∷ length (x .heap) ∷ length (x .pos) ∷ length (x .stack) ∷ length (x .log) ∷ [])
+
+-- the answer, the list and each slice, of which the log is left free too, by what the checks give
+pub record CyclesPromise (o : Load) (before after : CycleSlices) (list list′ : List Cycle) (r : Answer) : Type 0 where
+  pub listed : Listed o list list′ r
+  pub keys : Scratch o (before .keys) (after .keys)
+  pub via : Scratch o (before .via) (after .via)
+  pub heap : Scratch o (before .heap) (after .heap)
+  pub pos : Scratch o (before .pos) (after .pos)
+  pub stack : Scratch o (before .stack) (after .stack)
+  pub log : Scratch o (before .log) (after .log)
+
+abbrev pub CyclesCall : List ℕ → List ℕ → CycleSlices → CycleSlices → List Cycle → List Cycle → Answer → Type 0
+CyclesCall chart rules before after list list′ r = CyclesPromise (cyclesLoad chart rules before) before after list list′ r
 
 -- ---- the conjunction of two diagram files over one chart, written as a file
 

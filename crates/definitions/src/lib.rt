@@ -61,3 +61,15 @@ pub struct Answer {
     // The pairs reached (sweep) or settled (guided search).
     pub count: usize,
 }
+
+// A start, an end and space for the answer to them: an entry of a list of cycles on one chart.
+#[repr(C)]
+pub struct Cycle {
+    pub start: u16,
+    pub end: u16,
+    // 0, or the number of the entry's own refusal: 4 or 8.
+    pub number: u32,
+    pub cost: u32,
+    // The pairs settled.
+    pub count: usize,
+}

@@ -1,0 +1,34 @@
+// The tables of a guided search that do not depend on its start and end.
+ghost use lib.ListN.{replicate};
+ghost use mathlib.Core.Path.{_≡_};
+ghost use Rattle.checks.specs.Tables.{read, Tables};
+ghost use Rattle.checks.specs.Ready.{walk};
+ghost use Rattle.guided_seek.specs.Seeks.{Prepared};
+use chart_fields::COST;
+use chart_fields::ENDS;
+use chart_stages::fill_first_steps;
+use definitions::Shape;
+use node_estimates::fill_diagram_estimates;
+use rows::fill_row_starts;
+
+// Fills the first step of each stage, the start of each stage's row and the estimate of each node.
+pub fn fill_tables<'a>(
+    first: &mut [u16; 257],
+    row: &mut [u32; 256],
+    by_node: &mut [u32; 512],
+    z: Shape,
+    steps: &'a [[u32; 1024]; 2],
+    inner: &'a [u32; 512],
+)
+    requires { ⌜ now first ≡ replicate 257 0 ⌝ }
+    requires { ⌜ now row ≡ replicate 256 0 ⌝ }
+    requires { ⌜ now «by_node» ≡ replicate 512 0 ⌝ }
+    requires { ⌜ Tables z (read (now steps) (now inner)) ⌝ }
+    ensures { λ _. ⌜
+        Prepared z (walk (read (now (steps .entry)) (now (inner .entry))) (now (first .exit)) (now (row .exit))) (now («by_node» .exit))
+        ⌝ }
+{
+    fill_first_steps(first, &steps[ENDS], z.steps, z.stages);
+    fill_diagram_estimates(by_node, z, inner, &steps[COST]);
+    fill_row_starts(row, z.stages as usize, z.nodes + 2);
+}
