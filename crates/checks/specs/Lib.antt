@@ -1,3 +1,4 @@
 pub mod Tables
 pub mod Outcome
 pub mod Ready
+pub mod Heads

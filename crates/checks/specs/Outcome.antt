@@ -2,17 +2,18 @@
 -- Assumes nothing.
 use Prim.Native.Nat.{ℕ, _≤_, min}
 use mathlib.Core.Path.{_≡_, refl, sym, _∙_, ap, ap₂}
-use mathlib.Core.Bool.{Bool, true, false, not, cond}
+use mathlib.Core.Bool.{Bool, true, false, not, _&&_, cond, and-true}
 use mathlib.Core.List.{List, [], _∷_}
 use mathlib.Core.Logic.{_⊎_, inl, inr}
 use native.Mathlib.Omega.{arith}
 use lib.Dec.{leb}
 use lib.ListN.{length}
-use borrow.Author.Tests.{le-leb, lt-leb, eq-eqb, ne-eqb, eqb-false, leb-true, leb-false, not-true}
-use Rattle.definitions.specs.Basics.{every}
+use borrow.Author.Tests.{le-leb, lt-leb, eq-eqb, ne-eqb, eqb-true, eqb-false, leb-true, leb-false, not-true, not-false}
+use Rattle.definitions.specs.Basics.{pick, every}
 use Rattle.definitions.specs.Charts.{Chart, readChart}
 use Rattle.definitions.specs.Diagrams.{Diagram, strict, DiagramRead, readDiagram}
-use Rattle.definitions.specs.Answers.{Load, ready, refused, readFiles, withSpace, load, workNeed, planNeed, spaceFits}
+use Rattle.definitions.specs.Answers.{Load, ready, refused, readFiles, withSpace, load, withWork, loadWork, workNeed, planNeed, workFits, spaceFits}
+use Rattle.chart.specs.Accepted.{chart-accepted}
 use Rattle.theory.specs.Basics.{pick-true, pick-false, pick-cases, either, both}
 
 -- ---- the files
@@ -95,6 +96,12 @@ pub load-shortest : (s t : List ℕ) (a : ℕ) (works : List ℕ) (plan : ℕ) �
 load-shortest s t a [] plan = refl
 load-shortest s t a (b ∷ works) plan = load-shorter s t a b works plan ∙ load-shortest s t (min a b) works plan
 
+-- the shortest of six, found by five comparisons
+pub shortest-of : (keys via heap pos stack log : ℕ) {a b c d e : ℕ} → a ≡ min keys via → b ≡ min a heap → c ≡ min b pos → d ≡ min c stack → e ≡ min d log
+    → e ≡ shortest keys (via ∷ heap ∷ pos ∷ stack ∷ log ∷ [])
+shortest-of keys via heap pos stack log ea eb ec ed ee =
+    ee ∙ ap (λ (i : ℕ). min i log) (ed ∙ ap (λ (i : ℕ). min i stack) (ec ∙ ap (λ (i : ℕ). min i pos) (eb ∙ ap (λ (i : ℕ). min i heap) ea)))
+
 pub refused-not-ready : (number file place : ℕ) (c : Chart) (d : Diagram) → refused number file place ≡ ready c d → ⊥
 refused-not-ready number file place c d e = let z : _≡_ {A = ℕ} 0 1 = cc in omega arith
 
@@ -162,3 +169,21 @@ load-numbered s t works plan number file place = go (readFiles strict s t) refl
     go (ready c d) e q z =
         either (pick-cases _ _ _ _ q) (λ x. refused-not-ready number file place c d (sym (x .1)))
         (λ x. let seven : 7 ≡ 0 = same-number 7 0 0 number file place (x .1) ∙ z in omega arith)
+
+-- ---- a call that is lent no plan slice
+
+-- an accepted chart has at most 256 stages
+files-few : (s t : List ℕ) (c : Chart) (d : Diagram) → readFiles strict s t ≡ ready c d → planNeed c ≤ 255
+unfolding readFiles
+files-few s t c d e =
+    either (pick-cases _ _ _ _ e) (λ x. absurd (refused-not-ready _ _ _ c d (x .1)))
+    (λ x. omega (arith, ap (λ (i : Chart). i .stages) (files-are strict s t c d e .0), chart-accepted s (eqb-true _ 0 (not-false _ (x .0))) .0 .few-stages))
+
+-- 255 entries are enough for any plan, so of such a slice nothing is asked
+pub load-work : (s t works : List ℕ) → load s t works 255 ≡ loadWork s t works
+unfolding load loadWork
+load-work s t works = go (readFiles strict s t) refl
+  where
+    go : (o : Load) → readFiles strict s t ≡ o → withSpace works 255 o ≡ withWork works o
+    go (refused number file place) e = refl
+    go (ready c d) e = ap (λ (b : Bool). pick b (ready c d) (refused 7 0 0)) (ap (λ (b : Bool). workFits c d works && b) (le-leb (planNeed c) 255 (files-few s t c d e)) ∙ and-true (workFits c d works))

@@ -1,4 +1,3 @@
 mod Planning
-mod Preparing
 mod Finding
 mod Loading

@@ -1,6 +1,6 @@
 -- From the outcome of the checks to the promise of `guided`.
 -- Assumes nothing.
-use Prim.Native.Nat.{ℕ, _*_, _≤_, min}
+use Prim.Native.Nat.{ℕ, _*_, _≤_}
 use mathlib.Core.Path.{_≡_, refl, sym, _∙_, ap, ap₂, subst}
 use mathlib.Core.List.{List, [], _∷_}
 use native.Mathlib.Omega.{arith}
@@ -16,12 +16,6 @@ use Rattle.checks.specs.Tables.{Read, chartIn, diagramIn, Tables, LoadsAs, pair
 use Rattle.checks.specs.Ready.{width-is}
 use Rattle.checks.specs.Outcome.{shortest, load-shortest, ready-space}
 use Rattle.guided.specs.Runs.{Room, Runs}
-
--- the shortest of six work slices, found by five comparisons
-pub shortest-of : (keys via heap pos stack log : ℕ) {a b c d e : ℕ} → a ≡ min keys via → b ≡ min a heap → c ≡ min b pos → d ≡ min c stack → e ≡ min d log
-    → e ≡ shortest keys (via ∷ heap ∷ pos ∷ stack ∷ log ∷ [])
-shortest-of keys via heap pos stack log ea eb ec ed ee =
-    ee ∙ ap (λ (i : ℕ). min i log) (ed ∙ ap (λ (i : ℕ). min i stack) (ec ∙ ap (λ (i : ℕ). min i pos) (eb ∙ ap (λ (i : ℕ). min i heap) ea)))
 
 -- a refusal leaves everything
 kept-refused : (o : Load) (t : Read) (x : GuidedSlices) (l : Loaded) (r : Answer) → LoadsAs o t l → (l .number ≡ 0 → ⊥) → r ≡ refusal (l .number) (l .file) (l .place) 0 → GuidedPromise o x x r

@@ -2,8 +2,7 @@
 -- Assumes nothing.
 use Prim.Native.Nat.{_-_, _≤_}
 use lib.ListN.{length}
-use Rattle.definitions.specs.Pairs.{Estimate}
-use Rattle.definitions.specs.Plans.{cheapest, estimate}
+use Rattle.definitions.specs.Plans.{cheapest}
 use Rattle.definitions.specs.Promises.{Outcome, Logged, GuidedSlices}
 use Rattle.definitions.specs.declared.Answer.{Answer}
 use Rattle.definitions.specs.declared.Shape.{Shape}
@@ -11,10 +10,7 @@ use Rattle.checks.specs.Tables.{Read, chartIn, diagramIn, pairsIn}
 use Rattle.checks.specs.Ready.{graphIn, automatonIn}
 use Rattle.guided_offers.specs.Work.{Work, work, Past}
 use Rattle.guided_loop.specs.Search.{Space}
-
--- the estimate that guides the search
-abbrev pub estimateIn : Shape → Read → Estimate
-estimateIn z t = estimate (chartIn z t) (diagramIn z t)
+use Rattle.guided_seek.specs.Seeks.{estimateIn}
 
 -- the work slices among all slices
 abbrev pub workOf : GuidedSlices → Work

@@ -2,21 +2,14 @@
 ghost use Rattle.definitions.specs.Promises.{guidedSlices, GuidedCall};
 ghost use Rattle.checks.specs.Tables.{read, Tables};
 ghost use Rattle.guided.specs.Runs.{Room, Runs};
-use chart_fields::COST;
-use chart_fields::ENDS;
-use chart_stages::fill_chart_estimates;
-use chart_stages::fill_first_steps;
 use checks::load;
 use checks::refusal;
 use convert::lesser;
 use definitions::Answer;
-use definitions::NONE;
 use definitions::Shape;
 use guided_ends::conclude;
-use guided_loop::search;
-use guided_offers::pair_estimate;
-use node_estimates::fill_diagram_estimates;
-use rows::fill_row_starts;
+use guided_seek::fill_tables;
+use guided_seek::seek;
 
 // The guided search of a chart and a diagram that stand in tables.
 fn run<'a>(
@@ -46,18 +39,10 @@ fn run<'a>(
         ⌝ }
 {
     let mut first = [0u16; 257];
-    fill_first_steps(&mut first, &steps[ENDS], z.steps, z.stages);
-    let mut by_stage = [NONE; 256];
-    fill_chart_estimates(&mut by_stage, z, steps, &first);
-    let mut by_node = [0u32; 512];
-    fill_diagram_estimates(&mut by_node, z, inner, &steps[COST]);
-    let rest = pair_estimate(&by_stage, &by_node, z.start, z.root);
-    if rest == NONE {
-        return refusal(8, 0, 0, 0);
-    }
     let mut row = [0u32; 256];
-    fill_row_starts(&mut row, z.stages as usize, z.nodes + 2);
-    let ended = search(
+    let mut by_node = [0u32; 512];
+    fill_tables(&mut first, &mut row, &mut by_node, z, steps, inner);
+    let ended = seek(
         keys,
         via,
         heap,
@@ -68,10 +53,8 @@ fn run<'a>(
         &first,
         &row,
         inner,
-        &by_stage,
         &by_node,
         z,
-        rest,
     );
     conclude(via, steps, &row, z, ended, plan)
 }

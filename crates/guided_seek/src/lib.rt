@@ -1,6 +1,6 @@
 // One guided search over tables: those that it walks, whatever its start and end, and the search from a start to an end.
-mod seek;
+mod run;
 mod tables;
 
-pub use seek::seek;
+pub use run::seek;
 pub use tables::fill_tables;

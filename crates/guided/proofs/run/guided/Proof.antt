@@ -1,6 +1,7 @@
 -- `guided::guided` meets its contract.
 use Rattle.definitions.specs.Promises.{guidedSlices}
-use Rattle.guided.proofs.Loading.{shortest-of, call-refused, call-runs, call-done}
+use Rattle.checks.specs.Outcome.{shortest-of}
+use Rattle.guided.proofs.Loading.{call-refused, call-runs, call-done}
 use borrow.Author.Needs.{needs}
 use Rattle.guided.proofs.run.guided.Statement.{statement}
 use Rattle.guided.proofs.run.guided.Tie as tie

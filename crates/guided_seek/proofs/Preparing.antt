@@ -1,19 +1,21 @@
 -- The tables of the search, from those of the chart and the diagram; the larger of both estimates guides it.
 -- Assumes nothing.
 use Prim.Native.Nat.{ℕ, _+_, _≤_, _<_, max}
-use mathlib.Core.Path.{_≡_, refl, _∙_}
+use mathlib.Core.Path.{_≡_, refl, sym, _∙_, subst}
+use mathlib.Core.Bool.{true, false}
 use mathlib.Core.List.{List}
 use mathlib.Core.Option.{Option, none, some}
 use native.Mathlib.Omega.{arith}
 use lib.ListN.{length, getD}
-use Rattle.definitions.specs.Basics.{larger}
+use Rattle.definitions.specs.Basics.{NONE, larger}
 use Rattle.definitions.specs.Charts.{Chart}
 use Rattle.definitions.specs.Diagrams.{Diagram, size}
 use Rattle.definitions.specs.Ways.{Graph}
-use Rattle.definitions.specs.Pairs.{Automaton, rowStarts}
+use Rattle.definitions.specs.Pairs.{Automaton}
 use Rattle.definitions.specs.Plans.{chartEstimate, diagramEstimate, estimate}
 use Rattle.definitions.specs.Promises.{shown}
 use Rattle.definitions.specs.declared.Shape.{Shape}
+use Rattle.theory.specs.Basics.{true-not-false}
 use Rattle.theory.specs.Limits.{Sound}
 use Rattle.theory.specs.Estimates.{chart-bounded, diagram-bounded}
 use Rattle.chart_stages.specs.FirstSteps.{SortedTable, FirstTable}
@@ -25,12 +27,17 @@ use Rattle.nodes.specs.Falling.{lo-falls, hi-falls}
 use Rattle.node_estimates.specs.Estimates.{Priced, Costs, Estimated}
 use Rattle.node_estimates.specs.Prices.{costs-of, priced}
 use Rattle.checks.specs.Tables.{Read, chartIn, diagramIn, Tables}
-use Rattle.checks.specs.Ready.{walk, graphIn, automatonIn, count-is, width-is, sound-in, few-stages, few-nodes, cost-at}
+use Rattle.checks.specs.Ready.{Walk, graphIn, automatonIn, count-is, width-is, sound-in, few-stages, few-nodes, cost-at}
 use Rattle.guided_model.specs.State.{Guide}
-use Rattle.guided_model.specs.Guides.{guide}
+use Rattle.guided_model.specs.Guides.{guide, estimate-until}
+use Rattle.guided_model.specs.Bounds.{estimate-none, estimate-some}
+use Rattle.guided_model.specs.Charts.{NoneSettled, none-begun}
 use Rattle.guided_expand.specs.Guides.{Guides}
 use Rattle.guided_offers.specs.Estimates.{estimates, paired, Holds}
-use Rattle.guided.specs.Runs.{estimateIn}
+use Rattle.guided_offers.specs.Work.{Work, past-same}
+use Rattle.guided_loop.specs.Search.{Space, Start, Searched}
+use Rattle.guided_ends.specs.declared.Ended.{Ended}
+use Rattle.guided_seek.specs.Seeks.{estimateIn, Prepared, Sought}
 
 -- the larger of two entries is that of the larger estimate, since none is shown by the largest number
 larger-shown : (a b : Option ℕ) (x y : ℕ) → x ≡ shown a → y ≡ shown b → ((m : ℕ) → a ≡ some m → m ≤ 510000000) → ((m : ℕ) → b ≡ some m → m ≤ 510000000)
@@ -89,17 +96,53 @@ module _ {z : Shape} {t : Read} (in-tables : Tables z t) where
   abbrev pub run-guide : Guide g a (estimateIn z t)
   run-guide = guide C D (in-tables .valid) (in-tables .small) sound
 
-  module _ {byStage byNode : List ℕ} (es : EstimateTable C byStage) (en : Estimated (t .inner .step) (t .inner .lo) (t .inner .hi) (t .steps .cost) (z .nodes) byNode) where
-    pub run-holds : Holds (z .start .0) (estimateIn z t) (z .nodes + 2) (estimates byStage byNode)
-    unfolding estimate
-    run-holds s n late h i =
-        larger-shown (chartEstimate C s) (diagramEstimate C D n) (getD byStage s 0) (getD byNode n 0) (es .at s late h)
-        (en .is C D prices (in-tables .held) sound (omega (arith, width)) n (omega (arith, width)))
-        (λ m e. chart-bounded C (in-tables .valid) s m e) (λ m e. diagram-bounded C D (in-tables .valid) (in-tables .small) sound n m (omega (arith, width)) e)
+-- the chart estimates are filled too: both tables hold the estimate that guides the search
+module _ {z : Shape} {on : Walk} {byNode : List ℕ} (p : Prepared z on byNode) {byStage : List ℕ} (es : EstimateTable (chartIn z (on .read)) byStage) where
+  abbrev t : Read
+  t = on .read
 
-    pub run-shown : {rest : ℕ} → rest ≡ paired (estimates byStage byNode) (z .start .0) (z .root .0) → rest ≡ shown (estimateIn z t (z .start .0) (z .root .0))
-    run-shown e = e ∙ run-holds (z .start .0) (z .root .0) (omega arith) (run-root .0) (omega (arith, sound .root-inside, width))
+  abbrev in-tables : Tables z t
+  in-tables = p .ready .tables
 
-    abbrev pub run-guides : {first row : List ℕ} → FirstTable (z .steps) (z .stages) (t .steps .from) first → row ≡ rowStarts (z .stages) (z .nodes + 2)
-        → Guides z (walk t first row) (estimates byStage byNode)
-    run-guides f r = record { ready = record { tables = in-tables; firsts = f; rows = r }; h = estimateIn z t; guide = run-guide; holds = run-holds }
+  pub run-holds : Holds (z .start .0) (estimateIn z t) (z .nodes + 2) (estimates byStage byNode)
+  unfolding estimate
+  run-holds s n late h i =
+      larger-shown (chartEstimate (chartIn z t) s) (diagramEstimate (chartIn z t) (diagramIn z t) n) (getD byStage s 0) (getD byNode n 0) (es .at s late h)
+      (p .nodes .is (chartIn z t) (diagramIn z t) (prices in-tables) (in-tables .held) (sound in-tables) (omega (arith, width in-tables)) n (omega (arith, width in-tables)))
+      (λ m e. chart-bounded (chartIn z t) (in-tables .valid) s m e)
+      (λ m e. diagram-bounded (chartIn z t) (diagramIn z t) (in-tables .valid) (in-tables .small) (sound in-tables) n m (omega (arith, width in-tables)) e)
+
+  abbrev pub run-guides : Guides z on (estimates byStage byNode)
+  run-guides = record { ready = p .ready; h = estimateIn z t; guide = run-guide in-tables; holds = run-holds }
+
+  -- what the search leaves
+  pub sought-some : {x y : Work} {log log′ : List ℕ} {r : Ended} → Searched run-guides x log y log′ r → Sought z t x log y log′ r
+  sought-some s = record { goal = s .goal; no-goal = s .no-goal; past = s .past }
+
+  -- what is read for the pair of start and root
+  module _ {rest : ℕ} (er : rest ≡ paired (estimates byStage byNode) (z .start .0) (z .root .0)) where
+    run-shown : rest ≡ shown (estimateIn z t (z .start .0) (z .root .0))
+    run-shown = er ∙ run-holds (z .start .0) (z .root .0) (omega arith) (run-root in-tables .0) (omega (arith, sound in-tables .root-inside, width in-tables))
+
+    -- it has no estimate: nothing is settled
+    pub sought-none : rest ≡ NONE → {x : Work} {log : List ℕ} {r : Ended} → r .found ≡ false → r .count ≡ 0 → Sought z t x log x log r
+    sought-none q {x} {log} {r} f c = record {
+      goal = λ g. absurd (true-not-false (sym g ∙ f));
+      no-goal = λ g. subst (λ (k : ℕ). NoneSettled (chartIn z t) (diagramIn z t) (estimateIn z t) 0 k log log) (sym c)
+          (none-begun (chartIn z t) (diagramIn z t) (sound in-tables) (run-guide in-tables) log
+          (estimate-none (run-guide in-tables) (z .start .0) (z .root .0) rest (sound in-tables .root-inside) run-shown q));
+      past = past-same;
+    }
+
+    -- it has one: what the search asks
+    module _ (q : rest ≡ NONE → ⊥) {x : Work} {log : List ℕ} (space : Space z x log) where
+      pub has-estimate : estimateIn z t (z .start .0) (z .root .0) ≡ some rest
+      has-estimate = estimate-some (run-guide in-tables) (z .start .0) (z .root .0) rest run-shown q
+
+      abbrev pub run-start : Start z on (estimates byStage byNode) rest x log
+      run-start = record {
+        by = run-guides;
+        space = space;
+        has = has-estimate;
+        inside = λ s n m e. omega (arith, estimate-until (chartIn z t) (diagramIn z t) (in-tables .valid) s n m e, in-tables .valid .end-inside);
+      }
