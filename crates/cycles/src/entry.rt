@@ -55,15 +55,29 @@ pub fn answered<'a>(
     if z.stages <= c.end {
         return with_answer(c, 4, 0, 0);
     }
+    let root = z.root;
     let y = Shape {
         stages: z.stages,
         start: Stage(c.start),
         end: Stage(c.end),
         steps: z.steps,
-        root: z.root,
+        root,
         nodes: z.nodes,
     };
-    let ended = seek(keys, via, heap, pos, stack, log, steps, first, row, inner, by_node, y);
+    let ended = seek(
+        keys,
+        via,
+        heap,
+        pos,
+        stack,
+        log,
+        steps,
+        first,
+        row,
+        inner,
+        by_node,
+        y,
+    );
     if ended.found {
         return with_answer(c, 0, ended.cost, ended.count);
     }

@@ -1,7 +1,3 @@
 // A list of starts and ends on one chart, but for the loop over the list: what is done once for all entries, and what for each.
-mod entry;
-mod once;
-
-pub use entry::answered;
-pub use once::prepare;
-pub use once::turns;
+pub mod entry;
+pub mod once;
