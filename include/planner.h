@@ -184,7 +184,7 @@ typedef char planner_cycle_cost_at_8[offsetof(planner_cycle, cost) == 8 ? 1 : -1
 typedef char planner_cycle_count_at_16[offsetof(planner_cycle, count) == 16 ? 1 : -1];
 
 /*
- * A list of starts and ends on one chart: each entry of `cycles` gets the number, cost and count that planner_guided
+ * A list of starts and ends on one chart: each entry of `list` gets the number, cost and count that planner_guided
  * would give for the chart with that start and end in its head. The files are read and checked once, so a list costs
  * much less than its calls one by one. The list may be empty. An entry whose start or end is no stage of the chart gets
  * 4, cost 0 and count 0, and the others are answered all the same. The head's own start and end are checked, and used by
@@ -197,7 +197,7 @@ typedef char planner_cycle_count_at_16[offsetof(planner_cycle, count) == 16 ? 1 
  * All six entries of *answer are written; the number is returned. Accepted: all six are 0, also where no entry of the
  * list has a plan. What the slices hold then:
  *   number        0                                  any other
- *   cycles        number, cost and count of every    as it was
+ *   list          number, cost and count of every    as it was
  *                 entry written, start and end stay
  *   keys .. log   first space.work entries: free     as they were
  * All further entries stay as they were.
@@ -210,7 +210,7 @@ uint32_t planner_cycles(const uint8_t *chart, size_t chart_len,
                         uint32_t *pos, size_t pos_len,
                         uint32_t *stack, size_t stack_len,
                         uint32_t *log, size_t log_len,
-                        planner_cycle *cycles, size_t cycles_len,
+                        planner_cycle *list, size_t list_len,
                         planner_answer *answer);
 
 /*

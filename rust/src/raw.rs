@@ -66,8 +66,8 @@ extern "C" {
         stack_len: usize,
         log: *mut u32,
         log_len: usize,
-        cycles: *mut Cycle,
-        cycles_len: usize,
+        list: *mut Cycle,
+        list_len: usize,
         answer: *mut Answer,
     ) -> u32;
 

@@ -4,9 +4,9 @@ ghost use mathlib.Core.Path.{_≡_};
 ghost use Prim.Native.Nat.{min};
 ghost use lib.ListN.{length};
 ghost use Rattle.definitions.specs.Fields.{refusedField};
-ghost use Rattle.definitions.specs.Answers.{readFiles};
+ghost use Rattle.definitions.specs.Answers.{readFiles, refusal as refusalOf};
 ghost use Rattle.definitions.specs.Diagrams.{strict};
-ghost use Rattle.definitions.specs.Promises.{sweepSlices, SweepCall, guidedSlices, GuidedCall, conjoinSlices, ConjoinCall, ReduceCall};
+ghost use Rattle.definitions.specs.Promises.{sweepSlices, SweepCall, guidedSlices, GuidedCall, cycleSlices, CyclesCall, conjoinSlices, ConjoinCall, ReduceCall};
 ghost use Rattle.space.specs.Space.{spaceNeeded};
 ghost use Rattle.planner.specs.Both.{BothCall};
 ghost use Rattle.buffer.specs.Appending.{Appended};
@@ -16,6 +16,12 @@ use answer_arrays::store;
 use answer_arrays::store_both;
 use answer_arrays::store_field;
 use answer_arrays::store_space;
+use checks::Loaded;
+use checks::refusal;
+use cycles::entry::answered;
+use cycles::once::prepare;
+use cycles::once::turns;
+use definitions::Cycle;
 
 // How much space the searches need for two files: the number, file and place of a refusal, or 0; then the entries that
 // each work slice and the plan slice need.
@@ -77,6 +83,84 @@ pub extern "C" fn planner_guided(
 {
     let found = guided::guided(chart, rules, keys, via, heap, pos, stack, log, plan);
     store(found, answer)
+}
+
+// What the call over a list answers: the refusal of its checks, or all 0.
+fn tell(got: Loaded, answer: &mut [usize; 6]) -> u32
+    ensures { λ r. ⌜
+        Given (λ a. a ≡ refusalOf (got .number) (got .file) (got .place) 0) (now (answer .exit)) r
+        ⌝ }
+{
+    let told = refusal(got.number, got.file, got.place, 0);
+    store(told, answer)
+}
+
+// A list of starts and ends on one chart: each entry gets the answer of a guided search from its start to its end. The files
+// are read and checked once, and the tables that no start or end changes are filled once.
+#[no_mangle]
+pub extern "C" fn planner_cycles(
+    chart: &[u8],
+    rules: &[u8],
+    keys: &mut [u32],
+    via: &mut [u32],
+    heap: &mut [u32],
+    pos: &mut [u32],
+    stack: &mut [u32],
+    log: &mut [u32],
+    list: &mut [Cycle],
+    answer: &mut [usize; 6],
+) -> u32
+    ensures { λ r. ⌜
+        (let before =
+        cycleSlices (now (keys .entry)) (now (via .entry)) (now (heap .entry)) (now (pos .entry)) (now (stack .entry)) (now (log .entry)) in
+        let after =
+        cycleSlices (now (keys .exit)) (now (via .exit)) (now (heap .exit)) (now (pos .exit)) (now (stack .exit)) (now (log .exit)) in
+        Given (CyclesCall (now (chart .entry)) (now (rules .entry)) before after (now (list .entry)) (now (list .exit)))
+        (now (answer .exit)) r)
+        ⌝ }
+{
+    let mut steps = [[0u32; 1024]; 2];
+    let mut inner = [0u32; 512];
+    let mut first = [0u16; 257];
+    let mut row = [0u32; 256];
+    let mut by_node = [0u32; 512];
+    let got = prepare(
+        chart,
+        rules,
+        keys.len(),
+        via.len(),
+        heap.len(),
+        pos.len(),
+        stack.len(),
+        log.len(),
+        &mut steps,
+        &mut inner,
+        &mut first,
+        &mut row,
+        &mut by_node,
+    );
+    let n = turns(got, list.len());
+    let mut i: usize = 0;
+    while i < n {
+        let c = list[i];
+        list[i] = answered(
+            c,
+            keys,
+            via,
+            heap,
+            pos,
+            stack,
+            log,
+            &steps,
+            &first,
+            &row,
+            &inner,
+            &by_node,
+            got.shape,
+        );
+        i += 1;
+    }
+    tell(got, answer)
 }
 
 // Both searches, on the slices of each. The number returned is the guided search's.
