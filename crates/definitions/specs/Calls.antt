@@ -23,23 +23,23 @@ use Rattle.definitions.specs.Examples.{loadRefusal}
 use Rattle.definitions.specs.Logs.{_also_, each, some-same}
 use Rattle.definitions.specs.Slices.{differ}
 
-abbrev chartFile : List ℕ
+abbrev pub chartFile : List ℕ
 chartFile = chartBytes single
 
-abbrev rulesFile : List ℕ
+abbrev pub rulesFile : List ℕ
 rulesFile = diagramBytes (leaf 1)
 
 -- a work slice before a call; after it with its two free entries written, and with the entry past them changed
-abbrev w : List ℕ
+abbrev pub w : List ℕ
 w = 5 ∷ 5 ∷ 6 ∷ []
 
-abbrev w′ : List ℕ
+abbrev pub w′ : List ℕ
 w′ = 1 ∷ 2 ∷ 6 ∷ []
 
-abbrev bad : List ℕ
+abbrev pub bad : List ℕ
 bad = 1 ∷ 2 ∷ 7 ∷ []
 
-abbrev short : List ℕ
+abbrev pub short : List ℕ
 short = 5 ∷ []
 
 -- ---- the space: every work slice is asked for, in both searches
@@ -59,7 +59,7 @@ spaces =
     ∷ loadRefusal (guidedLoad chartFile rulesFile (guidedSlices w w w w w short []))
     ∷ []
 
-abbrev seven : List ℕ
+abbrev pub seven : List ℕ
 seven = 7 ∷ 0 ∷ 0 ∷ []
 
 pub spaces-hold : spaces ≡ [] ∷ seven ∷ seven ∷ seven ∷ [] ∷ seven ∷ seven ∷ seven ∷ seven ∷ seven ∷ seven ∷ []
@@ -105,7 +105,7 @@ one : (sumAt g a h 1 ≡ some 0) × (leastCostAt g a h 1 ≡ some 0) × (goalAt 
 unfolding pick smaller larger sumOf descend descendIn advance finish waysIn ways leastWay stands leastCost reached goal toEnd sum chartEstimate diagramEstimate estimate variable variableCost
 one = (refl, refl, refl)
 
-one-settled : Settled g a h (1 ∷ [])
+pub one-settled : Settled g a h (1 ∷ [])
 one-settled = record {
   first = λ l. refl;
   inside = each 1 (λ i. getD (1 ∷ []) i 0 < 2) (omega arith also tt);
@@ -118,7 +118,7 @@ one-settled = record {
   follows = λ j l u. absurd (omega arith);
 }
 
-one-found : Found g a h 0 (1 ∷ [])
+pub one-found : Found g a h 0 (1 ∷ [])
 one-found = record {
   some-entry = omega arith;
   only-goal = each 1 (λ i. goalAt g a h (getD (1 ∷ []) i 0) ≡ eqb (suc i) 1) (one .2 also tt);
@@ -180,10 +180,10 @@ unfolding pick only orRemark fieldAt firstField onField scan headFault readChart
 guided-plan s = let e = differ (s .guided .0 .1 .rest) 0 in omega arith
 
 -- two stages need a plan entry
-abbrev twoFile : List ℕ
+abbrev pub twoFile : List ℕ
 twoFile = chartBytes (record { stages = 2; start = 0; end = 1; steps = [] })
 
-abbrev v : List ℕ
+abbrev pub v : List ℕ
 v = 5 ∷ 5 ∷ 5 ∷ 5 ∷ []
 
 pub plan-spaces : List (List ℕ)

@@ -17,5 +17,6 @@ pub mod Corners
 pub mod Remarks
 pub mod Ticks
 pub mod Calls
+pub mod Cycles
 pub mod Conjunctions
 pub mod Padding
