@@ -1,9 +1,10 @@
-//! The wrapper's calls on the shipped example: plans, conjunctions, reductions, refusals, lent slices,
-//! kept work space.
+//! The wrapper's calls on the shipped example: plans, lists of starts and ends, conjunctions,
+//! reductions, refusals, lent slices, kept work space.
 
-use planner::lent::{self, Answer, ConjoinSlices, GuidedSlices, Space, SweepSlices, UNREACHED};
-use planner::{conjoin, plan, reduce, refused_field, space_needed};
-use planner::{ConjoinWork, File, Refusal, Work, LONGEST_FILE, MOST_FILE, MOST_PAIRS, TICK};
+use planner::lent::UNREACHED;
+use planner::lent::{self, Answer, ConjoinSlices, CycleSlices, GuidedSlices, Space, SweepSlices};
+use planner::{conjoin, cycles, plan, reduce, refused_field, space_needed};
+use planner::{ConjoinWork, Cycle, File, Refusal, Work, LONGEST_FILE, MOST_FILE, MOST_PAIRS, TICK};
 
 /// A chart file: stage count, start, end, then from, to and value of each step.
 fn chart_file(head: [u16; 3], steps: &[(u16, u16, u32)]) -> Vec<u8> {
@@ -754,16 +755,248 @@ fn reductions_of_510_nodes() {
     assert_eq!(reduce(&chart, &more).err(), refusal_of(6, 2, MOST_FILE));
 }
 
+/// A chart with this start and end in its head.
+fn headed(chart: &[u8], start: u16, end: u16) -> Vec<u8> {
+    let mut headed = chart.to_vec();
+    headed[5..7].copy_from_slice(&start.to_le_bytes());
+    headed[7..9].copy_from_slice(&end.to_le_bytes());
+    headed
+}
+
+/// Entries with these starts and ends, which hold something before they are answered.
+fn asked(pairs: &[(u16, u16)]) -> Vec<Cycle> {
+    let entry = |&(start, end)| Cycle { start, end, number: 9, cost: 9, count: 9 };
+    pairs.iter().map(entry).collect()
+}
+
+/// From each of so many stages to each.
+fn all_pairs(stages: u16) -> Vec<(u16, u16)> {
+    (0..stages).flat_map(|start| (0..stages).map(move |end| (start, end))).collect()
+}
+
+/// The entries as guided searches answer them, each on the chart with its start and end in the head;
+/// one that is no stage is 4 there too.
+fn searched(work: &mut Work, chart: &[u8], rules: &[u8], list: &[Cycle]) -> Vec<Cycle> {
+    let search = |cycle: &Cycle| {
+        let answer = work.guided(&headed(chart, cycle.start, cycle.end), rules);
+        let (number, cost) = (answer.number as u32, answer.cost as u32);
+        Cycle { number, cost, count: answer.count, ..*cycle }
+    };
+    list.iter().map(search).collect()
+}
+
+#[test]
+fn every_start_with_every_end() {
+    let (chart, rules) = example();
+    let mut list = asked(&all_pairs(5));
+    assert_eq!(cycles(&chart, &rules, &mut list), Ok(()));
+    // A row for each start: the cost and the settled pairs. No way leads to a lower stage.
+    let found = [
+        [Some((0, 1)), Some((100, 2)), Some((250, 3)), Some((150, 3)), Some((200, 4))],
+        [None, Some((0, 1)), Some((200, 2)), Some((50, 2)), Some((100, 3))],
+        [None, None, Some((0, 1)), Some((50, 2)), Some((100, 3))],
+        [None, None, None, Some((0, 1)), Some((50, 2))],
+        [None, None, None, None, Some((0, 1))],
+    ];
+    let expected = all_pairs(5).into_iter().zip(found.into_iter().flatten());
+    let expected = expected.map(|((start, end), found)| match found {
+        Some((cost, count)) => Cycle { start, end, number: 0, cost, count },
+        None => Cycle { start, end, number: 8, cost: 0, count: 0 },
+    });
+    assert_eq!(list, expected.collect::<Vec<_>>());
+
+    let mut work = Work::for_files(&chart, &rules).expect("sound files");
+    assert_eq!(searched(&mut work, &chart, &rules, &list), list);
+    // Each by itself, and under any start and end of the head.
+    for cycle in &list {
+        let mut alone = [Cycle::new(cycle.start, cycle.end)];
+        assert_eq!(work.cycles(&chart, &rules, &mut alone), Ok(()));
+        assert_eq!(alone, [*cycle]);
+        let mut again = asked(&all_pairs(5));
+        let other = headed(&chart, cycle.start, cycle.end);
+        assert_eq!(work.cycles(&other, &rules, &mut again), Ok(()));
+        assert_eq!(again, list);
+    }
+}
+
+#[test]
+fn lists_under_other_rules() {
+    let (chart, _) = example();
+    let mut work = Work::with_entries(100, 4);
+    let diagrams = [rules_file(0, &[]), rules_file(1, &[]), not_taken(&[1]), not_taken(&[2, 3])];
+    for rules in diagrams {
+        let mut list = asked(&all_pairs(6));
+        assert_eq!(work.cycles(&chart, &rules, &mut list), Ok(()));
+        assert_eq!(searched(&mut work, &chart, &rules, &list), list);
+        let mut noted_list = asked(&all_pairs(6));
+        let (noted_chart, noted_rules) = (noted(&chart, LONGEST_FILE), noted(&rules, 100));
+        assert_eq!(work.cycles(&noted_chart, &noted_rules, &mut noted_list), Ok(()));
+        assert_eq!(noted_list, list);
+    }
+}
+
+#[test]
+fn a_list_may_be_empty_or_long() {
+    let (chart, rules) = example();
+    assert_eq!(cycles(&chart, &rules, &mut []), Ok(()));
+    assert_eq!(cycles(&chart[..19], &rules, &mut []).err(), refusal_of(1, 1, 9));
+    assert_eq!(Work::default().cycles(&chart, &rules, &mut []), Err(Refusal::Space));
+    // Equal entries, far apart and side by side, have equal answers; filled twice they are the same.
+    let pairs = all_pairs(6);
+    let (often, twice) = (pairs.repeat(40), pairs.iter().flat_map(|pair| [*pair; 2]));
+    let mut list = asked(&pairs);
+    assert_eq!(cycles(&chart, &rules, &mut list), Ok(()));
+    let mut long = asked(&often);
+    assert_eq!(cycles(&chart, &rules, &mut long), Ok(()));
+    assert_eq!(long, list.repeat(40));
+    assert_eq!(cycles(&chart, &rules, &mut long), Ok(()));
+    assert_eq!(long, list.repeat(40));
+    let mut doubled = asked(&twice.collect::<Vec<_>>());
+    assert_eq!(cycles(&chart, &rules, &mut doubled), Ok(()));
+    assert_eq!(doubled, list.iter().flat_map(|cycle| [*cycle; 2]).collect::<Vec<_>>());
+}
+
+#[test]
+fn entries_outside_the_chart() {
+    let (chart, rules) = example();
+    let mut work = Work::for_files(&chart, &rules).expect("sound files");
+    let inside = [(0, 4), (4, 0), (2, 2)];
+    let mut answers = asked(&inside);
+    assert_eq!(work.cycles(&chart, &rules, &mut answers), Ok(()));
+    for (start, end) in [(5, 0), (0, 5), (5, 5), (4, 256), (256, 4), (u16::MAX, 3), (3, u16::MAX)] {
+        let refused = Cycle { start, end, number: 4, cost: 0, count: 0 };
+        for place in 0..=inside.len() {
+            let (mut pairs, mut expected) = (inside.to_vec(), answers.clone());
+            pairs.insert(place, (start, end));
+            expected.insert(place, refused);
+            let mut list = asked(&pairs);
+            assert_eq!(work.cycles(&chart, &rules, &mut list), Ok(()));
+            assert_eq!(list, expected);
+            assert_eq!(searched(&mut work, &chart, &rules, &list), expected);
+        }
+        let mut alone = asked(&[(start, end); 3]);
+        assert_eq!(work.cycles(&chart, &rules, &mut alone), Ok(()));
+        assert_eq!(alone, [refused; 3]);
+        // In the head the same start and end refuse the call, whatever is asked.
+        let mut list = asked(&inside);
+        let refusal = work.cycles(&headed(&chart, start, end), &rules, &mut list);
+        assert_eq!((refusal.err(), list), (refusal_of(4, 1, 0), asked(&inside)));
+    }
+}
+
+/// A list in six slices of these lengths: its answer and what stands in them and in the list
+/// afterwards. Before, a work entry is 7.
+fn lent_cycles(
+    files: [&[u8]; 2],
+    lengths: [usize; 6],
+    pairs: &[(u16, u16)],
+) -> (Answer, [Vec<u32>; 6], Vec<Cycle>) {
+    let mut slices = lengths.map(|length| vec![7; length]);
+    let mut list = asked(pairs);
+    let mut answer = Answer { number: 5, file: 5, place: 5, cost: 5, length: 5, count: 5 };
+    let [keys, via, heap, pos, stack, log] = &mut slices;
+    let lent = CycleSlices { keys, via, heap, pos, stack, log };
+    let number = lent::cycles(files[0], files[1], lent, &mut list, &mut answer);
+    assert_eq!(number as usize, answer.number);
+    (answer, slices, list)
+}
+
+#[test]
+fn slices_lent_for_a_list() {
+    let (chart, rules) = example();
+    let files = [&chart[..], &rules];
+    let pairs = all_pairs(6);
+    let mut expected = asked(&pairs);
+    assert_eq!(cycles(&chart, &rules, &mut expected), Ok(()));
+    // Every entry of the answer is 0; entries past those needed stay, the log's too.
+    for spare in [0, 1, 100] {
+        let (answer, slices, list) = lent_cycles(files, [20 + spare; 6], &pairs);
+        assert_eq!((answer, list), (Answer::default(), expected.clone()));
+        assert!(slices.iter().all(|slice| slice[20..] == vec![7; spare]));
+    }
+    let (answer, slices, _) = lent_cycles(files, [20; 6], &[]);
+    assert_eq!((answer, slices.map(|slice| slice.len())), (Answer::default(), [20; 6]));
+    // Each of the six is asked for, by an empty list too: one that is too short leaves everything.
+    for short in 0..6 {
+        for (length, pairs) in [(19, &pairs[..]), (0, &pairs), (19, &[])] {
+            let mut lengths = [20; 6];
+            lengths[short] = length;
+            let untouched = (refused(7), lengths.map(|length| vec![7; length]), asked(pairs));
+            assert_eq!(lent_cycles(files, lengths, pairs), untouched);
+        }
+    }
+}
+
+#[test]
+fn a_refused_file_leaves_a_list() {
+    let (chart, rules) = example();
+    let pairs = [(0, 4), (5, 5), (4, 0)];
+    let left = |files: [&[u8]; 2], length, answer: Answer| {
+        let untouched = (answer, [(); 6].map(|()| vec![7; length]), asked(&pairs));
+        assert_eq!(lent_cycles(files, [length; 6], &pairs), untouched);
+    };
+    // Before the space is looked at. A spoiled chart is told before a spoiled diagram.
+    for length in [0, 100] {
+        for (chart, number, place) in refused_charts() {
+            let answer = Answer { number, file: 1, place, ..Answer::default() };
+            left([&chart, &rules], length, answer);
+            left([&chart, &[]], length, answer);
+        }
+        for (rules, number, place, _) in refused_diagrams() {
+            let answer = Answer { number, file: 2, place, ..Answer::default() };
+            left([&chart, &rules], length, answer);
+        }
+        for (padded, place, _) in padded_diagrams() {
+            let answer = Answer { number: 13, file: 2, place, ..Answer::default() };
+            left([&chart, &padded], length, answer);
+        }
+    }
+    for (rules, number, place, field) in refused_diagrams() {
+        let mut list = asked(&pairs);
+        let refusal = cycles(&chart, &rules, &mut list).unwrap_err();
+        assert_eq!((Some(refusal), list), (refusal_of(number, 2, place), asked(&pairs)));
+        assert_eq!(refusal.field(&chart, &rules), field);
+    }
+}
+
+#[test]
+fn a_list_on_256_stages_without_a_plan_slice() {
+    let steps: Vec<_> = (0..255).map(|stage| (stage, stage + 1, 30)).collect();
+    let (chart, rules) = (chart_file([256, 0, 255], &steps), not_taken(&[100]));
+    // 256 stages, 3 nodes. A search has plan entries to ask for, a list has not.
+    let mut work = Work::with_entries(256 * 3, 0);
+    assert_eq!(work.guided(&chart, &rules), refused(7));
+    let pairs = [(0, 100), (0, 101), (101, 255), (255, 255), (255, 0), (0, 256), (256, 255)];
+    let mut list = asked(&pairs);
+    assert_eq!(work.cycles(&chart, &rules, &mut list), Ok(()));
+    let found: Vec<_> = list.iter().map(|cycle| (cycle.number, cycle.cost)).collect();
+    let ticks = |steps| (0, steps * TICK);
+    assert_eq!(found, [ticks(100), (8, 0), ticks(154), ticks(0), (8, 0), (4, 0), (4, 0)]);
+    let mut searching = Work::for_files(&chart, &rules).expect("sound files");
+    assert_eq!(searched(&mut searching, &chart, &rules, &list), list);
+    // The same in slices of its own; an entry less is 7.
+    let files = [&chart[..], &rules];
+    let (answer, _, lent) = lent_cycles(files, [256 * 3; 6], &pairs);
+    assert_eq!((answer, lent), (Answer::default(), list));
+    let (answer, _, lent) = lent_cycles(files, [256 * 3 - 1; 6], &pairs);
+    assert_eq!((answer, lent), (refused(7), asked(&pairs)));
+}
+
 #[test]
 fn calls_from_several_threads() {
     let (chart, rules) = example();
     let expected = plan(&chart, &rules);
+    let mut filled = asked(&all_pairs(6));
+    assert_eq!(cycles(&chart, &rules, &mut filled), Ok(()));
     std::thread::scope(|scope| {
         for _ in 0..4 {
             scope.spawn(|| {
                 let mut work = Work::for_files(&chart, &rules).expect("sound files");
                 for _ in 0..1_000 {
                     assert_eq!(work.plan(&chart, &rules), expected);
+                    let mut list = asked(&all_pairs(6));
+                    assert_eq!(work.cycles(&chart, &rules, &mut list), Ok(()));
+                    assert_eq!(list, filled);
                 }
             });
         }
