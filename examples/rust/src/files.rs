@@ -15,7 +15,7 @@ pub fn read_file(path: &OsStr) -> Vec<u8> {
 }
 
 /// Writes a whole file. The exit status: 0, or 2 where it can't be written.
-#[allow(dead_code)] // plan-rust writes none.
+#[allow(dead_code)] // plan-rust and cycles-rust write none.
 pub fn write_file(path: &OsStr, bytes: &[u8]) -> ExitCode {
     match std::fs::write(path, bytes) {
         Ok(()) => ExitCode::SUCCESS,
