@@ -7,14 +7,15 @@
  * Every call
  *   - takes its files as bytes, of any length and content: a broken file gets a numbered refusal;
  *   - works in slices that the caller lends: a pointer and a length in entries. Work entries are uint32_t, plan
- *     entries uint16_t, those of a file or a field uint8_t. Their content does not matter before the call;
+ *     entries uint16_t, those of a file or a field uint8_t, those of a list planner_cycle. What they hold before the
+ *     call does not matter, but for start and end in a list;
  *   - allocates nothing, has no global state and keeps no pointer: calls may run at once on different slices;
  *   - always returns.
  *
  * The caller sees to it that
  *   - no pointer is null, also where the length is 0;
  *   - each pointer is aligned for its type and its slice is as long as the length says;
- *   - slices that are written (work, plan, file, field, answers) overlap neither each other nor the files;
+ *   - slices that are written (work, plan, list, file, field, answers) overlap neither each other nor the files;
  *   - there is room on the stack: PLANNER_STACK bytes are enough for any call.
  */
 #ifndef PLANNER_H
@@ -38,7 +39,7 @@ enum {
     PLANNER_CUT = 1,     /* the file ends inside a field */
     PLANNER_TAG = 2,     /* empty file, a tag that is not of this file, the head not first or there again */
     PLANNER_LENGTH = 3,  /* the field's length is not that of its tag */
-    PLANNER_HEAD = 4,    /* the chart's head breaks a limit */
+    PLANNER_HEAD = 4,    /* the chart's head breaks a limit; of an entry of a list: start or end is no stage */
     PLANNER_STEP = 5,    /* there is a 1,025th step; a step leaves a stage below that of the step before */
     PLANNER_NODE = 6,    /* an inner node breaks a limit; there is a 511th; the root is no node */
     PLANNER_SPACE = 7,   /* a work slice, the plan slice or the file buffer is too short */
@@ -79,8 +80,8 @@ enum {
 #define PLANNER_MOST_FILE 4595
 
 /* Bytes of stack that are enough for any call. Measured peaks, the same for all files (docs/PERFORMANCE-TABLES.md):
- * planner_sweep 16,136, planner_guided 18,856, planner_both 19,432, planner_conjoin 21,128, planner_reduce 21,000,
- * planner_space_needed 12,776, planner_refused_field 88. */
+ * planner_sweep 16,136, planner_guided 18,856, planner_cycles @STACK@, planner_both 19,432, planner_conjoin 21,128,
+ * planner_reduce 21,000, planner_space_needed 12,776, planner_refused_field 88. */
 #define PLANNER_STACK 32768
 
 /*
@@ -91,9 +92,10 @@ typedef struct planner_answer {
     size_t file;   /* the file at fault, 0 where none is */
     size_t place;  /* in it, the byte position of the faulty field's tag; under 9 PLANNER_LONGEST_FILE */
     size_t cost;   /* the plan's cost in ns: the costs of its steps, each rounded up to a multiple of PLANNER_TICK; 0 of a
-                      file that is written */
-    size_t length; /* the plan's steps; of a file that is written, its bytes */
-    size_t count;  /* sweep: reached pairs; guided search: settled pairs; also under 8. 0 of a file that is written */
+                      file that is written and of a list */
+    size_t length; /* the plan's steps; of a file that is written, its bytes; 0 of a list */
+    size_t count;  /* sweep: reached pairs; guided search: settled pairs; also under 8. 0 of a file that is
+                      written and of a list */
 } planner_answer;
 
 /* The entries that the slices of any search need for two files. */
@@ -184,11 +186,10 @@ typedef char planner_cycle_cost_at_8[offsetof(planner_cycle, cost) == 8 ? 1 : -1
 typedef char planner_cycle_count_at_16[offsetof(planner_cycle, count) == 16 ? 1 : -1];
 
 /*
- * A list of starts and ends on one chart: each entry of `list` gets the number, cost and count that planner_guided
- * would give for the chart with that start and end in its head. The files are read and checked once, so a list costs
- * much less than its calls one by one. The list may be empty. An entry whose start or end is no stage of the chart gets
- * 4, cost 0 and count 0, and the others are answered all the same. The head's own start and end are checked, and used by
- * no entry.
+ * A list of starts and ends on one chart. For each entry of `list` the guided search runs as if the chart's head had that
+ * start and end; its number, cost and count go into the entry. The files are read and their tables filled once for all
+ * entries. The list may be empty. An entry whose start or end is no stage of the chart gets 4, cost 0 and count 0, and the
+ * others are answered all the same. The head's own start and end are checked, and used by no entry.
  *
  * Lent, with the least length; a shorter slice gives 7:
  *   keys, via, heap, pos, stack, log   space.work
