@@ -21,14 +21,14 @@ use Rattle.definitions.specs.declared.Cycle.{Cycle}
 use Rattle.definitions.specs.declared.Shape.{Shape}
 use Rattle.theory.specs.Basics.{length-map-run, getD-map-upto, at-member}
 use Rattle.theory.specs.Counting.{list-among}
-use Rattle.checks.specs.Tables.{Read, Tables, chartIn, diagramIn, pairsIn}
+use Rattle.checks.specs.Tables.{Read, chartIn, diagramIn, pairsIn}
 use Rattle.checks.specs.Ready.{Walk, width-is}
 use Rattle.checks.specs.Heads.{headedShape, headed-ready}
 use Rattle.guided_model.specs.Based.{LoggedFrom, logged-plain}
-use Rattle.guided_offers.specs.Work.{Work, Past, past-same}
+use Rattle.guided_offers.specs.Work.{Work, past-same}
 use Rattle.guided_ends.specs.declared.Ended as ended
 use Rattle.guided_seek.specs.Seeks.{Seeking, Sought}
-use Rattle.cycles.specs.Cycles.{workOf, Asking, Pasts, Answered}
+use Rattle.cycles.specs.Cycles.{workOf, Asking, Answered}
 
 -- what stays past a number stays past a later one
 rest-later : (m n : ℕ) (l l₀ : List ℕ) → m ≤ n → drop m l ≡ drop m l₀ → drop n l ≡ drop n l₀

@@ -2,7 +2,7 @@
 -- Assumes nothing.
 use Prim.Native.Nat.{ℕ, _+_, _≤_, _<_, max}
 use mathlib.Core.Path.{_≡_, refl, sym, _∙_, subst}
-use mathlib.Core.Bool.{true, false}
+use mathlib.Core.Bool.{false}
 use mathlib.Core.List.{List}
 use mathlib.Core.Option.{Option, none, some}
 use native.Mathlib.Omega.{arith}
@@ -24,7 +24,7 @@ use Rattle.chart_stages.specs.Estimates.{EstimateTable}
 use Rattle.chart_stages.specs.Leaving.{Staged}
 use Rattle.nodes.specs.Walks.{Falls}
 use Rattle.nodes.specs.Falling.{lo-falls, hi-falls}
-use Rattle.node_estimates.specs.Estimates.{Priced, Costs, Estimated}
+use Rattle.node_estimates.specs.Estimates.{Priced, Costs}
 use Rattle.node_estimates.specs.Prices.{costs-of, priced}
 use Rattle.checks.specs.Tables.{Read, chartIn, diagramIn, Tables}
 use Rattle.checks.specs.Ready.{Walk, graphIn, automatonIn, count-is, width-is, sound-in, few-stages, few-nodes, cost-at}
