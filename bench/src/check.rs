@@ -2,6 +2,7 @@
 //! An error text names the section and the rule that fails.
 
 pub mod conjunction;
+pub mod cycles;
 mod log;
 
 use std::fmt::Display;
