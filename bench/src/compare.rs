@@ -23,7 +23,7 @@ const WAYS: usize = 600;
 /// The same for diagrams with more nodes than this.
 const ENUMERATED_NODES: usize = 16;
 /// Records of a list that are searched for one by one as well.
-const SEARCHED: usize = 6;
+const SEARCHED: usize = 40;
 
 /// What an implementation got wrong.
 #[derive(Clone, Debug)]

@@ -97,7 +97,7 @@ pub fn drawn_for_lists(
 /// The most records of any list.
 const MOST_RECORDS: usize = 300;
 /// Larger problems have fewer records: so many entries of tables are filled for a list by the reference.
-const LIST_WORK: usize = 150_000;
+const LIST_WORK: usize = 400_000;
 
 fn list_over(random: &mut Random, problem: &Problem) -> Vec<Cycle> {
     let Problem { chart, diagram } = problem;
