@@ -3,7 +3,7 @@
 
 pub mod conjunction;
 pub mod cycles;
-mod log;
+pub(crate) mod log;
 
 use std::fmt::Display;
 
