@@ -360,6 +360,8 @@ pub const CORNERS: [Corner; 204] = [
     Corner::largest("stages", MAX_STAGES as usize, |f| f.stages),
     Corner::largest("nodes", MAX_NODES, |f| f.nodes),
     Corner::largest("nodes of a reduction", MAX_NODES, |f| f.reductions[0].nodes),
+    Corner::largest("cost of a record", 255_000_000, |f| f.lists.records.cost),
+    Corner::largest("settled pairs of a record", 64_517, |f| f.lists.records.settled),
     Corner::largest("place in a refused chart", LONGEST_FILE - 1, |f| f.refused_chart.1),
     Corner::largest("place in a refused diagram", LONGEST_FILE - 1, |f| f.refused_rules.1),
     Corner::count("refused charts above 1,000 bytes", 1_000, |f| {
@@ -667,8 +669,6 @@ pub const CORNERS: [Corner; 204] = [
     Corner::count("records of 8 with settled pairs", 90_000, |f| {
         f.lists.records.settled_without_plan
     }),
-    Corner::largest("cost of a record", 255_000_000, |f| f.lists.records.cost),
-    Corner::largest("settled pairs of a record", 64_517, |f| f.lists.records.settled),
     Corner::count("7 of a list for keys alone", 5_000, |f| f.lists.short[0]),
     Corner::count("for via alone", 4_500, |f| f.lists.short[1]),
     Corner::count("for heap alone", 5_000, |f| f.lists.short[2]),

@@ -99,11 +99,19 @@ const MOST_RECORDS: usize = 300;
 /// Larger problems have fewer records: so many entries of tables are filled for a list by the reference.
 const LIST_WORK: usize = 400_000;
 
+/// Where few records are lent the first has the head's own start and end, since those may be in a corner.
+const FEW_RECORDS: usize = 10;
+
 fn list_over(random: &mut Random, problem: &Problem) -> Vec<Cycle> {
     let Problem { chart, diagram } = problem;
     let filled = problem.pairs() + chart.steps.len() * diagram.references();
     let most = (LIST_WORK / filled).clamp(2, MOST_RECORDS);
-    lists::drawn(random, chart.stages, (chart.start, chart.end), most)
+    let mut list = lists::drawn(random, chart.stages, (chart.start, chart.end), most);
+    if most < FEW_RECORDS {
+        list.insert(0, lists::dirty(random, chart.start, chart.end));
+        list.truncate(most);
+    }
+    list
 }
 
 fn list_slices(
