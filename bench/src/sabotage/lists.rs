@@ -7,6 +7,7 @@ use crate::check::log::open_followers;
 use crate::files::{
     read_both, read_padded, Chart, Problem, Refusal, CHART_FILE, DIAGRAM_FILE, MAX_STAGES,
 };
+use crate::generate::steps::file_costs;
 use crate::planner::{Answer, Cycle, CycleSlices};
 use crate::reference::cycles::with_ends;
 use crate::reference::Facts;
@@ -65,7 +66,7 @@ const fn after(name: &'static str, spoil: SpoilListed) -> Sabotage {
     new(name, Spoil::Listed(spoil))
 }
 
-pub(super) static LISTS: [Sabotage; 70] = [
+pub(super) static LISTS: [Sabotage; 71] = [
     by("cycles-heads-start", Lister { ends: |chart, (_, end)| (chart.start, end), ..SOUND }),
     by("cycles-heads-end", Lister { ends: |chart, (start, _)| (start, chart.end), ..SOUND }),
     by("cycles-start-and-end-exchanged", Lister { ends: |_, (start, end)| (end, start), ..SOUND }),
@@ -123,6 +124,7 @@ pub(super) static LISTS: [Sabotage; 70] = [
     by("cycles-settled-pairs-kept", Lister { keeps: Keeps::Settled, ..SOUND }),
     by("cycles-least-costs-kept", Lister { keeps: Keeps::Costs, ..SOUND }),
     by("cycles-padding-taken", Lister { read: read_padded, ..SOUND }),
+    by("cycles-costs-not-rounded", Lister { read: unrounded, ..SOUND }),
     by("cycles-head-not-checked", Lister { read: without_ends, ..SOUND }),
     by("cycles-plan-slice-wanted", Lister { is_short: |p, _| p.longest_plan() > 0, ..SOUND }),
     by(
@@ -302,6 +304,13 @@ fn without_ends(chart: &[u8], rules: &[u8]) -> Result<Problem, Refusal> {
         }
         read => read,
     }
+}
+
+/// With the costs that the file has.
+fn unrounded(chart: &[u8], rules: &[u8]) -> Result<Problem, Refusal> {
+    let Problem { chart: rounded, diagram } = read_both(chart, rules)?;
+    let costs = file_costs(chart);
+    Ok(Problem { chart: rounded.with_costs(|number, _| costs[number]), diagram })
 }
 
 /// Whether a slice but one is too short.
