@@ -3,12 +3,14 @@
 //! tell how large noise is. `build.rs` links both with their calls renamed: both searches and the space
 //! needed, which the archive must have as they are in the present `include/planner.h`. The linked one is
 //! called here just as they are: by way of `rust/` and `library.rs` a call takes 3 ns more. Only the
-//! linked one conjoins and reduces.
+//! linked one takes lists, conjoins and reduces.
 
 use planner::lent;
 
 use crate::library::{answer_of, space_of, Library, UNWRITTEN, UNWRITTEN_SPACE};
-use crate::planner::{Answer, ConjoinSlices, GuidedSlices, Planner, Space, SweepSlices};
+use crate::planner::{
+    Answer, ConjoinSlices, CycleSlices, GuidedSlices, Planner, Space, SweepSlices,
+};
 
 /// Declares the calls of a copy and makes it an implementation, with further methods of it at the end.
 macro_rules! copy {
@@ -146,6 +148,10 @@ copy! {
     /// The linked library.
     Linked, "library",
     planner_space_needed, planner_sweep, planner_guided,
+    fn cycles(&self, chart: &[u8], rules: &[u8], lent: &mut CycleSlices) -> Option<Answer> {
+        Library { guarded: false }.cycles(chart, rules, lent)
+    }
+
     fn conjoin(
         &self,
         chart: &[u8],

@@ -2,7 +2,8 @@
 //! An error text names the section and the rule that fails.
 
 pub mod conjunction;
-mod log;
+pub mod cycles;
+pub(crate) mod log;
 
 use std::fmt::Display;
 

@@ -12,8 +12,9 @@ use crate::figures::Figures;
 use crate::files::{Refusal, DIAGRAM_FILE, MORE_FILE};
 use crate::generate::Random;
 use crate::lent::{Lent, Side, Span};
-use crate::planner::{ConjoinSlices, GuidedSlices, Planner, SweepSlices};
+use crate::planner::{ConjoinSlices, Cycle, CycleSlices, GuidedSlices, Planner, SweepSlices};
 use crate::reference::conjunction::{by_truth, conjoin, conjunction_answer, Conjoined};
+use crate::reference::cycles::{wanted, wanted_of_all, with_ends, Wanted};
 use crate::reference::reduction::{reduce, say_the_same};
 use crate::reference::{self, Facts, Judged};
 
@@ -21,6 +22,8 @@ use crate::reference::{self, Facts, Judged};
 const WAYS: usize = 600;
 /// The same for diagrams with more nodes than this.
 const ENUMERATED_NODES: usize = 16;
+/// Records of a list that are searched for one by one as well.
+const SEARCHED: usize = 40;
 
 /// What an implementation got wrong.
 #[derive(Clone, Debug)]
@@ -82,6 +85,18 @@ pub struct Outcome {
     pub lent: Vec<(usize, usize)>,
     /// Bytes that were lent to the reductions of each diagram.
     pub buffers: Vec<Vec<usize>>,
+    /// The lists that were lent.
+    pub lists: Vec<Listed>,
+}
+
+/// A list as it was lent.
+#[derive(Clone, Debug)]
+pub struct Listed {
+    pub list: Vec<Cycle>,
+    /// Entries of the work slices.
+    pub work: [usize; 6],
+    /// What the records are to hold, where the call is accepted.
+    pub wanted: Vec<Wanted>,
 }
 
 impl Outcome {
@@ -94,7 +109,10 @@ impl Outcome {
 pub fn run(case: &Case, planners: &[Box<dyn Planner>]) -> Result<Outcome, Difference> {
     let judgement = Judgement::of(case);
     let enumerated = match &judgement {
-        Judgement::Searches { judged, .. } => compare_facts(judged)?,
+        Judgement::Searches { judged, .. } => {
+            compare_facts_elsewhere(case, judged)?;
+            compare_facts(judged)?
+        }
         Judgement::Conjunction { conjoined, .. } => compare_by_truth("conjunction", conjoined)?,
     };
     compare_reductions(judgement.reduced())?;
@@ -116,7 +134,11 @@ pub fn hold(
         }
     };
     let buffers = hold_reductions(case, judgement.reduced(), planners, &mut random)?;
-    Ok(Outcome { number, enough, enumerated: false, judgement, lent, buffers })
+    let lists = match &judgement {
+        Judgement::Searches { judged, .. } => hold_lists(case, judged, planners, &mut random)?,
+        Judgement::Conjunction { .. } => Vec::new(),
+    };
+    Ok(Outcome { number, enough, enumerated: false, judgement, lent, buffers, lists })
 }
 
 /// The part of an outcome that searches or conjunctions give.
@@ -192,6 +214,32 @@ fn hold_reductions(
     Ok(buffers.iter().map(|all| all.iter().map(|buffer| buffer.len()).collect()).collect())
 }
 
+/// Lends lists over the case's chart; gives them with what they are to hold.
+fn hold_lists(
+    case: &Case,
+    judged: &Judged,
+    planners: &[Box<dyn Planner>],
+    random: &mut Random,
+) -> Result<Vec<Listed>, Difference> {
+    let all = slices::drawn_for_lists(&case.chart, judged, case.lends_enough(), random);
+    let mut lists = Vec::new();
+    for before in &all {
+        let work = before.work_lengths();
+        let wanted = match reference::cycles::list_answer(judged, &work).number {
+            0 => wanted_of_all(&case.chart, &case.rules, &before.list),
+            _ => Vec::new(),
+        };
+        lists.push(Listed { list: before.list.to_vec(), work, wanted });
+    }
+    for planner in planners {
+        let mut trial = Trial::new(case, planner.as_ref(), random);
+        for (before, listed) in all.iter().zip(&lists) {
+            trial.cycles(judged, &listed.wanted, before)?;
+        }
+    }
+    Ok(lists)
+}
+
 /// Where file 3 is at fault: a case that has it as its second file, so that its field is shown, and the
 /// place.
 fn field_of_more(case: &Case, conjoined: &Conjoined) -> Option<(Case, usize)> {
@@ -232,6 +280,18 @@ fn compare_reductions(reduced: &[Conjoined]) -> Result<(), Difference> {
         return Err(contradiction("reduction", text));
     }
     Ok(())
+}
+
+/// The same from another start to another end.
+fn compare_facts_elsewhere(case: &Case, judged: &Judged) -> Result<(), Difference> {
+    let Ok(facts) = judged else { return Ok(()) };
+    let random = &mut Random::new(case.dirt);
+    let stages = usize::from(facts.problem.chart.stages);
+    let ends = (random.below(stages) as u16, random.below(stages) as u16);
+    match facts.problem.diagram.nodes.len() {
+        0..=ENUMERATED_NODES => compare_facts(&wanted(&case.chart, &case.rules, ends).1).map(drop),
+        _ => Ok(()),
+    }
 }
 
 /// Of small problems both methods of the facts must agree; says whether they were compared.
@@ -320,6 +380,41 @@ impl<'a> Trial<'a> {
         let checked = check::sweep(judged, first, &sweep, swept)
             .and_then(|()| check::guided(judged, second, &guided, found));
         self.checked(name, checked)
+    }
+
+    fn cycles(
+        &mut self,
+        judged: &Judged,
+        wanted: &[Wanted],
+        before: &CycleSlices,
+    ) -> Result<(), Difference> {
+        let mut after = before.beside_guards(self.random);
+        let (name, spans) = ("cycles", after.spans());
+        let answer = self.call(name, &spans, |f, by| by.cycles(&f.chart, &f.rules, &mut after))?;
+        let Some(answer) = answer else { return Ok(()) };
+        self.intact(name, &after.spans())?;
+        self.checked(name, check::cycles::cycles(judged, wanted, before, &after, answer))?;
+        match judged {
+            Ok(facts) if answer.number == 0 => self.searched(facts, &after.list),
+            _ => Ok(()),
+        }
+    }
+
+    /// Some records, the last one too, against the guided search on the chart's file with their start and
+    /// end in its head.
+    fn searched(&mut self, facts: &Facts, list: &[Cycle]) -> Result<(), Difference> {
+        let (pairs, plan) = (facts.problem.pairs(), facts.problem.longest_plan());
+        let skipped = list.len().div_ceil(SEARCHED).max(1);
+        for record in list.iter().rev().step_by(skipped) {
+            let Some(chart) = with_ends(&self.case.chart, record.ends()) else { continue };
+            let chart = Lent::beside_guard(&chart, Side::drawn(self.random));
+            let mut lent = GuidedSlices::of(pairs, plan).beside_guards(self.random);
+            let spans = [&lent.spans()[..], &[chart.span("chart of a record")]].concat();
+            let name = "guided search of a record";
+            let answer = self.call(name, &spans, |f, by| by.guided(&chart, &f.rules, &mut lent))?;
+            self.checked("cycles", check::cycles::as_searched(record, answer))?;
+        }
+        Ok(())
     }
 
     fn space(&mut self, judged: &Judged) -> Result<(), Difference> {

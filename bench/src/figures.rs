@@ -1,9 +1,11 @@
 //! How far a case goes: its figures, and those that a whole run must reach.
 
 mod conjunctions;
+mod lists;
 mod padding;
 
 pub use conjunctions::Conjoining;
+pub use lists::Listing;
 pub use padding::{Likeness, Reducing};
 
 use crate::cases::Case;
@@ -75,6 +77,7 @@ pub struct Figures {
     pub conjunction: Conjoining,
     /// Of each diagram.
     pub reductions: [Reducing; 2],
+    pub lists: Listing,
 }
 
 /// What rounding changes, where searches run.
@@ -137,9 +140,10 @@ fn are_apart(a: (u32, u32), b: (u32, u32)) -> bool {
 impl Figures {
     pub fn of(case: &Case, outcome: &Outcome) -> Figures {
         let figures = match &outcome.judgement {
-            Judgement::Searches { judged, .. } => {
-                Figures::of_search_case(case, judged, outcome.enough)
-            }
+            Judgement::Searches { judged, .. } => Figures {
+                lists: Listing::of(case, judged, &outcome.lists),
+                ..Figures::of_search_case(case, judged, outcome.enough)
+            },
             Judgement::Conjunction { conjoined, reduced } => {
                 let calls = (&outcome.lent[..], outcome.enumerated);
                 let conjunction = Conjoining::of(case, conjoined, reduced, calls);
@@ -342,7 +346,7 @@ impl Corner {
 }
 
 /// Most of the largest ones are what the limits allow.
-pub const CORNERS: [Corner; 152] = [
+pub const CORNERS: [Corner; 204] = [
     Corner::largest("plan cost", 255_000_000, |f| f.plan_cost),
     Corner::largest("plan length", 255, |f| f.plan_length),
     Corner::largest("sum of a reached pair", 765_000_000, |f| f.sum),
@@ -356,6 +360,8 @@ pub const CORNERS: [Corner; 152] = [
     Corner::largest("stages", MAX_STAGES as usize, |f| f.stages),
     Corner::largest("nodes", MAX_NODES, |f| f.nodes),
     Corner::largest("nodes of a reduction", MAX_NODES, |f| f.reductions[0].nodes),
+    Corner::largest("cost of a record", 255_000_000, |f| f.lists.records.cost),
+    Corner::largest("settled pairs of a record", 64_517, |f| f.lists.records.settled),
     Corner::largest("place in a refused chart", LONGEST_FILE - 1, |f| f.refused_chart.1),
     Corner::largest("place in a refused diagram", LONGEST_FILE - 1, |f| f.refused_rules.1),
     Corner::count("refused charts above 1,000 bytes", 1_000, |f| {
@@ -615,6 +621,74 @@ pub const CORNERS: [Corner; 152] = [
     Corner::count("pairs that do not, with as many nodes", 1_500, |f| {
         f.conjunction.other_as_large.into()
     }),
+    Corner::count("lists accepted", 70_000, |f| f.lists.accepted),
+    Corner::count("lists on slices of just the length needed", 15_000, |f| f.lists.exact),
+    Corner::count("empty lists", 3_500, |f| f.lists.empty),
+    Corner::count("lists of one record", 10_000, |f| f.lists.of_one),
+    Corner::count("lists of two records", 10_000, |f| f.lists.of_two),
+    Corner::count("lists of 40 records", 4_500, |f| f.lists.of_40),
+    Corner::count("lists of more than 40", 2_500, |f| f.lists.above_40),
+    Corner::count("lists of more than 255", 600, |f| f.lists.above_255),
+    Corner::count("lists over 256 stages", 300, |f| f.lists.full),
+    Corner::count("lists of 4 alone", 550, |f| f.lists.all_outside),
+    Corner::count("lists of 8 alone", 6_500, |f| f.lists.all_without_plan),
+    Corner::count("records of 4 that come first", 5_000, |f| f.lists.outside.first),
+    Corner::count("records of 4 between two with a plan", 70_000, |f| f.lists.outside.amid),
+    Corner::count("records of 4 that come last", 5_500, |f| f.lists.outside.last),
+    Corner::count("records of 8 that come first", 10_000, |f| f.lists.without_plan.first),
+    Corner::count("records of 8 between two with a plan", 100_000, |f| f.lists.without_plan.amid),
+    Corner::count("records of 8 that come last", 10_000, |f| f.lists.without_plan.last),
+    Corner::count("records with a plan", 300_000, |f| f.lists.records.with_plan),
+    Corner::count("records without a plan", 300_000, |f| f.lists.records.without_plan),
+    Corner::count("records outside the chart", 100_000, |f| f.lists.records.outside),
+    Corner::count("records from a stage to itself with a plan", 100_000, |f| {
+        f.lists.records.to_itself
+    }),
+    Corner::count("records from a stage to itself without one", 70_000, |f| {
+        f.lists.records.not_to_itself
+    }),
+    Corner::count("records with the start above the end", 70_000, |f| {
+        f.lists.records.start_above_end
+    }),
+    Corner::count("records with the head's start and end", 150_000, |f| f.lists.records.own),
+    Corner::count("records there again, with a plan", 150_000, |f| f.lists.records.repeated),
+    Corner::count("records there again behind other ones", 100_000, |f| {
+        f.lists.records.repeated_behind_others
+    }),
+    Corner::count("records behind one to a lower end", 85_000, |f| {
+        f.lists.records.behind_lower_end
+    }),
+    Corner::count("records behind one to a higher end", 65_000, |f| {
+        f.lists.records.behind_higher_end
+    }),
+    Corner::count("records with the start at the stage count", 15_000, |f| {
+        f.lists.records.start_at_count
+    }),
+    Corner::count("records with the end there", 15_000, |f| f.lists.records.end_at_count),
+    Corner::count("records with the start 65,535", 7_500, |f| f.lists.records.start_largest),
+    Corner::count("records with the end 65,535", 7_500, |f| f.lists.records.end_largest),
+    Corner::count("records with a start whose low byte is a stage", 10_000, |f| {
+        f.lists.records.start_by_low_byte
+    }),
+    Corner::count("records with such an end", 10_000, |f| f.lists.records.end_by_low_byte),
+    Corner::count("records with ties", 35_000, |f| f.lists.records.ties),
+    Corner::count("records of 8 with settled pairs", 90_000, |f| {
+        f.lists.records.settled_without_plan
+    }),
+    Corner::count("7 of a list for keys alone", 5_000, |f| f.lists.short[0]),
+    Corner::count("7 of a list for via alone", 4_500, |f| f.lists.short[1]),
+    Corner::count("7 of a list for heap alone", 5_000, |f| f.lists.short[2]),
+    Corner::count("7 of a list for pos alone", 5_000, |f| f.lists.short[3]),
+    Corner::count("7 of a list for stack alone", 5_000, |f| f.lists.short[4]),
+    Corner::count("7 of a list for the log alone", 5_000, |f| f.lists.short[5]),
+    Corner::count("7 of a list for one entry", 20_000, |f| f.lists.one_entry),
+    Corner::count("7 of a list for all six", 4_000, |f| f.lists.all_short),
+    Corner::count("records of lists under 7", 300_000, |f| f.lists.short_records),
+    Corner::count("records of lists under a refused chart", 250_000, |f| f.lists.chart_records),
+    Corner::count("records of lists under a refused diagram", 200_000, |f| f.lists.rules_records),
+    Corner::count("lists inside the chart under a refused head", 550, |f| f.lists.head),
+    Corner::count("lists under 13", 4_500, |f| f.lists.padded),
+    Corner::count("lists under 9", 500, |f| f.lists.too_long),
 ];
 
 /// Over all reductions of a case.

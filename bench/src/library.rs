@@ -2,11 +2,16 @@
 //! in `rust/`. The number that a call returns besides its answer is checked here; a panic counts as a
 //! difference.
 
+use std::mem::offset_of;
+use std::slice;
+
 use planner::lent;
 
 use crate::crash;
 use crate::lent::{Lent, Side};
-use crate::planner::{Answer, ConjoinSlices, GuidedSlices, Planner, Space, SweepSlices};
+use crate::planner::{
+    Answer, ConjoinSlices, Cycle, CycleSlices, GuidedSlices, Planner, Space, SweepSlices,
+};
 
 /// The linked library.
 pub struct Library {
@@ -93,6 +98,18 @@ fn lend_guided(lent: &mut GuidedSlices) -> lent::GuidedSlices<'_> {
     lent::GuidedSlices { keys, via, heap, pos, stack, log, plan }
 }
 
+/// The records as the wrapper has them, where they lie.
+fn lend_list(list: &mut [Cycle]) -> &mut [lent::Cycle] {
+    const { assert!(size_of::<Cycle>() == size_of::<lent::Cycle>()) };
+    const { assert!(align_of::<Cycle>() == align_of::<lent::Cycle>()) };
+    const { assert!(offset_of!(Cycle, end) == offset_of!(lent::Cycle, end)) };
+    const { assert!(offset_of!(Cycle, number) == offset_of!(lent::Cycle, number)) };
+    const { assert!(offset_of!(Cycle, cost) == offset_of!(lent::Cycle, cost)) };
+    const { assert!(offset_of!(Cycle, count) == offset_of!(lent::Cycle, count)) };
+    // SAFETY: fields of the same types at the same places; the list is borrowed for as long.
+    unsafe { slice::from_raw_parts_mut(list.as_mut_ptr().cast(), list.len()) }
+}
+
 impl Planner for Library {
     fn name(&self) -> &'static str {
         "library"
@@ -130,6 +147,15 @@ impl Planner for Library {
             returned
         });
         Some((answer_of(swept.number as u32, swept), found))
+    }
+
+    fn cycles(&self, chart: &[u8], rules: &[u8], lent: &mut CycleSlices) -> Option<Answer> {
+        let (returned, answer) = self.answered(UNWRITTEN, side(chart, rules), |answer| {
+            let CycleSlices { keys, via, heap, pos, stack, log, list } = lent;
+            let lent = lent::CycleSlices { keys, via, heap, pos, stack, log };
+            lent::cycles(chart, rules, lent, lend_list(list), answer)
+        });
+        Some(answer_of(returned, answer))
     }
 
     fn space_needed(&self, chart: &[u8], rules: &[u8]) -> Option<Space> {

@@ -2,6 +2,7 @@
 //! slices dirty. Times are processor time of the thread, so that other work on the machine counts
 //! little.
 
+pub mod listing;
 pub mod making;
 
 use std::ffi::{c_int, c_long};

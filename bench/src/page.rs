@@ -2,6 +2,7 @@
 
 use std::fs;
 
+use crate::measure::listing::{TimedList, RECORDS};
 use crate::measure::making::Made;
 use crate::measure::Call;
 use crate::ratios::{placement_spread, spread, Measured, Spread, RATIOS};
@@ -24,6 +25,8 @@ pub struct Run<'a> {
     pub remarks: &'a [Measured],
     /// Conjunctions and reductions: timed in one placement, and in no mean.
     pub makings: &'a [Made],
+    /// Lists: the same.
+    pub lists: &'a [TimedList],
     pub peaks: &'a [Peak],
 }
 
@@ -76,6 +79,7 @@ impl Run<'_> {
         parts
             .extend(left_out(self.remarks, self.planners).map(|text| format!("Left out: {text}.")));
         parts.extend(Call::ALL.map(|call| self.loads(self.remarks, call)));
+        parts.extend(["## Lists of cycles".into(), self.lists()]);
         parts.extend(["## Conjunctions".into(), self.conjunctions()]);
         parts.extend(["## Reductions".into(), self.reductions()]);
         parts.extend(["## Placements".into(), self.placements(&all)]);
@@ -143,6 +147,34 @@ impl Run<'_> {
             cells.push(number(own.map(per_pair), 0));
         }
         cells.join(" | ")
+    }
+
+    /// One line for each list.
+    fn lists(&self) -> String {
+        let subject = self.subject();
+        let rows = self.lists.iter().map(|one| {
+            let TimedList { name, pairs, .. } = one;
+            let own = one.time(subject);
+            let settled = own.map_or(0, |time| time.settled);
+            let list = number(own.map(|time| time.list / 1_000.0), 2);
+            let calls = number(own.map(|time| time.calls / 1_000.0), 2);
+            let shares = [subject, "same", "textbook"].map(|by| number(one.share(by), 3));
+            let same = number(one.ratio(subject, "same"), 2);
+            let textbook = number(one.ratio("textbook", subject), 1);
+            let times = format!("{list} | {calls} | {}", shares.join(" | "));
+            format!("{name} | {pairs} | {settled} | {times} | {same} | {textbook}")
+        });
+        let head =
+            "Load | Pairs | Settled | µs | One by one µs | List / calls | of same | of textbook \
+                    | / same | textbook /";
+        let text = format!(
+            "{RECORDS} starts and ends in one call, and one by one: as many guided searches on charts \
+             that have them in their heads. In one placement, in no mean above, and held to no target. \
+             \"Settled\" are the pairs of all records, \"List / calls\" is the list's time in that of its \
+             searches, \"short\" cycles go over at most four stages, \"long\" ones from the first half of \
+             the chart to its second."
+        );
+        format!("{text}\n\n{}", table(head, 1, rows))
     }
 
     /// One line for each conjunction.

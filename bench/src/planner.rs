@@ -1,6 +1,6 @@
 //! What every implementation offers: both searches over lent slices, and, where it has them, both in
-//! one call, the space that they need, the refused field, the conjunction of two diagrams and the
-//! reduction of one.
+//! one call, a list of starts and ends, the space that they need, the refused field, the conjunction of
+//! two diagrams and the reduction of one.
 
 use crate::generate::Random;
 use crate::lent::{Lent, Side, Span};
@@ -188,6 +188,112 @@ impl GuidedSlices {
     }
 }
 
+/// A record of a list: a start, an end and space for the answer to them, laid out as in
+/// `include/planner.h`.
+#[repr(C)]
+#[derive(Clone, Copy, Debug, Default, PartialEq, Eq)]
+pub struct Cycle {
+    pub start: u16,
+    pub end: u16,
+    pub number: u32,
+    pub cost: u32,
+    pub count: usize,
+}
+
+impl Cycle {
+    /// A start and an end, without an answer.
+    pub fn new(start: u16, end: u16) -> Cycle {
+        Cycle { start, end, ..Cycle::default() }
+    }
+
+    /// Start and end.
+    pub fn ends(&self) -> (u16, u16) {
+        (self.start, self.end)
+    }
+
+    /// The same start and end with the answer of a guided search.
+    pub fn answered(self, Answer { number, cost, count, .. }: Answer) -> Cycle {
+        Cycle { number, cost, count: count as usize, ..self }
+    }
+}
+
+/// The slices lent for a list: the work slices of a guided search, and the list itself.
+#[derive(Clone, Debug, Default, PartialEq, Eq)]
+pub struct CycleSlices {
+    /// All six left free, the log too.
+    pub keys: Lent<u32>,
+    pub via: Lent<u32>,
+    pub heap: Lent<u32>,
+    pub pos: Lent<u32>,
+    pub stack: Lent<u32>,
+    pub log: Lent<u32>,
+    /// The records, their answers a result.
+    pub list: Lent<Cycle>,
+}
+
+impl CycleSlices {
+    /// So many entries in each work slice, all 0.
+    pub fn of(work: usize, list: Vec<Cycle>) -> CycleSlices {
+        CycleSlices::with(|| vec![0; work].into(), list.into())
+    }
+
+    /// Work slices as they are made in turn.
+    pub fn with(mut work: impl FnMut() -> Lent<u32>, list: Lent<Cycle>) -> CycleSlices {
+        CycleSlices {
+            keys: work(),
+            via: work(),
+            heap: work(),
+            pos: work(),
+            stack: work(),
+            log: work(),
+            list,
+        }
+    }
+
+    /// The same content, each slice beside a page that faults.
+    pub fn beside_guards(&self, random: &mut Random) -> CycleSlices {
+        let mut side = || Side::drawn(random);
+        CycleSlices {
+            keys: Lent::beside_guard(&self.keys, side()),
+            via: Lent::beside_guard(&self.via, side()),
+            heap: Lent::beside_guard(&self.heap, side()),
+            pos: Lent::beside_guard(&self.pos, side()),
+            stack: Lent::beside_guard(&self.stack, side()),
+            log: Lent::beside_guard(&self.log, side()),
+            list: Lent::beside_guard(&self.list, side()),
+        }
+    }
+
+    /// Where the slices lie.
+    pub fn spans(&self) -> [Span; 7] {
+        [
+            self.keys.span("keys"),
+            self.via.span("via"),
+            self.heap.span("heap"),
+            self.pos.span("pos"),
+            self.stack.span("stack"),
+            self.log.span("log"),
+            self.list.span("list"),
+        ]
+    }
+
+    pub fn work_lengths(&self) -> [usize; 6] {
+        self.free().map(|(_, slice)| slice.len())
+    }
+
+    /// The work slices, whose first entries are left free, with their names.
+    pub fn free(&self) -> [(&'static str, &[u32]); 6] {
+        [
+            ("keys", &self.keys),
+            ("via", &self.via),
+            ("heap", &self.heap),
+            ("pos", &self.pos),
+            ("stack", &self.stack),
+            ("log", &self.log),
+        ]
+    }
+}
+
 /// The slices lent to a conjunction.
 #[derive(Clone, Debug, Default, PartialEq, Eq)]
 pub struct ConjoinSlices {
@@ -253,6 +359,12 @@ pub trait Planner: Send + Sync {
         _place: usize,
         _field: &mut [u8],
     ) -> Option<usize> {
+        None
+    }
+
+    /// Answers every record of a list as a guided search on the chart with its start and end would; none
+    /// where an implementation has no such call.
+    fn cycles(&self, _chart: &[u8], _rules: &[u8], _lent: &mut CycleSlices) -> Option<Answer> {
         None
     }
 

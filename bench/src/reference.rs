@@ -2,6 +2,7 @@
 
 pub mod conjunction;
 mod counts;
+pub mod cycles;
 mod facts;
 pub mod reduction;
 pub mod rules;

@@ -1,5 +1,6 @@
 //! Measurements as text and as CSV.
 
+use crate::measure::listing::{ListTime, TimedList};
 use crate::measure::making::{longest, Made, MOST_US};
 use crate::measure::{Call, Timing};
 use crate::ratios::{spread, Measured, Spread, RATIOS};
@@ -145,6 +146,50 @@ pub fn longest_making(all: &[Made]) -> String {
             format!("{word}: {aim}: {:.2} ({name})", took / 1_000.0)
         }
     }
+}
+
+/// The lists, a line each: for each implementation that takes them the list's time, that of its searches one by
+/// one, and the one in the other.
+pub fn lists(all: &[TimedList], planners: &[&str]) -> String {
+    let Some(first) = all.first() else { return "no lists measured".into() };
+    let taking = planners.iter().filter(|planner| first.time(planner).is_some());
+    let taking: Vec<&str> = taking.copied().collect();
+    let mut head = format!("{:<34}{:>8}{:>9}", "cycles, 40 records", "pairs", "settled");
+    for planner in &taking {
+        head += &format!("{:>13}{:>12}{:>8}", format!("{planner} µs"), "one by one", "ratio");
+    }
+    let head = head + &format!("{:>16}", "library / same");
+    let lines = all.iter().map(|one| list_line(one, &taking));
+    [head].into_iter().chain(lines).collect::<Vec<_>>().join("\n")
+}
+
+fn list_line(one: &TimedList, taking: &[&str]) -> String {
+    let settled = one.times.first().map_or(0, |time| time.settled);
+    let mut line = format!("{:<34}{:>8}{settled:>9}", one.name, one.pairs);
+    for planner in taking {
+        let time = one.time(planner);
+        let list = number(time.map(|time| time.list / 1_000.0), 2);
+        let calls = number(time.map(|time| time.calls / 1_000.0), 2);
+        line += &format!("{list:>13}{calls:>12}{:>8}", number(one.share(planner), 3));
+    }
+    line + &format!("{:>16}", number(one.ratio("library", "same"), 2))
+}
+
+/// All timings of lists, as further lines of the CSV, and those of their searches one by one; the count is the
+/// settled pairs of all records.
+pub fn csv_of_lists(all: &[TimedList]) -> String {
+    let mut text = String::new();
+    for TimedList { name, stages, steps, nodes, pairs, times } in all {
+        for ListTime { planner, settled, list, calls } in times {
+            for (call, least) in [("cycles", list), ("cycles one by one", calls)] {
+                text += &format!(
+                    "\"{name}\",{stages},{steps},{nodes},{pairs},{call},{planner},{settled},\
+                     {least:.1},{least:.1}\n"
+                );
+            }
+        }
+    }
+    text
 }
 
 /// All timings of conjunctions and reductions, as further lines of the CSV; the count is the result's

@@ -1,6 +1,7 @@
 //! Planners that are spoiled in one corner: the differential test must find each of them.
 
 mod conjunctions;
+mod lists;
 mod padding;
 mod readings;
 mod reductions;
@@ -11,9 +12,12 @@ mod ticks;
 use std::borrow::Cow;
 
 use crate::files::{read_both, read_chart, Diagram, LONGEST_FILE};
-use crate::planner::{self, Answer, ConjoinSlices, GuidedSlices, Planner, Space, SweepSlices};
+use crate::planner::{
+    self, Answer, ConjoinSlices, CycleSlices, GuidedSlices, Planner, Space, SweepSlices,
+};
 use crate::steps::{StepAtFault, StepFaults};
 use conjunctions::{Call, Conjoiner, SpoilConjoined};
+use lists::{Lister, SpoilListed};
 use padding::Misreading;
 use reductions::SpoilReduced;
 use rows::Rows;
@@ -66,6 +70,10 @@ enum Spoil {
     Reducer(Conjoiner),
     /// The answer and the buffer of a reduction.
     Reduced(SpoilReduced),
+    /// How a list is answered.
+    Lister(Lister),
+    /// The answer, the records and the slices of a call on a list.
+    Listed(SpoilListed),
 }
 
 /// Whether a step's values have some fault.
@@ -94,7 +102,13 @@ const fn new(name: &'static str, spoil: Spoil) -> Sabotage {
 
 /// Every sabotage.
 pub fn all() -> impl Iterator<Item = &'static Sabotage> {
-    searches().chain(ticks()).chain(readings()).chain(conjunctions()).chain(padding())
+    let of_files = searches().chain(ticks()).chain(readings());
+    of_files.chain(conjunctions()).chain(padding()).chain(lists())
+}
+
+/// Wrong answers to lists.
+pub fn lists() -> impl Iterator<Item = &'static Sabotage> {
+    lists::LISTS.iter()
 }
 
 /// Wrong readings of padding in one diagram, and wrong reductions.
@@ -354,6 +368,23 @@ impl Planner for Spoiled {
         let (swept, found) = self.planner.both(&chart, &rules, sweep, guided)?;
         let swept = self.spoil_sweep((&chart, &rules), swept, sweep);
         Some((swept, self.spoil_guided(&chart, found, guided)))
+    }
+
+    fn cycles(&self, chart: &[u8], rules: &[u8], lent: &mut CycleSlices) -> Option<Answer> {
+        let (chart, rules) = self.read(chart, rules);
+        if let Spoil::Lister(lister) = &self.sabotage.spoil {
+            return Some(lister.cycles(&chart, &rules, lent));
+        }
+        let Spoil::Listed(spoil) = self.sabotage.spoil else {
+            let mut answer = self.planner.cycles(&chart, &rules, lent)?;
+            answer.number = self.number(&chart, answer.number);
+            return Some(answer);
+        };
+        let problem = read_both(&chart, &rules).ok();
+        let call = lists::Call { chart: &chart, problem, before: lent.clone() };
+        let mut answer = self.planner.cycles(&chart, &rules, lent)?;
+        spoil(&call, &mut answer, lent);
+        Some(answer)
     }
 
     fn space_needed(&self, chart: &[u8], rules: &[u8]) -> Option<Space> {

@@ -2,16 +2,20 @@
 //! anything: the yardstick for its speed. Reads the files by itself.
 
 mod conjoin;
+mod cycles;
 mod guided;
 mod queue;
 mod sweep;
 mod tables;
 
 pub use conjoin::{conjoin, reduce};
+pub use cycles::cycles;
 pub use guided::guided;
 pub use sweep::sweep;
 
-use crate::planner::{Answer, ConjoinSlices, GuidedSlices, Planner, Space, SweepSlices};
+use crate::planner::{
+    Answer, ConjoinSlices, CycleSlices, GuidedSlices, Planner, Space, SweepSlices,
+};
 use tables::{Padding, Tables, BY_NODE, BY_STAGE};
 
 /// No cost, no estimate, never opened.
@@ -47,9 +51,23 @@ fn prepare(
     shortest_work: usize,
     plan: usize,
 ) -> Result<(), Answer> {
+    prepare_work(tables, chart, rules, shortest_work)?;
+    match plan < tables.stages - 1 {
+        true => Err(Answer::refused(7, 0, 0)),
+        false => Ok(()),
+    }
+}
+
+/// The same where no plan slice is lent.
+fn prepare_work(
+    tables: &mut Tables,
+    chart: &[u8],
+    rules: &[u8],
+    shortest_work: usize,
+) -> Result<(), Answer> {
     tables.read_chart(chart)?;
     tables.read_rules(rules, 2, Padding::Refused)?;
-    if shortest_work < tables.stages * tables.references || plan < tables.stages - 1 {
+    if shortest_work < tables.stages * tables.references {
         return Err(Answer::refused(7, 0, 0));
     }
     tables.fill_first();
@@ -128,6 +146,11 @@ impl Planner for Same {
         guided: &mut GuidedSlices,
     ) -> Option<(Answer, Answer)> {
         Some((self.sweep(chart, rules, sweep), self.guided(chart, rules, guided)))
+    }
+
+    fn cycles(&self, chart: &[u8], rules: &[u8], lent: &mut CycleSlices) -> Option<Answer> {
+        let CycleSlices { keys, via, heap, pos, stack, log, list } = lent;
+        Some(cycles(chart, rules, keys, via, heap, pos, stack, log, list))
     }
 
     fn space_needed(&self, chart: &[u8], rules: &[u8]) -> Option<Space> {

@@ -2,7 +2,7 @@
 
 use crate::loads::Load;
 use crate::measure::making::Job;
-use crate::planner::{ConjoinSlices, GuidedSlices, Planner, SweepSlices};
+use crate::planner::{ConjoinSlices, Cycle, CycleSlices, GuidedSlices, Planner, SweepSlices};
 use crate::reference::judge;
 use crate::stack::peak;
 
@@ -14,7 +14,7 @@ pub struct Peak {
     pub bytes: usize,
 }
 
-const CALLS: [&str; 5] = ["sweep", "guided", "both", "space needed", "refused field"];
+const CALLS: [&str; 6] = ["sweep", "guided", "cycles", "both", "space needed", "refused field"];
 /// The calls that write a diagram.
 const MAKING: [&str; 2] = ["conjoin", "reduce"];
 
@@ -53,10 +53,14 @@ fn used(planner: &dyn Planner, call: &str, load: &Load) -> usize {
     let (work, plan) = (facts.problem.pairs(), facts.problem.longest_plan());
     let mut sweep = SweepSlices::of(work, plan);
     let mut guided = GuidedSlices::of(work, plan);
+    let (start, end) = (facts.problem.chart.start, facts.problem.chart.end);
+    let list = vec![Cycle::new(start, end), Cycle::new(u16::MAX, 0), Cycle::new(end, start)];
+    let mut cycles = CycleSlices::of(work, list);
     let mut field = vec![0; chart.len()];
     peak(move || match call {
         "sweep" => drop(planner.sweep(chart, rules, &mut sweep)),
         "guided" => drop(planner.guided(chart, rules, &mut guided)),
+        "cycles" => drop(planner.cycles(chart, rules, &mut cycles)),
         "both" => drop(planner.both(chart, rules, &mut sweep, &mut guided)),
         "space needed" => drop(planner.space_needed(chart, rules)),
         _ => drop(planner.refused_field(chart, rules, 1, 9, &mut field)),

@@ -9,7 +9,7 @@ use crate::files::{
     read_both_by, read_padded, read_three_by, write_diagram, Chart, Diagram, Node, Operands,
     Problem, Refusal, MAX_NODES,
 };
-use crate::planner::{Answer, ConjoinSlices, GuidedSlices, Planner, SweepSlices};
+use crate::planner::{Answer, ConjoinSlices, CycleSlices, GuidedSlices, Planner, SweepSlices};
 
 /// A stage and a node reference.
 type State = (u16, u16);
@@ -40,9 +40,16 @@ impl Planner for Textbook {
 
     fn guided(&self, chart: &[u8], rules: &[u8], lent: &mut GuidedSlices) -> Answer {
         match prepare(chart, rules, &lent.work_lengths(), lent.plan.len()) {
-            Ok(problem) => guided(&problem, lent),
+            Ok(problem) => guided(&problem, &mut lent.log, &mut lent.plan),
             Err(refusal) => refusal,
         }
+    }
+
+    fn cycles(&self, chart: &[u8], rules: &[u8], lent: &mut CycleSlices) -> Option<Answer> {
+        Some(match prepare(chart, rules, &lent.work_lengths(), usize::MAX) {
+            Ok(problem) => cycles(problem, lent),
+            Err(refusal) => refusal,
+        })
     }
 
     fn conjoin(
@@ -124,8 +131,24 @@ fn sweep(problem: &Problem, lent: &mut SweepSlices) -> Answer {
     }
 }
 
+/// A guided search on the chart with each start and end in its head.
+fn cycles(mut problem: Problem, lent: &mut CycleSlices) -> Answer {
+    let stages = problem.chart.stages;
+    let mut plan = vec![0; problem.longest_plan()];
+    for record in lent.list.iter_mut() {
+        let answer = if record.start.max(record.end) < stages {
+            (problem.chart.start, problem.chart.end) = record.ends();
+            guided(&problem, &mut lent.log, &mut plan)
+        } else {
+            Answer::refused(4, 0, 0)
+        };
+        *record = record.answered(answer);
+    }
+    Answer::default()
+}
+
 /// A* with stale entries left in the heap.
-fn guided(problem: &Problem, lent: &mut GuidedSlices) -> Answer {
+fn guided(problem: &Problem, log: &mut [u32], plan: &mut [u16]) -> Answer {
     let Problem { chart, diagram } = problem;
     let by_stage = stage_estimates(chart);
     let by_node = node_estimates(chart, diagram);
@@ -144,10 +167,10 @@ fn guided(problem: &Problem, lent: &mut GuidedSlices) -> Answer {
         if !closed.insert(state) {
             continue;
         }
-        lent.log[closed.len() - 1] = pair(diagram, state) as u32;
+        log[closed.len() - 1] = pair(diagram, state) as u32;
         let cost = arrivals[&state].cost;
         if is_goal(problem, state) {
-            let length = write_plan(&arrivals, state, &mut lent.plan);
+            let length = write_plan(&arrivals, state, plan);
             return Answer::accepted(cost, length, closed.len());
         }
         for (next, step, step_cost) in successors(chart, diagram, state) {

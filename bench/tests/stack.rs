@@ -14,7 +14,7 @@ fn every_call_stays_within_planner_stack() {
     let loads: Vec<_> = plain.chain(remarks()).collect();
     let found = peaks(&planner::timed(), &loads);
     let library = found.iter().filter(|peak| peak.planner == "library");
-    assert_eq!(library.clone().count(), 7);
+    assert_eq!(library.clone().count(), 8);
     for peak in library {
         assert!(peak.bytes < most, "{peak:?}");
     }

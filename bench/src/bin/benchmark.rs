@@ -8,6 +8,7 @@ use std::process::ExitCode;
 
 use planner_bench::history;
 use planner_bench::loads::{growth, remarks, standard, Group, Load};
+use planner_bench::measure::listing::{self, List};
 use planner_bench::measure::making::{self, Job};
 use planner_bench::page::{load_average, Run};
 use planner_bench::placements::{serve, Placement, SERVE};
@@ -15,7 +16,7 @@ use planner_bench::planner::{self, Planner};
 use planner_bench::plot::svg;
 use planner_bench::ratios::Measured;
 use planner_bench::report::{
-    csv, csv_of_makings, left_out, makings, summary, table_head, table_rows,
+    csv, csv_of_lists, csv_of_makings, left_out, lists, makings, summary, table_head, table_rows,
 };
 use planner_bench::stacks::{peaks, Peak};
 
@@ -23,8 +24,9 @@ const HELP: &str = "\
 benchmark: times both searches, and reading alone, of every implementation on every load, after
 their results have been checked. A time is the least processor time of a call over all runs, rounds
 and placements; in a round all implementations run in turn, from slices that hold what the calls
-before left in them. Reading both files is part of a search's time. Conjunctions of two diagrams and
-reductions of one are timed after all searches, in one placement.
+before left in them. Reading both files is part of a search's time. Conjunctions of two diagrams,
+reductions of one and lists of starts and ends, in one call and one by one, are timed after all
+searches, in one placement.
 
 usage: benchmark [OPTION...]
 
@@ -32,7 +34,7 @@ usage: benchmark [OPTION...]
   --rounds N            samples of each call in each run and placement (default 12)
   --elsewhere FILE      this program linked with other padding, one more placement; any number
   --only TEXT           only loads whose name has this text; \"conjoin\": conjunctions alone,
-                        \"reduce:\": reductions alone
+                        \"reduce:\": reductions alone, \"cycles\": lists alone
   --csv FILE            where the times are written (default benchmark.csv)
   --svg FILE            where the plot of time against pairs is written (default benchmark.svg)
   --docs DIR            write performance.csv, performance.svg and PERFORMANCE-TABLES.md there
@@ -167,6 +169,8 @@ fn run(options: &Options, loads: &[Load]) -> Result<(), String> {
     left_out(&all, &names).iter().for_each(|text| println!("{text}\n"));
     let made = making::measure(&planners, options.runs * options.rounds, &options.only)?;
     println!("{}\n", makings(&made, &names));
+    let listed = listing::measure(&planners, options.runs * options.rounds, &options.only)?;
+    println!("{}\n", lists(&listed, &names));
     let peaks = peaks(&planner::complete(), &[standard(), remarks()].concat());
     for Peak { planner, call, bytes } in &peaks {
         println!("peak stack of {planner}, {call}: {bytes} bytes");
@@ -175,7 +179,7 @@ fn run(options: &Options, loads: &[Load]) -> Result<(), String> {
         Some(docs) => (docs.join("performance.csv"), docs.join("performance.svg")),
         None => (options.csv.clone(), options.svg.clone()),
     };
-    write(&table, csv(&all) + &csv_of_makings(&made))?;
+    write(&table, csv(&all) + &csv_of_makings(&made) + &csv_of_lists(&listed))?;
     let drawn: Vec<&str> = names.iter().copied().filter(|name| *name != "control").collect();
     write(&plot, svg(&plain, &drawn))?;
     let Some(docs) = &options.docs else { return Ok(()) };
@@ -189,6 +193,7 @@ fn run(options: &Options, loads: &[Load]) -> Result<(), String> {
         growth: growing,
         remarks: &remarked,
         makings: &made,
+        lists: &listed,
         peaks: &peaks,
     };
     write(&docs.join("PERFORMANCE-TABLES.md"), run.page())?;
@@ -259,7 +264,9 @@ fn measure_all(
     let chosen = |load: &Load| load.name.contains(&options.only);
     let chosen: Vec<usize> = (0..loads.len()).filter(|at| chosen(&loads[*at])).collect();
     let is_making = |(name, job): &(&str, Job)| making::is_chosen(name, job, &options.only);
-    if chosen.is_empty() && !Job::all().iter().any(is_making) {
+    let is_list = |list: &List| list.is_chosen(&options.only);
+    let others = Job::all().iter().any(is_making) || List::all().iter().any(is_list);
+    if chosen.is_empty() && !others {
         return Err(format!("no load has \"{}\" in its name", options.only));
     }
     let (loads_of, places) = (chosen.len(), placements.len());

@@ -12,10 +12,10 @@ use planner_bench::saved;
 use planner_bench::tally::Tally;
 
 const HELP: &str = "\
-difftest: runs every call of every implementation (sweep, guided search, both in one, the space
-needed, the refused field, the conjunction of two diagrams, the reduction of one) on many chart and
-diagram files and holds each result against the reference. Files and slices are lent beside pages that
-fault when touched.
+difftest: runs every call of every implementation (sweep, guided search, both in one, a list of starts
+and ends, the space needed, the refused field, the conjunction of two diagrams, the reduction of one) on
+many chart and diagram files and holds each result against the reference. Files and slices are lent
+beside pages that fault when touched.
 
 usage: difftest [--cases N] [--seed N] [--first N] [--save DIR] [--save-each] [--sabotage NAME]
        difftest --replay DIR
@@ -212,7 +212,7 @@ fn replay(folder: &Path, planners: &[Box<dyn Planner>]) -> ExitCode {
 
 /// Runs this program with each sabotage, since some of them end it. Wrong costs show where rounding
 /// decides, wrong readings in files that come behind the corners, wrong conjunctions, and what is wrong
-/// about padding, in cases of their own.
+/// about padding, in cases of their own, wrong lists in random ones.
 fn sabotage_all() -> ExitCode {
     let cases = Cases::new(FIXED_SEED);
     let searches = sabotage::searches().map(|sabotage| (sabotage, 0));
@@ -221,8 +221,9 @@ fn sabotage_all() -> ExitCode {
     let conjunctions =
         sabotage::conjunctions().map(|sabotage| (sabotage, cases.conjunctions().start));
     let padding = sabotage::padding().map(|sabotage| (sabotage, cases.padding().start));
+    let lists = sabotage::lists().map(|sabotage| (sabotage, cases.first_random()));
     let mut missed = 0;
-    let all = searches.chain(ticks).chain(readings).chain(conjunctions).chain(padding);
+    let all = searches.chain(ticks).chain(readings).chain(conjunctions).chain(padding).chain(lists);
     for (sabotage, first) in all {
         match caught(sabotage.name, first) {
             Ok(line) => println!("{}: {line}", sabotage.name),

@@ -118,7 +118,8 @@ fn replay(facts: &Facts, log: &[usize]) -> Checked {
     demand(facts.cheapest.is_some() || open.is_empty(), ALL, || format!("left open: {open:?}"))
 }
 
-fn open_followers(
+/// Opens what follows from a pair and isn't settled, or moves it up.
+pub(crate) fn open_followers(
     facts: &Facts,
     pair: usize,
     so_far: &mut [Option<u32>],

@@ -1,10 +1,11 @@
 //! The slices lent in a case: their lengths and what they hold before.
 
-use crate::files::Problem;
-use crate::generate::Random;
+use crate::files::{Problem, MAX_STAGES};
+use crate::generate::{lists, Random};
 use crate::lent::Lent;
-use crate::planner::{ConjoinSlices, GuidedSlices, SweepSlices};
+use crate::planner::{ConjoinSlices, Cycle, CycleSlices, GuidedSlices, SweepSlices};
 use crate::reference::conjunction::{Conjoined, Conjunction};
+use crate::reference::cycles::claimed_stages;
 use crate::reference::Judged;
 
 const SWEEP_WORK: usize = 3;
@@ -67,6 +68,82 @@ pub fn drawn_for_reduction(reduced: &Conjoined, random: &mut Random) -> Vec<Lent
         }
     };
     lengths.into_iter().map(|length| dirty_bytes(random, length)).collect()
+}
+
+/// The slices of calls on a list: one that is lent enough and, where not `enough`, one that is not; of
+/// refused files any one.
+pub fn drawn_for_lists(
+    chart: &[u8],
+    judged: &Judged,
+    enough: bool,
+    random: &mut Random,
+) -> Vec<CycleSlices> {
+    let Ok(facts) = judged else {
+        let stages = claimed_stages(chart).map_or(1, |count| count.clamp(1, MAX_STAGES));
+        let list = lists::drawn(random, stages, (0, stages - 1), MOST_RECORDS);
+        let lengths: [usize; GUIDED_WORK] = shuffled(random);
+        return vec![list_slices(random, lengths, list)];
+    };
+    let problem = &facts.problem;
+    let mut all = vec![sufficient_for_list(random, problem)];
+    if !enough {
+        let lengths = short_for_list(random, problem.pairs());
+        let list = list_over(random, problem);
+        all.push(list_slices(random, lengths, list));
+    }
+    all
+}
+
+/// The most records of any list.
+const MOST_RECORDS: usize = 300;
+/// Larger problems have fewer records: so many entries of tables are filled for a list by the reference.
+const LIST_WORK: usize = 400_000;
+
+/// Where few records are lent the first has the head's own start and end, since those may be in a corner.
+const FEW_RECORDS: usize = 10;
+
+fn list_over(random: &mut Random, problem: &Problem) -> Vec<Cycle> {
+    let Problem { chart, diagram } = problem;
+    let filled = problem.pairs() + chart.steps.len() * diagram.references();
+    let most = (LIST_WORK / filled).clamp(2, MOST_RECORDS);
+    let mut list = lists::drawn(random, chart.stages, (chart.start, chart.end), most);
+    if most < FEW_RECORDS {
+        list.insert(0, lists::dirty(random, chart.start, chart.end));
+        list.truncate(most);
+    }
+    list
+}
+
+fn list_slices(
+    random: &mut Random,
+    lengths: [usize; GUIDED_WORK],
+    list: Vec<Cycle>,
+) -> CycleSlices {
+    let [keys, via, heap, pos, stack, log] = lengths.map(|length| dirty(random, length));
+    CycleSlices { keys, via, heap, pos, stack, log, list: list.into() }
+}
+
+/// In one of four cases each slice has just what it needs; else no two have the same length.
+fn sufficient_for_list(random: &mut Random, problem: &Problem) -> CycleSlices {
+    let pairs = problem.pairs();
+    let lengths = match are_exact(random) {
+        true => [pairs; GUIDED_WORK],
+        false => shuffled(random).map(|more: usize| pairs + more),
+    };
+    let list = list_over(random, problem);
+    list_slices(random, lengths, list)
+}
+
+/// One slice an entry short, or far too short; seldom all of them.
+fn short_for_list(random: &mut Random, pairs: usize) -> [usize; GUIDED_WORK] {
+    let mut lengths = [pairs + random.below(3); GUIDED_WORK];
+    let one = random.below(GUIDED_WORK);
+    match random.below(8) {
+        0 => lengths.fill(random.below(pairs)),
+        1 | 2 => lengths[one] = random.below(pairs),
+        _ => lengths[one] = pairs - 1,
+    }
+    lengths
 }
 
 /// Entries of the work slice and bytes of the buffer: just what is needed, and more. Where the result is

@@ -34,16 +34,8 @@ pub fn guided(
     let Some(first_key) = estimates.of(tables.start, tables.root) else {
         return Answer::no_plan(0);
     };
-    let pairs = tables.stages * tables.references;
-    let mut search = Search {
-        tables: &tables,
-        estimates: &estimates,
-        keys: &mut keys[..pairs],
-        via: &mut via[..pairs],
-        queue: Queue::new(&mut heap[..pairs], &mut pos[..pairs], &mut stack[..pairs]),
-        cleared: [false; BLOCKS],
-    };
-    let (goal, count) = search.run(first_key, &mut log[..pairs]);
+    let mut search = Search::new(&tables, &estimates, keys, via, [heap, pos, stack]);
+    let (goal, count) = search.run(first_key, log);
     match goal {
         None => Answer::no_plan(count),
         Some(goal) => {
@@ -54,37 +46,56 @@ pub fn guided(
 }
 
 /// Both estimates.
-struct Estimates {
-    by_stage: [u32; BY_STAGE],
-    by_node: [u32; BY_NODE],
+pub(super) struct Estimates {
+    pub by_stage: [u32; BY_STAGE],
+    pub by_node: [u32; BY_NODE],
 }
 
 impl Estimates {
-    fn none() -> Estimates {
+    pub fn none() -> Estimates {
         Estimates { by_stage: [NONE; BY_STAGE], by_node: [NONE; BY_NODE] }
     }
 
     /// The larger of the two, none if either is none.
-    fn of(&self, stage: usize, node: usize) -> Option<u32> {
+    pub fn of(&self, stage: usize, node: usize) -> Option<u32> {
         let estimate = self.by_stage[stage].max(self.by_node[node]);
         (estimate != NONE).then_some(estimate)
     }
 }
 
-struct Search<'a> {
+pub(super) struct Search<'a> {
     tables: &'a Tables,
     estimates: &'a Estimates,
     /// By pair of a cleared block: least cost so far plus estimate, or never opened.
-    keys: &'a mut [u32],
+    pub keys: &'a mut [u32],
     via: &'a mut [u32],
     queue: Queue<'a>,
     /// Whether each block of keys is cleared. It is when its first pair is opened.
     cleared: [bool; BLOCKS],
 }
 
-impl Search<'_> {
+impl<'a> Search<'a> {
+    /// On the front of the slices, which may hold anything.
+    pub fn new(
+        tables: &'a Tables,
+        estimates: &'a Estimates,
+        keys: &'a mut [u32],
+        via: &'a mut [u32],
+        [heap, pos, stack]: [&'a mut [u32]; 3],
+    ) -> Search<'a> {
+        let pairs = tables.stages * tables.references;
+        Search {
+            tables,
+            estimates,
+            keys: &mut keys[..pairs],
+            via: &mut via[..pairs],
+            queue: Queue::new(&mut heap[..pairs], &mut pos[..pairs], &mut stack[..pairs]),
+            cleared: [false; BLOCKS],
+        }
+    }
+
     /// The first goal pair settled, and how many pairs were.
-    fn run(&mut self, first_key: u32, log: &mut [u32]) -> (Option<usize>, usize) {
+    pub fn run(&mut self, first_key: u32, log: &mut [u32]) -> (Option<usize>, usize) {
         let tables = self.tables;
         let start = tables.row(tables.start) + tables.root;
         self.clear(start);
