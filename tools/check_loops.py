@@ -19,15 +19,19 @@ import sys
 from pathlib import Path
 
 ROOT = Path(__file__).resolve().parent.parent
-READING, FILL = "checks::load", "rows::fill_row_starts"
-# Of each search, by its crate: its call, the function that fills the table, and those that look row starts up.
+READING, FILL, FILL_ALL = "checks::load", "rows::fill_row_starts", "guided_seek::tables::fill_tables"
+# The functions that the table is handed to be filled, with its place among their parameters.
+PLACES = {FILL: 0, FILL_ALL: 1}
+# Of each search, by its crate: its call, the function that has the table, those by which it is filled, each called by the one before,
+# and those that look row starts up.
 SEARCHES = {
     "sweep": (
         "sweep::run::sweep",
         "sweep::run::run",
+        [FILL],
         {"sweep::run::least_costs", "sweep_rows::relax_row", "sweep_offers::relax_step", "sweep::conclude::conclude", "trace::pair_at"},
     ),
-    "guided": ("guided::run::guided", "guided::run::run", {"guided_places::pair_in", "trace::pair_at"}),
+    "guided": ("guided::run::guided", "guided::run::run", [FILL_ALL, FILL], {"guided_places::pair_in", "trace::pair_at"}),
 }
 # What the loops multiply and divide by: parts of packed numbers, blocks, halves. None of them is N.
 CONSTANTS = {
@@ -143,14 +147,14 @@ class Search:
 
     def __init__(self, program, crate):
         self.program = program
-        self.root, self.filling, self.readers = SEARCHES[crate]
+        self.root, self.holder, self.fills, self.readers = SEARCHES[crate]
         self.all = self.reached([self.root])
         known = [name for name in self.all if name in program]
         self.looped = self.reached(name for at in known for name in program[at].calls(False))
         self.looped |= {name for name in known if name in self.reached(program[name].calls(True))}
         self.inside = {name: list(program[name].factors(name in self.looped)) for name in known if self.loops(name)}
         self.tables = self.lent()
-        self.found = {name for name in self.tables if program[name].reads(self.tables[name])} - {FILL}
+        self.found = {name for name in self.tables if program[name].reads(self.tables[name])} - set(self.fills)
 
     def loops(self, name):
         return name in self.looped or any(looped for *_, looped in self.program[name].assigned)
@@ -167,10 +171,10 @@ class Search:
 
     def lent(self):
         """The functions that the filled table is handed to, each with its locals that hold it."""
-        filling = self.program[self.filling]
-        lent = {places[0] for name, places, _ in filling.called if name == FILL}
-        tables = {self.filling: {local(value) for to, value, _ in filling.assigned if to in lent and value[0] == "addrOf"}}
-        left = [self.filling]
+        holder = self.program[self.holder]
+        lent = self.handed(self.holder, self.fills[0])
+        tables = {self.holder: {local(value) for to, value, _ in holder.assigned if to in lent and value[0] == "addrOf"}}
+        left = [self.holder]
         while left:
             name = left.pop()
             leading = self.program[name].leading(tables[name])
@@ -181,6 +185,14 @@ class Search:
                     left.append(called)
         return tables
 
+    def handed(self, caller, fill):
+        """The locals that a caller hands over as the table."""
+        return {places[PLACES[fill]] for name, places, _ in self.program[caller].called if name == fill}
+
+    def filling(self):
+        """Who calls whom on the way to the function that fills the table."""
+        return zip([self.holder, *self.fills], self.fills)
+
     def faults(self):
         for name in sorted(self.all - set(self.program)):
             yield f"{self.root}: what {name} does is not known"
@@ -188,9 +200,12 @@ class Search:
             for by in factors:
                 if by not in CONSTANTS:
                     yield f"{self.root}: in a loop {name} multiplies or divides by {by or 'what is no constant'}"
-        filled = [looped for name, _, looped in self.program[self.filling].called if name == FILL]
-        if filled != [False] or FILL in self.looped:
-            yield f"{self.root}: {self.filling} does not call {FILL} once, outside of all loops"
+        for caller, fill in self.filling():
+            filled = [looped for name, _, looped in self.program[caller].called if name == fill]
+            if filled != [False] or fill in self.looped:
+                yield f"{self.root}: {caller} does not call {fill} once, outside of all loops"
+            if caller in PLACES and not self.handed(caller, fill) <= self.program[caller].leading({str(PLACES[caller] + 1)}):
+                yield f"{self.root}: {caller} hands another table to {fill}"
         for name in sorted(self.found ^ self.readers):
             yield f"{self.root}: {name} {'reads' if name in self.found else 'does not read'} the table of row starts"
 
@@ -222,10 +237,11 @@ def trials(search, codes):
         for node, _ in walk(codes[name]):
             if operator(node) == "offset" and local(node[2]) in leading:
                 yield name, node, 2, ["copy", ["place", "0", "lnil"]]
-    for node, _ in list(walk(codes[search.filling])):
-        if node[:1] == ["seq"] and node[1][:1] == ["call"] and FILL in str(node[1][1]):
-            yield search.filling, node, 1, ["loop", node[1]]
-            yield search.filling, node, 1, "skip"
+    for caller, fill in search.filling():
+        for node, _ in list(walk(codes[caller])):
+            if node[:1] == ["seq"] and node[1][:1] == ["call"] and fill in str(node[1][1]):
+                yield caller, node, 1, ["loop", node[1]]
+                yield caller, node, 1, "skip"
 
 
 def missed(crate, program, codes):

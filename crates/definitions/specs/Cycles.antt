@@ -18,7 +18,7 @@ use Rattle.definitions.specs.Answers.{ready, refused, readFiles, loadWor
 use Rattle.definitions.specs.Promises.{Logged, foundNumber, foundCost, noCycle, Cycled, CycleSlices, cycleSlices, cyclesLoad, CyclesPromise, CyclesCall}
 use Rattle.definitions.specs.declared.Answer.{Answer}
 use Rattle.definitions.specs.declared.Cycle.{Cycle}
-use Rattle.definitions.specs.Marked.{chart, rules, single, leaf}
+use Rattle.definitions.specs.Marked.{chart, rules, single, backward, leaf}
 use Rattle.definitions.specs.Bytes.{chartBytes, diagramBytes}
 use Rattle.definitions.specs.Examples.{loadRefusal}
 use Rattle.definitions.specs.Logs.{_also_, each}
@@ -101,7 +101,7 @@ one-logged = record { fits = omega arith; settled = one-settled; ended = one-fou
 pub list-holds : After answers (all w′) (accepted 0 0 0)
 unfolding pick smaller descend descendIn verdict saysYes waysIn ways leastWay cheapest variable
 list-holds = record {
-  listed = (refl, record { long = refl; each = each 3 (λ i. Cycled single (leaf 1) (getD list i noCycle) (getD answers i noCycle)) (refl also record { log = 1 ∷ []; logged = one-logged; answered = refl } also refl also tt) });
+  listed = (refl, record { long = refl; each = λ i l. each 3 (λ i. Cycled single (leaf 1) (getD list i noCycle) (getD answers i noCycle)) (refl also record { log = 1 ∷ []; logged = one-logged; answered = refl } also refl also tt) i (omega arith) });
   keys = (refl, refl);
   via = (refl, refl);
   heap = (refl, refl);
@@ -174,6 +174,16 @@ inside-more s =
     let e = ap (λ (x : Cycle). x .count) (x .answered) in
     let f = x .logged .settled .follows 1 (omega arith) (omega (arith, length-take (length (x .log)) (x .log))) in
     omega (arith, f .2 .exists)
+
+-- ---- each entry has its own start and end, whatever the chart's head says: here from stage 1 to stage 0, to which no way leads, while one leads from each stage to itself
+
+pub own-start : Cycled backward (leaf 1) (asked 0 0) (told 0 0 8 0 0) → ⊥
+unfolding pick smaller descend descendIn verdict saysYes waysIn ways leastWay cheapest variable
+own-start s = let e = ap (λ (x : Cycle). x .number) (s .answered) in omega arith
+
+pub own-end : Cycled backward (leaf 1) (asked 1 1) (told 1 1 8 0 0) → ⊥
+unfolding pick smaller descend descendIn verdict saysYes waysIn ways leastWay cheapest variable
+own-end s = let e = ap (λ (x : Cycle). x .number) (s .answered) in omega arith
 
 -- ---- a slice past its need, the log too
 

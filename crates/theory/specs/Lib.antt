@@ -13,4 +13,5 @@ pub mod Estimates
 pub mod BestFirst
 pub mod Product
 pub mod Counting
+pub mod Logs
 pub mod Agreement
