@@ -1,13 +1,17 @@
 #!/usr/bin/env python3
 """Writes the proof that `planner_cycles` meets its contract: a walk of its MIR by hand (crates/planner_c/proofs/planner_cycles/Proof.antt).
 
-The context of the walk, a list of what is owned, is kept here as a list of names, so that no position in it is counted by hand. Local i of the MIR
-(`rt mir planner_c`) is the name _i, what frees it d_i. Run it from the root of the repository: tools/walk_cycles.py, then rt fmt."""
-import sys
+    tools/walk_cycles.py            writes it; rt fmt lays it out
+    tools/walk_cycles.py --check    says whether the file there is what would be written, but for layout
 
-CRATE = sys.argv[1] if len(sys.argv) > 1 else 'planner_c'
-CALL = sys.argv[2] if len(sys.argv) > 2 else 'Rattle.definitions.specs.Promises'
-OUT = f'crates/{CRATE}/proofs/planner_cycles/Proof.antt'
+The context of the walk, a list of what is owned, is kept here as a list of names, so that no position in it is counted by hand. Local i of the MIR
+(`rt mir planner_c`) is the name _i, what frees it d_i. What does not hang on positions is in walk_cycles.template."""
+import re
+import sys
+from pathlib import Path
+
+HERE = Path(__file__).resolve().parent
+OUT = HERE.parent / 'crates/planner_c/proofs/planner_cycles/Proof.antt'
 
 
 class Walk:
@@ -550,11 +554,8 @@ held0 = {**params, **{word(j): slice_value(j, 'u') for j in J}}
 held1 = {**held0, 16: 'L′.lowered got', **{table(k): f'‵ ({kept(k)})' for k in K}}
 held2 = {**held1, **{word(j): slice_value(j, 'v') for j in J}, 17: 'vint w64 n', 18: 'vint w64 i'}
 
-from pathlib import Path
-src = Path(__file__).with_suffix('.template').read_text()
-calls = ['prepare', 'turns', 'answered', 'tell']
-R_ = dict(
-    CRATE=CRATE, CALL=CALL, LS=LS, KNOWN=KNOWN,
+TEXTS = dict(
+    LS=LS, KNOWN=KNOWN,
     START=items(shut_list('xs') + files + space('u', 'ua') + cells(held0), '          '),
     MIDDLE=items(shut_list('xs') + files + space('u', 'ua') + tabled + cells(held1), '          '),
     AT=items(open_list + files + space('v', 'ua') + tabled + cells(held2), '          '),
@@ -591,8 +592,28 @@ R_ = dict(
     Z_VS=each(lambda j: f'(z .{j + 1})'), V_COMMAS=', '.join(f'v{j}' for j in J),
     ROOMS_LATER='\n\n'.join(f'            room{j}′ : Room u32 (length v{j})\n            room{j}′ = subst (Room u32) (sym (g .lengths .{WORK[j - 1]})) room{j}' for j in J),
 )
-for name in sorted(R_, key=len, reverse=True):
-    src = src.replace('@' + name + '@', R_[name])
-import re
-assert '@' not in src, re.findall(r'@\w+@', src)
-open(OUT, 'w').write(src)
+
+
+def proof():
+    text = (HERE / 'walk_cycles.template').read_text()
+    for name in sorted(TEXTS, key=len, reverse=True):
+        text = text.replace(f'@{name}@', TEXTS[name])
+    assert '@' not in text, re.findall(r'@\w+@', text)
+    return text
+
+
+def main():
+    if sys.argv[1:] == ['--check']:
+        same = OUT.exists() and OUT.read_text().split() == proof().split()
+        print('walk_cycles: the proof is what the script writes' if same else f'walk_cycles: {OUT.relative_to(HERE.parent)} is stale: run tools/walk_cycles.py and rt fmt')
+        return 0 if same else 1
+    if sys.argv[1:]:
+        print(__doc__, file=sys.stderr)
+        return 2
+    OUT.write_text(proof())
+    print(f'wrote {OUT.relative_to(HERE.parent)}')
+    return 0
+
+
+if __name__ == '__main__':
+    sys.exit(main())

@@ -2,6 +2,9 @@
 //! lent: one that is too short gives the number 7. What each slice holds after a call, and what
 //! stays as it was, is said in `include/planner.h`.
 
+use std::mem::{size_of, MaybeUninit};
+use std::ptr::addr_of;
+
 use crate::raw;
 
 /// The cost slice's entry at a pair that isn't reached.
@@ -96,13 +99,29 @@ impl Cycle {
     }
 }
 
-// The layout that the library knows.
-const _: () = assert!(std::mem::size_of::<Cycle>() == 24);
-const _: () = assert!(std::mem::offset_of!(Cycle, start) == 0);
-const _: () = assert!(std::mem::offset_of!(Cycle, end) == 2);
-const _: () = assert!(std::mem::offset_of!(Cycle, number) == 4);
-const _: () = assert!(std::mem::offset_of!(Cycle, cost) == 8);
-const _: () = assert!(std::mem::offset_of!(Cycle, count) == 16);
+/// Where each field of a cycle lies.
+const fn offsets() -> [isize; 5] {
+    let unset = MaybeUninit::<Cycle>::uninit();
+    let cycle = unset.as_ptr();
+    let front = cycle as *const u8;
+    // SAFETY: nothing is read; all five places lie inside `unset`.
+    unsafe {
+        [
+            (addr_of!((*cycle).start) as *const u8).offset_from(front),
+            (addr_of!((*cycle).end) as *const u8).offset_from(front),
+            (addr_of!((*cycle).number) as *const u8).offset_from(front),
+            (addr_of!((*cycle).cost) as *const u8).offset_from(front),
+            (addr_of!((*cycle).count) as *const u8).offset_from(front),
+        ]
+    }
+}
+
+// The layout that the library knows; with another one this does not compile.
+const _: () = {
+    let [start, end, number, cost, count] = offsets();
+    assert!(start == 0 && end == 2 && number == 4 && cost == 8 && count == 16);
+    assert!(size_of::<Cycle>() == 24);
+};
 
 /// The slices lent for a list of cycles: those of a guided search without a plan slice.
 #[derive(Debug)]
@@ -191,9 +210,10 @@ pub fn guided(chart: &[u8], rules: &[u8], lent: GuidedSlices, answer: &mut Answe
     }
 }
 
-/// A list of starts and ends on one chart: each entry gets the number, cost and count that [`guided`]
-/// would give for the chart with that start and end in its head. The files are read once. Returns the
-/// number; where it isn't 0 no entry and no slice was touched, else every field of the answer is 0.
+/// A guided search for each entry of a list, from its start to its end on one chart, whatever the
+/// chart's own head says: the entry gets its number, cost and count. The files are read and checked
+/// once. Returns the number; where it isn't 0 no entry and no slice was touched, else every field of
+/// the answer is 0.
 pub fn cycles(
     chart: &[u8],
     rules: &[u8],

@@ -26,6 +26,7 @@ use Rattle.theory.specs.Plans.{LegalCost, cheapest-least}
 use Rattle.theory.specs.Logs.{log-long, log-alone}
 use Rattle.chart.specs.Accepted.{chart-accepted}
 use Rattle.checks.specs.Outcome.{chart-refused, rules-refused, files-passed, files-numbered, refused-not-ready, load-ready}
+use Rattle.demands.specs.Numbers.{files-own}
 use Rattle.lists.specs.Heads.{withHead, headed-reads}
 
 -- ---- an entry and the answer of a guided search
@@ -186,6 +187,24 @@ module _ (chart rules : List ℕ) (x : CycleSlices) (list list′ : List Cycle) 
 
   pub accepted-list : (x′ : CycleSlices) → CyclesCall chart rules x x′ list list′ r → r .number ≡ 0 → Accepted chart rules list list′
   accepted-list x′ call = answers-0 (cyclesLoad chart rules x) refl (call .listed)
+
+-- the call is never answered with 8: that there is no legal plan is told by the entry
+work-own : (works : List ℕ) (o : Load) → ((n f p : ℕ) → o ≡ refused n f p → n ≡ 8 → ⊥) → (n f p : ℕ) → withWork works o ≡ refused n f p → n ≡ 8 → ⊥
+work-own works (refused n′ f′ p′) own n f p e z = own n f p e z
+work-own works (ready c d) own n f p e z =
+    either (pick-cases _ _ _ _ e) (λ x. refused-not-ready n f p c d (sym (x .1))) (λ x. let q : 7 ≡ 8 = same-number 7 0 0 n f p (x .1) ∙ z in omega arith)
+
+load-own : (chart rules works : List ℕ) (n f p : ℕ) → loadWork chart rules works ≡ refused n f p → n ≡ 8 → ⊥
+unfolding loadWork
+load-own chart rules works = work-own works (readFiles strict chart rules) (λ n f p e. files-own strict chart rules n f p e .1)
+
+module _ (chart rules : List ℕ) (x x′ : CycleSlices) (list list′ : List Cycle) (r : Answer) where
+  not-8 : (o : Load) → cyclesLoad chart rules x ≡ o → Listed o list list′ r → r .number ≡ 8 → ⊥
+  not-8 (refused n f p) e l z = load-own chart rules _ n f p e (sym (ap (λ (i : Answer). i .number) (l .0)) ∙ z)
+  not-8 (ready c d) e l z = let q = sym (ap (λ (i : Answer). i .number) (l .0)) ∙ z in omega arith
+
+  pub never-8 : CyclesCall chart rules x x′ list list′ r → r .number ≡ 8 → ⊥
+  never-8 call = not-8 (cyclesLoad chart rules x) refl (call .listed)
 
 valid-headed : (c : Chart) (start end : ℕ) → Valid (graph c) → start < c .stages → end < c .stages → Valid (graph (headed c start end))
 valid-headed c start end v i j = record {

@@ -54,8 +54,7 @@ use denote.Triple.Walked.{says, Stays, stay-none-slice, stay-slice, stay-ref, wa
 use denote.Exit.{yes}
 use denote.Signature.{plain}
 use Rattle.definitions.specs.Answers.{refusal}
-use Rattle.definitions.specs.Promises.{cycleSlices, cyclesLoad, noCycle}
-use Rattle.definitions.specs.Promises.{CyclesCall}
+use Rattle.definitions.specs.Promises.{cycleSlices, cyclesLoad, CyclesCall, noCycle}
 use Rattle.definitions.specs.declared.Answer.{Answer as Answers}
 use Rattle.definitions.specs.declared.Cycle.{Cycle}
 use Rattle.definitions.specs.declared.Shape.{Shape}
