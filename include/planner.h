@@ -174,7 +174,7 @@ typedef struct planner_cycle {
     uint16_t start;  /* stages of the chart; what is given here stays */
     uint16_t end;
     uint32_t number; /* PLANNER_ACCEPTED, PLANNER_HEAD where start or end is no stage of the chart, or PLANNER_NO_PLAN */
-    uint32_t cost;   /* the cost of a cheapest legal plan, as in an answer; 0 where the number is not */
+    uint32_t cost;   /* the cost of a cheapest legal plan, as in an answer; 0 under any other number than 0 */
     size_t count;    /* settled pairs, also under 8; 0 under 4 */
 } planner_cycle;
 
@@ -188,12 +188,13 @@ typedef char planner_cycle_count_at_16[offsetof(planner_cycle, count) == 16 ? 1 
 /*
  * A list of starts and ends on one chart. For each entry of `list` the guided search runs as if the chart's head had that
  * start and end; its number, cost and count go into the entry. The files are read and their tables filled once for all
- * entries. The list may be empty. An entry whose start or end is no stage of the chart gets 4, cost 0 and count 0, and the
+ * entries. The list may be empty, but the pointer to it is not null. An entry whose start or end is no stage of the chart gets 4, cost 0 and count 0, and the
  * others are answered all the same. The head's own start and end are checked, and used by no entry.
  *
  * Lent, with the least length; a shorter slice gives 7:
  *   keys, via, heap, pos, stack, log   space.work
- * No plan slice is lent, and no plan is given: ask planner_guided for it.
+ * No plan slice is lent, and no plan is given: ask planner_guided for it. Its number and cost are then the entry's; its
+ * count may be another one, since which pairs with a sum equal to the cost are settled is left free.
  *
  * All six entries of *answer are written; the number is returned. Accepted: all six are 0, also where no entry of the
  * list has a plan. What the slices hold then:

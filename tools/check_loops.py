@@ -11,6 +11,9 @@ function that is called in one or that calls itself. There every product, quotie
 on its right side; the index of an entry, times its bytes (SIZES), is left out. The table of row starts is filled outside of all
 loops, and just the functions under SEARCHES read it. Sums are not looked at: a product by repeated addition is not found.
 
+Of the call over a list (LIST) it checks that the files are read and the tables filled once: its loop calls ENTRY alone, from which
+neither is reached.
+
 What is wrong is told a line each, and the exit status is 1. Needs rt.
 """
 import re
@@ -20,6 +23,8 @@ from pathlib import Path
 
 ROOT = Path(__file__).resolve().parent.parent
 READING, FILL, FILL_ALL = "checks::load", "rows::fill_row_starts", "guided_seek::tables::fill_tables"
+# The call over a list, what its loop calls for each entry, and what is done once for all of them.
+LIST, ENTRY, ONCE = "planner_c::planner_cycles", "cycles::entry::answered", (READING, FILL_ALL)
 # The functions that the table is handed to be filled, with its place among their parameters.
 PLACES = {FILL: 0, FILL_ALL: 1}
 # Of each search, by its crate: its call, the function that has the table, those by which it is filled, each called by the one before,
@@ -210,7 +215,40 @@ class Search:
             yield f"{self.root}: {name} {'reads' if name in self.found else 'does not read'} the table of row starts"
 
 
+def reached(program, names):
+    """All that is called from some functions, and these."""
+    found, left = set(), list(names)
+    while left:
+        name = left.pop()
+        if name not in found:
+            found.add(name)
+            left += program[name].calls(True) if name in program else []
+    return found
+
+
+def list_faults(program):
+    inside = [name for name, _, looped in program[LIST].called if looped]
+    before = reached(program, (name for name, _, looped in program[LIST].called if not looped))
+    if inside != [ENTRY]:
+        yield f"{LIST}: its loop calls {', '.join(inside)}, not just {ENTRY}"
+    for name in ONCE:
+        if name in reached(program, inside):
+            yield f"{LIST}: {name} runs for each entry"
+        if name not in before:
+            yield f"{LIST}: {name} does not run before the loop"
+
+
 # ---- wrong programs that must be told
+
+
+def list_trials(codes):
+    """Changes of the list's functions: what is done once is called for each entry, or by none."""
+    for name in (LIST, ENTRY):
+        for node, looped in walk(codes[name]):
+            if node[:1] == ["fnRef"] and (looped or name == ENTRY):
+                yield from ((name, node, 1, f'"{once}"') for once in ONCE)
+            elif node[:1] == ["fnRef"] and node[1].strip('"') == "cycles::once::prepare":
+                yield name, node, 1, f'"{ENTRY}"'
 
 
 def trials(search, codes):
@@ -244,17 +282,27 @@ def trials(search, codes):
                 yield caller, node, 1, "skip"
 
 
-def missed(crate, program, codes):
-    """How many trials there are, and those that are not told."""
+def missed(program, codes, tries, faults):
+    """How many trials there are, and those in which no fault is told."""
     count, left = 0, []
-    for name, node, at, new in trials(Search(program, crate), codes):
+    for name, node, at, new in tries:
         old, node[at] = node[at], new
         changed = program | {name: Function(codes[name])}
-        if not any(True for _ in Search(changed, crate).faults()):
+        if not any(True for _ in faults(changed)):
             left.append(f"trial: {name} with {new} for {old} is not told")
         node[at] = old
         count += 1
     return count, left
+
+
+def code_of(crate):
+    """The code of each function of a crate and of those below it."""
+    said = subprocess.run(["rt", "mir", crate], cwd=ROOT, capture_output=True, text=True)
+    if said.returncode != 0:
+        print(f"rt mir {crate} failed:\n{said.stdout[-2000:]}{said.stderr[-2000:]}", file=sys.stderr)
+        sys.exit(2)
+    parts = (node for node, _ in walk(parse(said.stdout)) if node[:1] == ["fn-def"])
+    return {node[1].strip('"'): node[2][5] for node in parts}
 
 
 def main(words):
@@ -263,20 +311,21 @@ def main(words):
         return 2
     faults, tried = [], 0
     for crate in SEARCHES:
-        said = subprocess.run(["rt", "mir", crate], cwd=ROOT, capture_output=True, text=True)
-        if said.returncode != 0:
-            print(f"rt mir {crate} failed:\n{said.stdout[-2000:]}{said.stderr[-2000:]}", file=sys.stderr)
-            return 2
-        parts = (node for node, _ in walk(parse(said.stdout)) if node[:1] == ["fn-def"])
-        codes = {node[1].strip('"'): node[2][5] for node in parts}
+        codes = code_of(crate)
         program = {name: Function(code) for name, code in codes.items()}
         search = Search(program, crate)
         print(f"{search.root}: {len(search.inside)} functions run in its loops")
         for name, by in sorted(search.inside.items()) if words else []:
             print(f"    {name}{'' if name in search.looped else ', its loop'}{f': by {sorted(set(by))}' if by else ''}")
-        count, left = missed(crate, program, codes)
+        count, left = missed(program, codes, trials(search, codes), lambda changed: Search(changed, crate).faults())
         faults += [*search.faults(), *left]
         tried += count
+    codes = code_of(LIST.split("::")[0])
+    program = {name: Function(code) for name, code in codes.items()}
+    print(f"{LIST}: files are read and tables filled before its loop")
+    count, left = missed(program, codes, list(list_trials(codes)), list_faults)
+    faults += [*list_faults(program), *left]
+    tried += count
     print("\n".join(faults + [f"{tried} trials; {len(faults)} faults"]))
     return 1 if faults else 0
 

@@ -213,7 +213,7 @@ pub fn guided(chart: &[u8], rules: &[u8], lent: GuidedSlices, answer: &mut Answe
 /// A guided search for each entry of a list, from its start to its end on one chart, whatever the
 /// chart's own head says: the entry gets its number, cost and count. The files are read and checked
 /// once. Returns the number; where it isn't 0 no entry and no slice was touched, else every field of
-/// the answer is 0.
+/// the answer is 0, whatever the entries' own numbers are.
 pub fn cycles(
     chart: &[u8],
     rules: &[u8],

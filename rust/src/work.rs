@@ -119,8 +119,8 @@ impl Work {
         answer
     }
 
-    /// A list of starts and ends on one chart. A refusal leaves the whole list as it was; a start or an
-    /// end that is no stage is told by its entry alone.
+    /// A list of starts and ends on one chart. A refusal leaves the whole list as it was. A start or an
+    /// end that is no stage, and that there is no legal plan, is told by its entry alone: that is `Ok`.
     pub fn cycles(
         &mut self,
         chart: &[u8],
@@ -160,7 +160,7 @@ impl Work {
         front(&self.guided_plan, answer.length)
     }
 
-    /// The settled pairs of an answer that this work's last guided search gave.
+    /// The settled pairs of an answer that this work's last guided search gave. A list writes over them.
     pub fn settled(&self, answer: &Answer) -> &[u32] {
         front(&self.guided[5], answer.count)
     }

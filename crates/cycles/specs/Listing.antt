@@ -123,7 +123,6 @@ pub record Lengths (x x′ : CycleSlices) : Type 0 where
 
 -- the first i entries of the list are answered, the others are as they were; after a refusal nothing has changed
 pub record Going (got : Loaded) (on : Walk) (list : List Cycle) (x : CycleSlices) (list′ : List Cycle) (x′ : CycleSlices) (i : ℕ) : Type 0 where
-  pub inside : i ≤ turnsOf (got .number) (length list)
   pub long : length list′ ≡ length list
   pub lengths : Lengths x x′
   pub past : Pasts (pairsIn (got .shape)) x x′
@@ -133,7 +132,6 @@ pub record Going (got : Loaded) (on : Walk) (list : List Cycle) (x : CycleSlices
 
 pub going-none : {got : Loaded} {on : Walk} {list : List Cycle} {x : CycleSlices} → Going got on list x list x 0
 going-none = record {
-  inside = omega arith;
   long = refl;
   lengths = record { keys = refl; via = refl; heap = refl; pos = refl; stack = refl; log = refl };
   past = record { work-past = past-same; log-past = refl };
@@ -178,7 +176,6 @@ module _ {got : Loaded} {on : Walk} {list : List Cycle} {x : CycleSlices} {list�
   pub going-more : {y : Cycle} {x″ : CycleSlices} → i < turnsOf (got .number) (length list) → Answered z (on .read) x′ x″ (getD list′ i noCycle) y → Lengths x′ x″
       → Going got on list x (set list′ i y) x″ (i + 1)
   going-more {y} less a l = record {
-    inside = omega arith;
     long = length-set list′ i y ∙ g .long;
     lengths = record {
       keys = l .keys ∙ g .lengths .keys;

@@ -3,22 +3,22 @@
 -- Assumes nothing.
 use Prim.Native.Nat.{ℕ, suc, _≤_, _<_}
 use mathlib.Core.Path.{_≡_, refl, sym, _∙_, ap}
-use mathlib.Core.List.{List, [], _∷_, map}
+use mathlib.Core.List.{List, [], _∷_, _++_, map}
 use mathlib.Core.Option.{Option, none, some}
 use native.Mathlib.Omega.{arith}
 use lib.ListN.{length, getD, length-take}
 use Rattle.definitions.specs.Basics.{pick, smaller, larger, sumOf, upto}
 use Rattle.definitions.specs.Fields.{only, orRemark, fieldAt, firstField, onField, scan}
-use Rattle.definitions.specs.Charts.{Chart, headed, headFault, readChart}
-use Rattle.definitions.specs.Diagrams.{readDiagram, descend, descendIn, advance, finish, verdict}
+use Rattle.definitions.specs.Charts.{Chart, headed, headFault, stepFault, readChart}
+use Rattle.definitions.specs.Diagrams.{nodeFault, padding, nodeFaultAfter, readDiagram, descend, descendIn, advance, finish, verdict}
 use Rattle.definitions.specs.Ways.{waysIn, ways, leastWay}
 use Rattle.definitions.specs.Pairs.{stands, leastCost, reached, goal, reachedPairs, toEnd, sum}
 use Rattle.definitions.specs.Plans.{graph, variable, variableCost, automaton, saysYes, cheapest, chartEstimate, diagramEstimate, estimate}
 use Rattle.definitions.specs.Answers.{ready, refused, readFiles, loadWork, refusal, accepted}
-use Rattle.definitions.specs.Promises.{Logged, foundNumber, foundCost, noCycle, Cycled, CycleSlices, cycleSlices, cyclesLoad, CyclesPromise, CyclesCall}
+use Rattle.definitions.specs.Promises.{Logged, foundNumber, foundCost, noCycle, Cycled, Listed, CycleSlices, cycleSlices, cyclesLoad, CyclesPromise, CyclesCall}
 use Rattle.definitions.specs.declared.Answer.{Answer}
 use Rattle.definitions.specs.declared.Cycle.{Cycle}
-use Rattle.definitions.specs.Marked.{chart, rules, single, backward, leaf}
+use Rattle.definitions.specs.Marked.{st, nd, chart, rules, single, backward, leaf}
 use Rattle.definitions.specs.Bytes.{chartBytes, diagramBytes}
 use Rattle.definitions.specs.Examples.{loadRefusal}
 use Rattle.definitions.specs.Logs.{_also_, each}
@@ -74,6 +74,21 @@ pub spaces-hold : spaces ≡ [] ∷ seven ∷ seven ∷ seven ∷ seven ∷ seve
 unfolding spaces pick only orRemark fieldAt firstField onField scan headFault readChart readDiagram readFiles loadWork
 spaces-hold = refl
 
+-- the files, whatever the list: the chart's own start is no stage; the diagram is cut; its node has lo equal to hi, in a chart of one step
+abbrev oneStep : List ℕ
+oneStep = chartBytes (record { stages = 2; start = 0; end = 1; steps = st 0 1 50 ∷ [] })
+
+pub refusals : List (List ℕ)
+refusals =
+    loadRefusal (cyclesLoad (chartBytes (headed single 1 0)) rulesFile (all w))
+    ∷ loadRefusal (cyclesLoad oneStep (diagramBytes (record { root = 1; nodes = nd 0 0 1 ∷ [] }) ++ 18 ∷ []) (all v))
+    ∷ loadRefusal (cyclesLoad oneStep (diagramBytes (record { root = 2; nodes = nd 0 1 1 ∷ [] })) (all v))
+    ∷ []
+
+pub refusals-hold : refusals ≡ (4 ∷ 1 ∷ 0 ∷ []) ∷ (1 ∷ 2 ∷ 14 ∷ []) ∷ (13 ∷ 2 ∷ 5 ∷ []) ∷ []
+unfolding refusals pick only orRemark fieldAt firstField onField scan headFault stepFault nodeFault nodeFaultAfter padding readChart readDiagram readFiles loadWork
+refusals-hold = refl
+
 -- ---- whole calls
 
 -- from stage 0 to itself, and a start and an end that are no stages; each with a number, cost and count that stand there before
@@ -123,27 +138,25 @@ empty-holds = record {
   log = (refl, refl);
 }
 
--- ---- an accepted call that answers otherwise: the number of an entry, a count; a list that has lost its last entry
+-- ---- what an accepted call answers; a list that has lost its last entry
 
-pub answer-number : After answers (all w′) (refusal 4 0 0 0) → ⊥
-answer-number s = let e = ap (λ (r : Answer). r .number) (s .listed .0) in omega arith
+abbrev fields : Answer → List ℕ
+fields r = r .number ∷ r .file ∷ r .place ∷ r .cost ∷ r .length ∷ r .count ∷ []
 
-pub answer-count : After answers (all w′) (accepted 0 0 1) → ⊥
-answer-count s = let e = ap (λ (r : Answer). r .count) (s .listed .0) in omega arith
+-- all six are 0
+pub answer-fields : (r : Answer) → After answers (all w′) r → fields r ≡ 0 ∷ 0 ∷ 0 ∷ 0 ∷ 0 ∷ 0 ∷ []
+answer-fields r s = ap fields (s .listed .0)
 
 pub list-cut : After (told 1 0 4 0 0 ∷ told 0 0 0 0 1 ∷ []) (all w′) (accepted 0 0 0) → ⊥
 list-cut s = let e = s .listed .1 .long in omega arith
 
--- ---- an entry outside the chart: it has a count, it gets 8, its start is changed; the last entry is left out
+-- ---- an entry outside the chart; the last entry is left out
 
-pub outside-count : After (told 1 0 4 0 1 ∷ told 0 0 0 0 1 ∷ told 0 1 4 0 0 ∷ []) (all w′) (accepted 0 0 0) → ⊥
-outside-count s = let e = ap (λ (x : Cycle). x .count) (s .listed .1 .each 0 (omega arith)) in omega arith
+abbrev entryFields : Cycle → List ℕ
+entryFields x = x .start ∷ x .end ∷ x .number ∷ x .cost ∷ x .count ∷ []
 
-pub outside-number : After (told 1 0 8 0 0 ∷ told 0 0 0 0 1 ∷ told 0 1 4 0 0 ∷ []) (all w′) (accepted 0 0 0) → ⊥
-outside-number s = let e = ap (λ (x : Cycle). x .number) (s .listed .1 .each 0 (omega arith)) in omega arith
-
-pub outside-start : After (told 0 0 4 0 0 ∷ told 0 0 0 0 1 ∷ told 0 1 4 0 0 ∷ []) (all w′) (accepted 0 0 0) → ⊥
-outside-start s = let e = ap (λ (x : Cycle). x .start) (s .listed .1 .each 0 (omega arith)) in omega arith
+pub outside-fields : (x : Cycle) → Cycled single (leaf 1) (asked 1 0) x → entryFields x ≡ 1 ∷ 0 ∷ 4 ∷ 0 ∷ 0 ∷ []
+outside-fields x s = ap entryFields s
 
 pub last-left : After (told 1 0 4 0 0 ∷ told 0 0 0 0 1 ∷ asked 0 1 ∷ []) (all w′) (accepted 0 0 0) → ⊥
 last-left s = let e = ap (λ (x : Cycle). x .number) (s .listed .1 .each 2 (omega arith)) in omega arith
@@ -175,6 +188,10 @@ inside-more s =
     let f = x .logged .settled .follows 1 (omega arith) (omega (arith, length-take (length (x .log)) (x .log))) in
     omega (arith, f .2 .exists)
 
+-- its start and end stay
+pub inside-ends : (x : Cycle) → Cycled single (leaf 1) (asked 0 0) x → (x .start ≡ 0) × (x .end ≡ 0)
+inside-ends x s = (ap (λ (x : Cycle). x .start) (s .answered), ap (λ (x : Cycle). x .end) (s .answered))
+
 -- ---- each entry has its own start and end, whatever the chart's head says: here from stage 1 to stage 0, to which no way leads, while one leads from each stage to itself
 
 pub own-start : Cycled backward (leaf 1) (asked 0 0) (told 0 0 8 0 0) → ⊥
@@ -184,6 +201,15 @@ own-start s = let e = ap (λ (x : Cycle). x .number) (s .answered) in omega arit
 pub own-end : Cycled backward (leaf 1) (asked 1 1) (told 1 1 8 0 0) → ⊥
 unfolding pick smaller descend descendIn verdict saysYes waysIn ways leastWay cheapest variable
 own-end s = let e = ap (λ (x : Cycle). x .number) (s .answered) in omega arith
+
+-- the start is the start: on the chart of REFERENCE 14 a way leads from 0 to 4, and none back
+pub own-order : Cycled chart rules (asked 0 4) (told 0 4 8 0 0) → ⊥
+unfolding pick smaller descend descendIn verdict saysYes waysIn ways leastWay cheapest variable
+own-order s = let e = ap (λ (x : Cycle). x .number) (s .answered) in omega arith
+
+pub own-back : Cycled chart rules (asked 4 0) (told 4 0 0 0 1) → ⊥
+unfolding pick smaller descend descendIn verdict saysYes waysIn ways leastWay cheapest variable
+own-back s = let e = ap (λ (x : Cycle). x .number) (s .answered) in omega arith
 
 -- ---- a slice past its need, the log too
 
@@ -219,5 +245,6 @@ refused-entry s = let e = ap (λ (l : List Cycle). getD l 0 noCycle .number) (s 
 pub refused-slice : Refused list (cycleSlices w′ w w w w short) (refusal 7 0 0 0) → ⊥
 refused-slice s = let e = differ (s .keys) 0 in omega arith
 
-pub refused-count : Refused list (cycleSlices w w w w w short) (refusal 7 0 0 1) → ⊥
-refused-count s = let e = ap (λ (r : Answer). r .count) (s .listed .0) in omega arith
+-- the answer has the refusal's number, file and place, and 0 otherwise
+pub refused-fields : (number file place : ℕ) (r : Answer) → Listed (refused number file place) list list r → fields r ≡ number ∷ file ∷ place ∷ 0 ∷ 0 ∷ 0 ∷ []
+refused-fields number file place r s = ap fields (s .0)

@@ -15,8 +15,8 @@ use Rattle.definitions.specs.Charts.{Chart, headed, readChart}
 use Rattle.definitions.specs.Diagrams.{Diagram, strict, readDiagram}
 use Rattle.definitions.specs.Ways.{wayCost}
 use Rattle.definitions.specs.Plans.{graph, automaton, Legal, cheapest, estimate}
-use Rattle.definitions.specs.Answers.{Load, ready, refused, readFiles, withWork, loadWork, workFits, refusal, accepted}
-use Rattle.definitions.specs.Promises.{Outcome, Logged, Guided, GuidedSlices, guidedLoad, GuidedPromise, GuidedCall, onChart, answeredBy, foundNumber, foundCost, CycleSearched, CycledIf, Cycled, noCycle, EachCycled, Listed, CycleSlices, cyclesLoad, CyclesPromise, CyclesCall}
+use Rattle.definitions.specs.Answers.{Load, ready, refused, readFiles, withWork, load, loadWork, spaceFits, refusal, accepted}
+use Rattle.definitions.specs.Promises.{Outcome, Logged, Guided, GuidedSlices, guidedSlices, guidedLoad, GuidedPromise, GuidedCall, onChart, answeredBy, foundNumber, foundCost, CycleSearched, CycledIf, Cycled, noCycle, EachCycled, Listed, CycleSlices, cyclesLoad, CyclesPromise, CyclesCall}
 use Rattle.definitions.specs.declared.Answer.{Answer}
 use Rattle.definitions.specs.declared.Cycle.{Cycle}
 use Rattle.theory.specs.Basics.{pick-cases, same-or-not, either}
@@ -25,7 +25,7 @@ use Rattle.theory.specs.Least.{IsLeast}
 use Rattle.theory.specs.Plans.{LegalCost, cheapest-least}
 use Rattle.theory.specs.Logs.{log-long, log-alone}
 use Rattle.chart.specs.Accepted.{chart-accepted}
-use Rattle.checks.specs.Outcome.{chart-refused, rules-refused, files-passed, files-numbered, refused-not-ready, load-ready}
+use Rattle.checks.specs.Outcome.{chart-refused, rules-refused, files-passed, files-numbered, refused-not-ready, load-ready, load-work}
 use Rattle.demands.specs.Numbers.{files-own}
 use Rattle.lists.specs.Heads.{withHead, headed-reads}
 
@@ -188,6 +188,11 @@ module _ (chart rules : List ℕ) (x : CycleSlices) (list list′ : List Cycle) 
   pub accepted-list : (x′ : CycleSlices) → CyclesCall chart rules x x′ list list′ r → r .number ≡ 0 → Accepted chart rules list list′
   accepted-list x′ call = answers-0 (cyclesLoad chart rules x) refl (call .listed)
 
+-- the checks are those of a guided search that is lent 255 plan entries, as many as any chart needs
+pub same-checks : (chart rules : List ℕ) (x : CycleSlices) (plan : List ℕ) → length plan ≡ 255
+    → cyclesLoad chart rules x ≡ guidedLoad chart rules (guidedSlices (x .keys) (x .via) (x .heap) (x .pos) (x .stack) (x .log) plan)
+same-checks chart rules x plan e = sym (load-work chart rules _) ∙ ap (load chart rules _) (sym e)
+
 -- the call is never answered with 8: that there is no legal plan is told by the entry
 work-own : (works : List ℕ) (o : Load) → ((n f p : ℕ) → o ≡ refused n f p → n ≡ 8 → ⊥) → (n f p : ℕ) → withWork works o ≡ refused n f p → n ≡ 8 → ⊥
 work-own works (refused n′ f′ p′) own n f p e z = own n f p e z
@@ -219,13 +224,18 @@ valid-headed c start end v i j = record {
   cheap = v .cheap;
 }
 
+-- what a guided search is lent is too short for a chart and a diagram
+abbrev pub Short : Chart → Diagram → GuidedSlices → Type 0
+Short c d y =
+    spaceFits c d (length (y .keys) ∷ length (y .via) ∷ length (y .heap) ∷ length (y .pos) ∷ length (y .stack) ∷ length (y .log) ∷ []) (length (y .plan)) ≡ false
+
 -- the answer of a guided search on files that are accepted
 guided-told : (chart rules : List ℕ) (c : Chart) (d : Diagram) (y y′ : GuidedSlices) (q : Answer) → readFiles strict chart rules ≡ ready c d → GuidedCall chart rules y y′ q
-    → (q ≡ refusal 7 0 0 0) ⊎ ((q .number ≡ foundNumber (cheapest c d)) × (q .cost ≡ foundCost (cheapest c d)))
+    → (Short c d y × (q ≡ refusal 7 0 0 0)) ⊎ ((q .number ≡ foundNumber (cheapest c d)) × (q .cost ≡ foundCost (cheapest c d)))
 guided-told chart rules c d y y′ q e call =
     either (load-ready chart rules c d e _ _)
     (λ (l : guidedLoad chart rules y ≡ ready c d). inr (outcome-told (cheapest c d) c d (q .count) (y .plan) (y′ .plan) q (subst (λ (o : Load). GuidedPromise o y y′ q) l call .guided .0)))
-    (λ (l : _ × (guidedLoad chart rules y ≡ refused 7 0 0)). inl (subst (λ (o : Load). GuidedPromise o y y′ q) (l .1) call .guided .0))
+    (λ (l : Short c d y × (guidedLoad chart rules y ≡ refused 7 0 0)). inl (l .0, subst (λ (o : Load). GuidedPromise o y y′ q) (l .1) call .guided .0))
 
 -- ---- the entry at a place of a list that is accepted
 
@@ -270,7 +280,7 @@ module _ {chart rules : List ℕ} {list list′ : List Cycle} (ok : Accepted cha
 
     -- each guided call on the file with that start and end in its head that is lent enough has the entry's number and cost
     pub entry-guided : (y y′ : GuidedSlices) (q : Answer) → GuidedCall (withHead chart (e .start) (e .end)) rules y y′ q
-        → (q ≡ refusal 7 0 0 0) ⊎ ((e′ .number ≡ q .number) × (e′ .cost ≡ q .cost))
+        → (Short C′ (ok .d) y × (q ≡ refusal 7 0 0 0)) ⊎ ((e′ .number ≡ q .number) × (e′ .cost ≡ q .cost))
     entry-guided y y′ q call =
         either (guided-told (withHead chart (e .start) (e .end)) rules C′ (ok .d) y y′ q (headed-files chart rules C (ok .d) (e .start) (e .end) (ok .files) s t) call)
         (λ l. inl l)
