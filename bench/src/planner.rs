@@ -250,47 +250,35 @@ impl CycleSlices {
         }
     }
 
+    /// The six work slices, with their names.
+    fn work(&self) -> [(&'static str, &Lent<u32>); 6] {
+        let CycleSlices { keys, via, heap, pos, stack, log, .. } = self;
+        let names = ["keys", "via", "heap", "pos", "stack", "log"];
+        let mut slices = [keys, via, heap, pos, stack, log].into_iter();
+        names.map(|name| (name, slices.next().expect("a slice for each name")))
+    }
+
     /// The same content, each slice beside a page that faults.
     pub fn beside_guards(&self, random: &mut Random) -> CycleSlices {
-        let mut side = || Side::drawn(random);
-        CycleSlices {
-            keys: Lent::beside_guard(&self.keys, side()),
-            via: Lent::beside_guard(&self.via, side()),
-            heap: Lent::beside_guard(&self.heap, side()),
-            pos: Lent::beside_guard(&self.pos, side()),
-            stack: Lent::beside_guard(&self.stack, side()),
-            log: Lent::beside_guard(&self.log, side()),
-            list: Lent::beside_guard(&self.list, side()),
-        }
+        let guarded = self.work().map(|(_, slice)| Lent::beside_guard(slice, Side::drawn(random)));
+        let list = Lent::beside_guard(&self.list, Side::drawn(random));
+        let mut work = guarded.into_iter();
+        CycleSlices::with(|| work.next().expect("six work slices"), list)
     }
 
     /// Where the slices lie.
-    pub fn spans(&self) -> [Span; 7] {
-        [
-            self.keys.span("keys"),
-            self.via.span("via"),
-            self.heap.span("heap"),
-            self.pos.span("pos"),
-            self.stack.span("stack"),
-            self.log.span("log"),
-            self.list.span("list"),
-        ]
+    pub fn spans(&self) -> Vec<Span> {
+        let work = self.work().map(|(name, slice)| slice.span(name));
+        work.into_iter().chain([self.list.span("list")]).collect()
     }
 
     pub fn work_lengths(&self) -> [usize; 6] {
-        self.free().map(|(_, slice)| slice.len())
+        self.work().map(|(_, slice)| slice.len())
     }
 
     /// The work slices, whose first entries are left free, with their names.
     pub fn free(&self) -> [(&'static str, &[u32]); 6] {
-        [
-            ("keys", &self.keys),
-            ("via", &self.via),
-            ("heap", &self.heap),
-            ("pos", &self.pos),
-            ("stack", &self.stack),
-            ("log", &self.log),
-        ]
+        self.work().map(|(name, slice)| (name, &slice[..]))
     }
 }
 
