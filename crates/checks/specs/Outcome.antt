@@ -105,10 +105,10 @@ shortest-of keys via heap pos stack log ea eb ec ed ee =
 pub refused-not-ready : (number file place : ℕ) (c : Chart) (d : Diagram) → refused number file place ≡ ready c d → ⊥
 refused-not-ready number file place c d e = let z : _≡_ {A = ℕ} 0 1 = cc in omega arith
 
-ready-left : (c′ : Chart) (d′ : Diagram) (c : Chart) (d : Diagram) → ready c′ d′ ≡ ready c d → c′ ≡ c
+pub ready-left : (c′ : Chart) (d′ : Diagram) (c : Chart) (d : Diagram) → ready c′ d′ ≡ ready c d → c′ ≡ c
 ready-left c′ d′ c d e = cc
 
-ready-right : (c′ : Chart) (d′ : Diagram) (c : Chart) (d : Diagram) → ready c′ d′ ≡ ready c d → d′ ≡ d
+pub ready-right : (c′ : Chart) (d′ : Diagram) (c : Chart) (d : Diagram) → ready c′ d′ ≡ ready c d → d′ ≡ d
 ready-right c′ d′ c d e = cc
 
 one-of : (b : Bool) → cond b true false ≡ true → b ≡ true
@@ -150,7 +150,7 @@ ready-space s t work plan c d e =
 
 -- ---- a refusal's number is not 0
 
-same-number : (n f p n′ f′ p′ : ℕ) → refused n f p ≡ refused n′ f′ p′ → n ≡ n′
+pub same-number : (n f p n′ f′ p′ : ℕ) → refused n f p ≡ refused n′ f′ p′ → n ≡ n′
 same-number n f p n′ f′ p′ e = cc
 
 pub files-numbered : (mode : Bool) (s t : List ℕ) (number file place : ℕ) → readFiles mode s t ≡ refused number file place → number ≡ 0 → ⊥

@@ -21,7 +21,7 @@ use Rattle.theory.specs.Basics.{true-not-false, pick-true, pick-false, pick-cas
 use Rattle.checks.specs.declared.Loaded.{Loaded}
 use Rattle.checks.specs.Tables.{Read, chartIn, diagramIn, pairsIn}
 use Rattle.checks.specs.Ready.{Walk, width-is}
-use Rattle.checks.specs.Outcome.{refused-not-ready}
+use Rattle.checks.specs.Outcome.{refused-not-ready, ready-left, ready-right}
 use Rattle.guided_offers.specs.Work.{past-same, past-more}
 use Rattle.guided_seek.specs.Seeks.{Prepared}
 use Rattle.cycles.specs.Cycles.{Blank, PreparesAs, turnsOf, Asking, Pasts, Answered}
@@ -71,14 +71,8 @@ work-passed works (refused number file place) c d e = absurd (refused-not-ready 
 work-passed works (ready c′ d′) c d e =
     either (pick-cases _ _ _ _ e) (λ x. fits-at (x .1) (x .0)) (λ x. absurd (refused-not-ready 7 0 0 c d (x .1)))
   where
-    chart-same : ready c′ d′ ≡ ready c d → c′ ≡ c
-    chart-same q = cc
-
-    rules-same : ready c′ d′ ≡ ready c d → d′ ≡ d
-    rules-same q = cc
-
     fits-at : ready c′ d′ ≡ ready c d → workFits c′ d′ works ≡ true → workFits c d works ≡ true
-    fits-at q f = ap₂ (λ (i : Chart) (j : Diagram). workFits i j works) (sym (chart-same q)) (sym (rules-same q)) ∙ f
+    fits-at q f = ap₂ (λ (i : Chart) (j : Diagram). workFits i j works) (sym (ready-left c′ d′ c d q)) (sym (ready-right c′ d′ c d q)) ∙ f
 
 pub ready-work : (s u works : List ℕ) (c : Chart) (d : Diagram) → loadWork s u works ≡ ready c d → workFits c d works ≡ true
 unfolding loadWork

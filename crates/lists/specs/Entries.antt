@@ -25,7 +25,8 @@ use Rattle.theory.specs.Least.{IsLeast}
 use Rattle.theory.specs.Plans.{LegalCost, cheapest-least}
 use Rattle.theory.specs.Logs.{log-long, log-alone}
 use Rattle.chart.specs.Accepted.{chart-accepted}
-use Rattle.checks.specs.Outcome.{chart-refused, rules-refused, files-passed, files-numbered, refused-not-ready, load-ready, load-work}
+use Rattle.checks.specs.Outcome.{chart-refused, rules-refused, files-passed, files-numbered, refused-not-ready, ready-left, ready-right, same-number, load-ready, load-work}
+use Rattle.checks.specs.Heads.{valid-headed}
 use Rattle.demands.specs.Numbers.{files-own}
 use Rattle.lists.specs.Heads.{withHead, headed-reads}
 
@@ -121,21 +122,15 @@ files-of chart rules c d e =
     (λ n. absurd (refused-not-ready _ _ _ c d (sym (rules-refused strict chart rules z n) ∙ e))))
     (λ n. absurd (refused-not-ready _ _ _ c d (sym (chart-refused strict chart rules n) ∙ e)))
   where
-    chart-same : (c′ : Chart) (d′ : Diagram) → ready c′ d′ ≡ ready c d → c′ ≡ c
-    chart-same c′ d′ q = cc
-
-    rules-same : (c′ : Chart) (d′ : Diagram) → ready c′ d′ ≡ ready c d → d′ ≡ d
-    rules-same c′ d′ q = cc
-
     held : readChart chart .number ≡ 0 → readDiagram strict rules (length (readChart chart .chart .steps)) .number ≡ 0
         → ready (readChart chart .chart) (readDiagram strict rules (length (readChart chart .chart .steps)) .diagram) ≡ ready c d → Files chart rules c d
     held z y q =
-        let same = chart-same _ _ q in
+        let same = ready-left _ _ c d q in
         record {
           chart-passes = z;
           rules-pass = subst (λ (i : Chart). readDiagram strict rules (length (i .steps)) .number ≡ 0) same y;
           chart-held = same;
-          rules-held = subst (λ (i : Chart). readDiagram strict rules (length (i .steps)) .diagram ≡ d) same (rules-same _ _ q);
+          rules-held = subst (λ (i : Chart). readDiagram strict rules (length (i .steps)) .diagram ≡ d) same (ready-right _ _ c d q);
         }
 
 -- with another start and end in the chart's head the files are accepted too, and are that chart and the same diagram
@@ -161,17 +156,15 @@ load-files : (chart rules works : List ℕ) (c : Chart) (d : Diagram) → loadWo
 unfolding loadWork
 load-files chart rules works c d e = work-files works (readFiles strict chart rules) c d e
 
-same-number : (n f p n′ f′ p′ : ℕ) → refused n f p ≡ refused n′ f′ p′ → n ≡ n′
-same-number n f p n′ f′ p′ e = cc
-
-work-numbered : (works : List ℕ) (o : Load) → ((n f p : ℕ) → o ≡ refused n f p → n ≡ 0 → ⊥) → (n f p : ℕ) → withWork works o ≡ refused n f p → n ≡ 0 → ⊥
-work-numbered works (refused n′ f′ p′) numbered n f p e z = numbered n f p e z
-work-numbered works (ready c d) numbered n f p e z =
-    either (pick-cases _ _ _ _ e) (λ x. refused-not-ready n f p c d (sym (x .1))) (λ x. let q : 7 ≡ 0 = same-number 7 0 0 n f p (x .1) ∙ z in omega arith)
+-- the checks never give a number that neither the files give nor is 7
+work-apart : (m : ℕ) → (7 ≡ m → ⊥) → (works : List ℕ) (o : Load) → ((n f p : ℕ) → o ≡ refused n f p → n ≡ m → ⊥) → (n f p : ℕ) → withWork works o ≡ refused n f p → n ≡ m → ⊥
+work-apart m other works (refused n′ f′ p′) apart n f p e z = apart n f p e z
+work-apart m other works (ready c d) apart n f p e z =
+    either (pick-cases _ _ _ _ e) (λ x. refused-not-ready n f p c d (sym (x .1))) (λ x. other (same-number 7 0 0 n f p (x .1) ∙ z))
 
 load-numbered : (chart rules works : List ℕ) (n f p : ℕ) → loadWork chart rules works ≡ refused n f p → n ≡ 0 → ⊥
 unfolding loadWork
-load-numbered chart rules works = work-numbered works (readFiles strict chart rules) (files-numbered strict chart rules)
+load-numbered chart rules works = work-apart 0 (λ q. omega arith) works (readFiles strict chart rules) (files-numbered strict chart rules)
 
 -- where the call answers 0 the files are accepted, and each entry is answered
 pub record Accepted (chart rules : List ℕ) (list list′ : List Cycle) : Type 0 where
@@ -194,14 +187,9 @@ pub same-checks : (chart rules : List ℕ) (x : CycleSlices) (plan : List ℕ) �
 same-checks chart rules x plan e = sym (load-work chart rules _) ∙ ap (load chart rules _) (sym e)
 
 -- the call is never answered with 8: that there is no legal plan is told by the entry
-work-own : (works : List ℕ) (o : Load) → ((n f p : ℕ) → o ≡ refused n f p → n ≡ 8 → ⊥) → (n f p : ℕ) → withWork works o ≡ refused n f p → n ≡ 8 → ⊥
-work-own works (refused n′ f′ p′) own n f p e z = own n f p e z
-work-own works (ready c d) own n f p e z =
-    either (pick-cases _ _ _ _ e) (λ x. refused-not-ready n f p c d (sym (x .1))) (λ x. let q : 7 ≡ 8 = same-number 7 0 0 n f p (x .1) ∙ z in omega arith)
-
 load-own : (chart rules works : List ℕ) (n f p : ℕ) → loadWork chart rules works ≡ refused n f p → n ≡ 8 → ⊥
 unfolding loadWork
-load-own chart rules works = work-own works (readFiles strict chart rules) (λ n f p e. files-own strict chart rules n f p e .1)
+load-own chart rules works = work-apart 8 (λ q. omega arith) works (readFiles strict chart rules) (λ n f p e. files-own strict chart rules n f p e .1)
 
 module _ (chart rules : List ℕ) (x x′ : CycleSlices) (list list′ : List Cycle) (r : Answer) where
   not-8 : (o : Load) → cyclesLoad chart rules x ≡ o → Listed o list list′ r → r .number ≡ 8 → ⊥
@@ -210,19 +198,6 @@ module _ (chart rules : List ℕ) (x x′ : CycleSlices) (list list′ : List Cy
 
   pub never-8 : CyclesCall chart rules x x′ list list′ r → r .number ≡ 8 → ⊥
   never-8 call = not-8 (cyclesLoad chart rules x) refl (call .listed)
-
-valid-headed : (c : Chart) (start end : ℕ) → Valid (graph c) → start < c .stages → end < c .stages → Valid (graph (headed c start end))
-valid-headed c start end v i j = record {
-  some-stages = v .some-stages;
-  few-stages = v .few-stages;
-  start-inside = i;
-  end-inside = j;
-  few = v .few;
-  forward = v .forward;
-  inside = v .inside;
-  sorted = v .sorted;
-  cheap = v .cheap;
-}
 
 -- what a guided search is lent is too short for a chart and a diagram
 abbrev pub Short : Chart → Diagram → GuidedSlices → Type 0
