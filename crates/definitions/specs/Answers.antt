@@ -7,7 +7,7 @@ use mathlib.Core.List.{List, _++_}
 use lib.Dec.{leb, ltb, eqb}
 use lib.ListN.{length, drop}
 use Rattle.definitions.specs.Basics.{pick, every}
-use Rattle.definitions.specs.Charts.{Chart, readChart}
+use Rattle.definitions.specs.Charts.{Chart, groupCount, readChart}
 use Rattle.definitions.specs.Diagrams.{Diagram, size, strict, readDiagram}
 use Rattle.definitions.specs.declared.Answer.{Answer}
 
@@ -34,7 +34,7 @@ spaceFits c d works plan = workFits c d works && leb (planNeed c) plan
 unfoldable pub readFiles : Bool → List ℕ → List ℕ → Load
 readFiles mode chart rules =
     let c = readChart chart in
-    let d = readDiagram mode rules (length (c .chart .steps)) in
+    let d = readDiagram mode rules (groupCount (c .chart)) in
     pick (not (eqb (c .number) 0)) (refused (c .number) 1 (c .place))
     (pick (not (eqb (d .number) 0)) (refused (d .number) 2 (d .place))
     (ready (c .chart) (d .diagram)))
@@ -79,7 +79,7 @@ pairNeed d e = size d * size e
 abbrev pub withMore : List ℕ → Load → LoadTwo
 withMore more (refused number file place) = refusedTwo number file place
 withMore more (ready c d) =
-    let e = readDiagram strict more (length (c .steps)) in
+    let e = readDiagram strict more (groupCount c) in
     pick (not (eqb (e .number) 0)) (refusedTwo (e .number) 3 (e .place)) (readyTwo c d (e .diagram))
 
 -- then the space (7)

@@ -75,6 +75,11 @@ abbrev pub least : List ℕ → Option ℕ
 least [] = none
 least (x ∷ xs) = smaller (some x) (least xs)
 
+-- the least number above every member of a list
+abbrev pub above : List ℕ → ℕ
+above [] = 0
+above (x ∷ xs) = max (suc x) (above xs)
+
 -- the members of a list as a set
 abbrev pub has : List ℕ → ℕ → Bool
 has [] j = false

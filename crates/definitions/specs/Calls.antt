@@ -10,7 +10,7 @@ use lib.Dec.{eqb}
 use lib.ListN.{getD}
 use Rattle.definitions.specs.Basics.{pick, smaller, larger, sumOf}
 use Rattle.definitions.specs.Fields.{only, orRemark, fieldAt, firstField, onField, scan}
-use Rattle.definitions.specs.Charts.{headFault, readChart}
+use Rattle.definitions.specs.Charts.{headFault, readChart, groupCount}
 use Rattle.definitions.specs.Diagrams.{readDiagram, descend, descendIn, advance, finish, verdict}
 use Rattle.definitions.specs.Ways.{Graph, waysIn, ways, leastWay}
 use Rattle.definitions.specs.Pairs.{Automaton, Estimate, stands, leastCost, reached, goal, reachedPairs, toEnd, sum}
@@ -63,13 +63,13 @@ abbrev pub seven : List ℕ
 seven = 7 ∷ 0 ∷ 0 ∷ []
 
 pub spaces-hold : spaces ≡ [] ∷ seven ∷ seven ∷ seven ∷ [] ∷ seven ∷ seven ∷ seven ∷ seven ∷ seven ∷ seven ∷ []
-unfolding spaces pick only orRemark fieldAt firstField onField scan headFault readChart readDiagram readFiles load
+unfolding spaces pick only orRemark fieldAt firstField onField scan headFault readChart readDiagram groupCount readFiles load
 spaces-hold = refl
 
 -- ---- the sweep
 
 pub sweep-holds : SweepCall chartFile rulesFile (sweepSlices w w w []) (sweepSlices (4294967295 ∷ 0 ∷ 6 ∷ []) w′ w′ []) (accepted 0 0 1)
-unfolding pick only orRemark fieldAt firstField onField scan headFault readChart readDiagram readFiles load smaller descend descendIn advance verdict saysYes waysIn ways leastWay stands leastCost reached reachedPairs cheapest leastCosts variable
+unfolding pick only orRemark fieldAt firstField onField scan headFault readChart readDiagram groupCount readFiles load smaller descend descendIn advance verdict saysYes waysIn ways leastWay stands leastCost reached reachedPairs cheapest leastCosts variable
 sweep-holds = record {
   swept = ((refl, record { fits = omega arith; legal = ((tt, refl), refl); costs = refl; long = refl; rest = refl }), refl);
   via = (refl, refl);
@@ -78,15 +78,15 @@ sweep-holds = record {
 
 -- a call whose cost slice, via or nodes is written past its need
 pub sweep-cost : SweepCall chartFile rulesFile (sweepSlices w w w []) (sweepSlices (4294967295 ∷ 0 ∷ 7 ∷ []) w′ w′ []) (accepted 0 0 1) → ⊥
-unfolding pick only orRemark fieldAt firstField onField scan headFault readChart readDiagram readFiles load smaller descend descendIn advance waysIn ways leastWay stands leastCost leastCosts variable
+unfolding pick only orRemark fieldAt firstField onField scan headFault readChart readDiagram groupCount readFiles load smaller descend descendIn advance waysIn ways leastWay stands leastCost leastCosts variable
 sweep-cost s = let e = differ (s .swept .1) 2 in omega arith
 
 pub sweep-via : SweepCall chartFile rulesFile (sweepSlices w w w []) (sweepSlices (4294967295 ∷ 0 ∷ 6 ∷ []) bad w′ []) (accepted 0 0 1) → ⊥
-unfolding pick only orRemark fieldAt firstField onField scan headFault readChart readDiagram readFiles load
+unfolding pick only orRemark fieldAt firstField onField scan headFault readChart readDiagram groupCount readFiles load
 sweep-via s = let e = differ (s .via .1) 0 in omega arith
 
 pub sweep-nodes : SweepCall chartFile rulesFile (sweepSlices w w w []) (sweepSlices (4294967295 ∷ 0 ∷ 6 ∷ []) w′ bad []) (accepted 0 0 1) → ⊥
-unfolding pick only orRemark fieldAt firstField onField scan headFault readChart readDiagram readFiles load
+unfolding pick only orRemark fieldAt firstField onField scan headFault readChart readDiagram groupCount readFiles load
 sweep-nodes s = let e = differ (s .nodes .1) 0 in omega arith
 
 -- ---- the guided search: one pair is settled, pair 1
@@ -132,7 +132,7 @@ After keys via heap pos stack log =
     GuidedCall chartFile rulesFile (guidedSlices w w w w w w []) (guidedSlices keys via heap pos stack log []) (accepted 0 0 1)
 
 pub guided-holds : After w′ w′ w′ w′ w′ (1 ∷ 5 ∷ 6 ∷ [])
-unfolding pick only orRemark fieldAt firstField onField scan headFault readChart readDiagram readFiles load smaller descend descendIn advance verdict saysYes waysIn ways leastWay stands leastCost reached reachedPairs cheapest variable
+unfolding pick only orRemark fieldAt firstField onField scan headFault readChart readDiagram groupCount readFiles load smaller descend descendIn advance verdict saysYes waysIn ways leastWay stands leastCost reached reachedPairs cheapest variable
 guided-holds = record {
   guided = (
     (refl, record { fits = omega arith; legal = ((tt, refl), refl); costs = refl; long = refl; rest = refl }),
@@ -146,37 +146,37 @@ guided-holds = record {
 }
 
 pub guided-keys : After bad w′ w′ w′ w′ (1 ∷ 5 ∷ 6 ∷ []) → ⊥
-unfolding pick only orRemark fieldAt firstField onField scan headFault readChart readDiagram readFiles load
+unfolding pick only orRemark fieldAt firstField onField scan headFault readChart readDiagram groupCount readFiles load
 guided-keys s = let e = differ (s .keys .1) 0 in omega arith
 
 pub guided-via : After w′ bad w′ w′ w′ (1 ∷ 5 ∷ 6 ∷ []) → ⊥
-unfolding pick only orRemark fieldAt firstField onField scan headFault readChart readDiagram readFiles load
+unfolding pick only orRemark fieldAt firstField onField scan headFault readChart readDiagram groupCount readFiles load
 guided-via s = let e = differ (s .via .1) 0 in omega arith
 
 pub guided-heap : After w′ w′ bad w′ w′ (1 ∷ 5 ∷ 6 ∷ []) → ⊥
-unfolding pick only orRemark fieldAt firstField onField scan headFault readChart readDiagram readFiles load
+unfolding pick only orRemark fieldAt firstField onField scan headFault readChart readDiagram groupCount readFiles load
 guided-heap s = let e = differ (s .heap .1) 0 in omega arith
 
 pub guided-pos : After w′ w′ w′ bad w′ (1 ∷ 5 ∷ 6 ∷ []) → ⊥
-unfolding pick only orRemark fieldAt firstField onField scan headFault readChart readDiagram readFiles load
+unfolding pick only orRemark fieldAt firstField onField scan headFault readChart readDiagram groupCount readFiles load
 guided-pos s = let e = differ (s .pos .1) 0 in omega arith
 
 pub guided-stack : After w′ w′ w′ w′ bad (1 ∷ 5 ∷ 6 ∷ []) → ⊥
-unfolding pick only orRemark fieldAt firstField onField scan headFault readChart readDiagram readFiles load
+unfolding pick only orRemark fieldAt firstField onField scan headFault readChart readDiagram groupCount readFiles load
 guided-stack s = let e = differ (s .stack .1) 0 in omega arith
 
 -- the log slice past the count, though within stage count × N
 pub guided-log : After w′ w′ w′ w′ w′ (1 ∷ 2 ∷ 6 ∷ []) → ⊥
-unfolding pick only orRemark fieldAt firstField onField scan headFault readChart readDiagram readFiles load
+unfolding pick only orRemark fieldAt firstField onField scan headFault readChart readDiagram groupCount readFiles load
 guided-log s = let e = differ (s .guided .1 .rest) 0 in omega arith
 
 -- the plan slice past the plan, which has no step
 pub sweep-plan : SweepCall chartFile rulesFile (sweepSlices w w w (7 ∷ [])) (sweepSlices (4294967295 ∷ 0 ∷ 6 ∷ []) w′ w′ (8 ∷ [])) (accepted 0 0 1) → ⊥
-unfolding pick only orRemark fieldAt firstField onField scan headFault readChart readDiagram readFiles load smaller descend descendIn advance verdict saysYes waysIn ways leastWay cheapest variable
+unfolding pick only orRemark fieldAt firstField onField scan headFault readChart readDiagram groupCount readFiles load smaller descend descendIn advance verdict saysYes waysIn ways leastWay cheapest variable
 sweep-plan s = let e = differ (s .swept .0 .1 .rest) 0 in omega arith
 
 pub guided-plan : GuidedCall chartFile rulesFile (guidedSlices w w w w w w (7 ∷ [])) (guidedSlices w′ w′ w′ w′ w′ (1 ∷ 5 ∷ 6 ∷ []) (8 ∷ [])) (accepted 0 0 1) → ⊥
-unfolding pick only orRemark fieldAt firstField onField scan headFault readChart readDiagram readFiles load smaller descend descendIn advance verdict saysYes waysIn ways leastWay cheapest variable
+unfolding pick only orRemark fieldAt firstField onField scan headFault readChart readDiagram groupCount readFiles load smaller descend descendIn advance verdict saysYes waysIn ways leastWay cheapest variable
 guided-plan s = let e = differ (s .guided .0 .1 .rest) 0 in omega arith
 
 -- two stages need a plan entry
@@ -195,5 +195,5 @@ plan-spaces =
     ∷ []
 
 pub plan-spaces-hold : plan-spaces ≡ [] ∷ seven ∷ [] ∷ seven ∷ []
-unfolding plan-spaces pick only orRemark fieldAt firstField onField scan headFault readChart readDiagram readFiles load
+unfolding plan-spaces pick only orRemark fieldAt firstField onField scan headFault readChart readDiagram groupCount readFiles load
 plan-spaces-hold = refl

@@ -9,7 +9,7 @@ use native.Mathlib.Omega.{arith}
 use lib.ListN.{take, replicate, List·getD-eq-default}
 use Rattle.definitions.specs.Basics.{pick, upto}
 use Rattle.definitions.specs.Fields.{only, orRemark, fieldAt, firstField, onField, scan}
-use Rattle.definitions.specs.Charts.{headFault, stepFault, readChart}
+use Rattle.definitions.specs.Charts.{headFault, stepFault, readChart, groupFault, stepKind, groupCount}
 use Rattle.definitions.specs.Diagrams.{Diagram, InnerNode, noNode, inner, descend, descendIn, verdict, nodeFault, padding, nodeFaultAfter, readDiagram}
 use Rattle.definitions.specs.Bytes.{chartBytes, diagramBytes}
 use Rattle.definitions.specs.Reductions.{accepts, walk, Reduced, Arrives, at-root, at-lo, at-hi, alike, mk, treeOf, member, position, postorder, ref, numbered, nodesOf, diagramOf, reducedOf, conjunction}
@@ -206,7 +206,7 @@ pub loads-hold : loads
     ∷ (2 ∷ 2 ∷ 0 ∷ [])
     ∷ (2 ∷ 1 ∷ 0 ∷ [])
     ∷ []
-unfolding loads pick only orRemark fieldAt firstField onField scan headFault stepFault readChart nodeFault nodeFaultAfter padding readDiagram readFiles loadTwo
+unfolding loads pick only orRemark fieldAt firstField onField scan headFault stepFault groupFault stepKind readChart nodeFault nodeFaultAfter padding readDiagram groupCount readFiles loadTwo
 loads-hold = refl
 
 -- ---- 12 before 7 for the buffer: a diagram of 511 nodes, and of 510
@@ -253,51 +253,51 @@ abbrev short : List ℕ
 short = 9 ∷ 9 ∷ 9 ∷ 9 ∷ []
 
 pub call-holds : ConjoinCall chart yes no (conjoinSlices w out) (conjoinSlices w′ out′) (accepted 0 5 0)
-unfolding pick only orRemark fieldAt firstField onField scan headFault stepFault readChart nodeFault nodeFaultAfter padding readDiagram readFiles loadTwo conjunction reducedOf treeOf accepts verdict descend descendIn mk alike diagramOf postorder member position ref numbered nodesOf writtenAnswer writtenBuffer fileAnswer fileBuffer
+unfolding pick only orRemark fieldAt firstField onField scan headFault stepFault groupFault stepKind readChart nodeFault nodeFaultAfter padding readDiagram groupCount readFiles loadTwo conjunction reducedOf treeOf accepts verdict descend descendIn mk alike diagramOf postorder member position ref numbered nodesOf writtenAnswer writtenBuffer fileAnswer fileBuffer
 call-holds = (refl, refl, refl, refl)
 
 pub short-holds : ConjoinCall chart yes no (conjoinSlices w short) (conjoinSlices w′ short) (refusal 7 0 0 0)
-unfolding pick only orRemark fieldAt firstField onField scan headFault stepFault readChart nodeFault nodeFaultAfter padding readDiagram readFiles loadTwo conjunction reducedOf treeOf accepts verdict descend descendIn mk alike diagramOf postorder member position ref numbered nodesOf writtenAnswer writtenBuffer fileAnswer fileBuffer
+unfolding pick only orRemark fieldAt firstField onField scan headFault stepFault groupFault stepKind readChart nodeFault nodeFaultAfter padding readDiagram groupCount readFiles loadTwo conjunction reducedOf treeOf accepts verdict descend descendIn mk alike diagramOf postorder member position ref numbered nodesOf writtenAnswer writtenBuffer fileAnswer fileBuffer
 short-holds = (refl, refl, refl, refl)
 
 pub refused-holds : ConjoinCall chart yes [] (conjoinSlices w out) (conjoinSlices w out) (refusal 2 3 0 0)
-unfolding pick only orRemark fieldAt firstField onField scan headFault stepFault readChart nodeFault nodeFaultAfter padding readDiagram readFiles loadTwo
+unfolding pick only orRemark fieldAt firstField onField scan headFault stepFault groupFault stepKind readChart nodeFault nodeFaultAfter padding readDiagram groupCount readFiles loadTwo
 refused-holds = (refl, refl, refl)
 
 -- an entry past the need is changed; a byte behind the file; a byte of the file; a count; the work slice under a refusal of a file
 call-past : ConjoinCall chart yes no (conjoinSlices w out) (conjoinSlices bad out′) (accepted 0 5 0) → ⊥
-unfolding pick only orRemark fieldAt firstField onField scan headFault stepFault readChart nodeFault nodeFaultAfter padding readDiagram readFiles loadTwo
+unfolding pick only orRemark fieldAt firstField onField scan headFault stepFault groupFault stepKind readChart nodeFault nodeFaultAfter padding readDiagram groupCount readFiles loadTwo
 call-past s = let e = differ (s .3) 0 in omega arith
 
 call-behind : ConjoinCall chart yes no (conjoinSlices w out) (conjoinSlices w′ (17 ∷ 2 ∷ 0 ∷ 0 ∷ 0 ∷ 0 ∷ [])) (accepted 0 5 0) → ⊥
-unfolding pick only orRemark fieldAt firstField onField scan headFault stepFault readChart nodeFault nodeFaultAfter padding readDiagram readFiles loadTwo conjunction reducedOf treeOf accepts verdict descend descendIn mk alike diagramOf postorder member position ref numbered nodesOf writtenBuffer fileBuffer
+unfolding pick only orRemark fieldAt firstField onField scan headFault stepFault groupFault stepKind readChart nodeFault nodeFaultAfter padding readDiagram groupCount readFiles loadTwo conjunction reducedOf treeOf accepts verdict descend descendIn mk alike diagramOf postorder member position ref numbered nodesOf writtenBuffer fileBuffer
 call-behind s = let e = differ (s .1) 5 in omega arith
 
 call-root : ConjoinCall chart yes no (conjoinSlices w out) (conjoinSlices w′ (17 ∷ 2 ∷ 0 ∷ 1 ∷ 0 ∷ 8 ∷ [])) (accepted 0 5 0) → ⊥
-unfolding pick only orRemark fieldAt firstField onField scan headFault stepFault readChart nodeFault nodeFaultAfter padding readDiagram readFiles loadTwo conjunction reducedOf treeOf accepts verdict descend descendIn mk alike diagramOf postorder member position ref numbered nodesOf writtenBuffer fileBuffer
+unfolding pick only orRemark fieldAt firstField onField scan headFault stepFault groupFault stepKind readChart nodeFault nodeFaultAfter padding readDiagram groupCount readFiles loadTwo conjunction reducedOf treeOf accepts verdict descend descendIn mk alike diagramOf postorder member position ref numbered nodesOf writtenBuffer fileBuffer
 call-root s = let e = differ (s .1) 3 in omega arith
 
 call-count : ConjoinCall chart yes no (conjoinSlices w out) (conjoinSlices w′ out′) (accepted 0 5 1) → ⊥
-unfolding pick only orRemark fieldAt firstField onField scan headFault stepFault readChart nodeFault nodeFaultAfter padding readDiagram readFiles loadTwo conjunction reducedOf treeOf accepts verdict descend descendIn mk alike diagramOf postorder member position ref numbered nodesOf writtenAnswer fileAnswer
+unfolding pick only orRemark fieldAt firstField onField scan headFault stepFault groupFault stepKind readChart nodeFault nodeFaultAfter padding readDiagram groupCount readFiles loadTwo conjunction reducedOf treeOf accepts verdict descend descendIn mk alike diagramOf postorder member position ref numbered nodesOf writtenAnswer fileAnswer
 call-count s = let e = ap (λ (a : Answer). a .count) (s .0) in omega arith
 
 refused-work : ConjoinCall chart yes [] (conjoinSlices w out) (conjoinSlices w′ out) (refusal 2 3 0 0) → ⊥
-unfolding pick only orRemark fieldAt firstField onField scan headFault stepFault readChart nodeFault nodeFaultAfter padding readDiagram readFiles loadTwo
+unfolding pick only orRemark fieldAt firstField onField scan headFault stepFault groupFault stepKind readChart nodeFault nodeFaultAfter padding readDiagram groupCount readFiles loadTwo
 refused-work s = let e = differ (s .2) 0 in omega arith
 
 refused-file : ConjoinCall chart yes [] (conjoinSlices w out) (conjoinSlices w out′) (refusal 2 3 0 0) → ⊥
-unfolding pick only orRemark fieldAt firstField onField scan headFault stepFault readChart nodeFault nodeFaultAfter padding readDiagram readFiles loadTwo
+unfolding pick only orRemark fieldAt firstField onField scan headFault stepFault groupFault stepKind readChart nodeFault nodeFaultAfter padding readDiagram groupCount readFiles loadTwo
 refused-file s = let e = differ (s .1) 0 in omega arith
 
 refused-number : ConjoinCall chart yes [] (conjoinSlices w out) (conjoinSlices w out) (refusal 7 0 0 0) → ⊥
-unfolding pick only orRemark fieldAt firstField onField scan headFault stepFault readChart nodeFault nodeFaultAfter padding readDiagram readFiles loadTwo
+unfolding pick only orRemark fieldAt firstField onField scan headFault stepFault groupFault stepKind readChart nodeFault nodeFaultAfter padding readDiagram groupCount readFiles loadTwo
 refused-number s = let e = ap (λ (a : Answer). a .number) (s .0) in omega arith
 
 call-shorter : ConjoinCall chart yes no (conjoinSlices (5 ∷ 5 ∷ 5 ∷ 5 ∷ []) out) (conjoinSlices (1 ∷ 2 ∷ 3 ∷ []) out′) (accepted 0 5 0) → ⊥
-unfolding pick only orRemark fieldAt firstField onField scan headFault stepFault readChart nodeFault nodeFaultAfter padding readDiagram readFiles loadTwo
+unfolding pick only orRemark fieldAt firstField onField scan headFault stepFault groupFault stepKind readChart nodeFault nodeFaultAfter padding readDiagram groupCount readFiles loadTwo
 call-shorter s = let e = s .2 in omega arith
 
 -- a work slice that is too short, and a buffer that is long enough
 pub work-short-holds : ConjoinCall chart yes no (conjoinSlices (5 ∷ 5 ∷ 5 ∷ []) out) (conjoinSlices (5 ∷ 5 ∷ 5 ∷ []) out) (refusal 7 0 0 0)
-unfolding pick only orRemark fieldAt firstField onField scan headFault stepFault readChart nodeFault nodeFaultAfter padding readDiagram readFiles loadTwo
+unfolding pick only orRemark fieldAt firstField onField scan headFault stepFault groupFault stepKind readChart nodeFault nodeFaultAfter padding readDiagram groupCount readFiles loadTwo
 work-short-holds = (refl, refl, refl)

@@ -9,7 +9,7 @@ use lib.Dec.{eqb}
 use lib.ListN.{length, getD, take, drop, replicate}
 use Rattle.definitions.specs.Basics.{pick, smaller, larger, sumOf}
 use Rattle.definitions.specs.Fields.{only, orRemark, fieldAt, firstField, onField, scan}
-use Rattle.definitions.specs.Charts.{ChartStep, headFault, stepFault, readChart}
+use Rattle.definitions.specs.Charts.{ChartStep, headFault, stepFault, readChart, groupFault, stepKind, groupCount, plain}
 use Rattle.definitions.specs.Diagrams.{nodeFault, padding, nodeFaultAfter, readDiagram}
 use Rattle.definitions.specs.Bytes.{field, bodyOfStep, bodyOfNode, headBytes, stepBytes, chartBytes, diagramBytes}
 use Rattle.definitions.specs.Answers.{readFiles, load}
@@ -37,9 +37,9 @@ pub node-counts-hold : nodeCounts ≡ 0 ∷ 6 ∷ []
 unfolding nodeCounts pick nodeFault
 node-counts-hold = refl
 
--- what a step is refused for in a chart of five stages, after `count` steps of which the last leaves stage 2
+-- what a step is refused for in a chart of five stages, after `count` steps of which the last leaves stage 2 and is of group 7
 abbrev judged : ℕ → ChartStep → ℕ
-judged count x = stepFault 5 2 count (bodyOfStep x)
+judged count x = stepFault 5 (x .tag) 2 7 count (bodyOfStep x)
 
 pub stepFaults : List (ℕ × ℕ)
 stepFaults =
@@ -54,7 +54,7 @@ stepFaults =
     ∷ (judged 1 (st 257 4 7), 10)
     ∷ (judged 1 (st 2 5 7), 10)
     ∷ (judged 1 (st 2 259 7), 10)
-    ∷ (stepFault 4 2 1 (bodyOfStep (st 2 4 7)), 10)
+    ∷ (stepFault 4 plain 2 7 1 (bodyOfStep (st 2 4 7)), 10)
     ∷ (judged 1 (st 1 2 7), 5)
     ∷ (judged 1 (st 0 2 7), 5)
     ∷ (judged 1 (st 2 3 1000001), 11)
@@ -81,7 +81,7 @@ stepFaults =
     ∷ []
 
 pub step-faults-hold : map (λ x. x .0) stepFaults ≡ map (λ x. x .1) stepFaults
-unfolding stepFaults pick stepFault
+unfolding stepFaults pick stepFault groupFault stepKind
 step-faults-hold = refl
 
 -- mistakes: its stages after the step before it, 10 and 11 exchanged, the value before its stages and before the step before it, 5 for a value and for its stages,
@@ -102,7 +102,7 @@ stepMistakes =
     ∷ []
 
 pub step-mistakes-refuted : map (λ x. eqb (x .0) (x .1)) stepMistakes ≡ map (λ x. false) stepMistakes
-unfolding stepMistakes pick stepFault
+unfolding stepMistakes pick stepFault groupFault stepKind
 step-mistakes-refuted = refl
 
 -- such a step in its file: of length 9 it is 3, cut it is 1, whole it is told at its own place
@@ -116,7 +116,7 @@ badSteps =
     ∷ []
 
 pub bad-steps-hold : badSteps ≡ (3 ∷ 20 ∷ []) ∷ (1 ∷ 20 ∷ []) ∷ (10 ∷ 20 ∷ []) ∷ []
-unfolding badSteps pick only orRemark fieldAt firstField onField scan headFault stepFault readChart
+unfolding badSteps pick only orRemark fieldAt firstField onField scan headFault stepFault groupFault stepKind readChart
 bad-steps-hold = refl
 
 -- a diagram's head that is cut, of another tag, of another length, with a cut body; a node in its place; a second head
@@ -144,7 +144,7 @@ places =
     ∷ []
 
 pub places-hold : places ≡ (1 ∷ 1 ∷ 20 ∷ []) ∷ (1 ∷ 2 ∷ 14 ∷ []) ∷ (6 ∷ 2 ∷ 14 ∷ []) ∷ (1 ∷ 1 ∷ 20 ∷ []) ∷ []
-unfolding places pick only orRemark fieldAt firstField onField scan headFault stepFault readChart nodeFault nodeFaultAfter padding readDiagram readFiles load
+unfolding places pick only orRemark fieldAt firstField onField scan headFault stepFault groupFault stepKind readChart nodeFault nodeFaultAfter padding readDiagram groupCount readFiles load
 places-hold = refl
 
 -- a child that is the node itself, at lo and at hi; a child that does not test a later step, and one that does; a third step that leaves a stage below the second's
@@ -158,7 +158,7 @@ neighbours =
     ∷ []
 
 pub neighbours-hold : neighbours ≡ (6 ∷ 5 ∷ []) ∷ (6 ∷ 5 ∷ []) ∷ (6 ∷ 23 ∷ []) ∷ (0 ∷ 0 ∷ []) ∷ (5 ∷ 31 ∷ []) ∷ []
-unfolding neighbours pick only orRemark fieldAt firstField onField scan headFault stepFault readChart nodeFault nodeFaultAfter padding readDiagram
+unfolding neighbours pick only orRemark fieldAt firstField onField scan headFault stepFault groupFault stepKind readChart nodeFault nodeFaultAfter padding readDiagram
 neighbours-hold = refl
 
 -- row starts: the first of five stages with three nodes, and of one stage; the last of 256 stages, and of 255; two in between; all tables are as long

@@ -9,7 +9,7 @@ use native.Mathlib.Omega.{arith}
 use lib.ListN.{length, getD, length-take}
 use Rattle.definitions.specs.Basics.{pick, smaller, larger, sumOf, upto}
 use Rattle.definitions.specs.Fields.{only, orRemark, fieldAt, firstField, onField, scan}
-use Rattle.definitions.specs.Charts.{Chart, headed, headFault, stepFault, readChart}
+use Rattle.definitions.specs.Charts.{Chart, headed, headFault, stepFault, readChart, groupCount, groupFault, stepKind}
 use Rattle.definitions.specs.Diagrams.{nodeFault, padding, nodeFaultAfter, readDiagram, descend, descendIn, advance, finish, verdict}
 use Rattle.definitions.specs.Ways.{waysIn, ways, leastWay}
 use Rattle.definitions.specs.Pairs.{stands, leastCost, reached, goal, reachedPairs, toEnd, sum}
@@ -71,7 +71,7 @@ spaces =
     ∷ []
 
 pub spaces-hold : spaces ≡ [] ∷ seven ∷ seven ∷ seven ∷ seven ∷ seven ∷ seven ∷ [] ∷ []
-unfolding spaces pick only orRemark fieldAt firstField onField scan headFault readChart readDiagram readFiles loadWork
+unfolding spaces pick only orRemark fieldAt firstField onField scan headFault readChart readDiagram groupCount readFiles loadWork
 spaces-hold = refl
 
 -- the files, whatever the list: the chart's own start is no stage; the diagram is cut; its node has lo equal to hi, in a chart of one step
@@ -86,7 +86,7 @@ refusals =
     ∷ []
 
 pub refusals-hold : refusals ≡ (4 ∷ 1 ∷ 0 ∷ []) ∷ (1 ∷ 2 ∷ 14 ∷ []) ∷ (13 ∷ 2 ∷ 5 ∷ []) ∷ []
-unfolding refusals pick only orRemark fieldAt firstField onField scan headFault stepFault nodeFault nodeFaultAfter padding readChart readDiagram readFiles loadWork
+unfolding refusals pick only orRemark fieldAt firstField onField scan headFault stepFault groupFault stepKind nodeFault nodeFaultAfter padding readChart readDiagram groupCount readFiles loadWork
 refusals-hold = refl
 
 -- ---- whole calls
@@ -127,7 +127,7 @@ list-holds = record {
 
 -- the empty list, by the files
 pub empty-holds : CyclesCall chartFile rulesFile (all w) (all w′) [] [] (accepted 0 0 0)
-unfolding pick only orRemark fieldAt firstField onField scan headFault readChart readDiagram readFiles loadWork
+unfolding pick only orRemark fieldAt firstField onField scan headFault readChart readDiagram groupCount readFiles loadWork
 empty-holds = record {
   listed = (refl, record { long = refl; each = λ i l. absurd (omega arith) });
   keys = (refl, refl);

@@ -8,7 +8,7 @@ use lib.Dec.{eqb}
 use lib.ListN.{length, getD, take}
 use Rattle.definitions.specs.Basics.{pick, each}
 use Rattle.definitions.specs.Fields.{Kind, foreign, exactly, atLeast, only, orRemark, fieldAt, firstField, onField, Grammar, scan, fieldBytes, refusedField}
-use Rattle.definitions.specs.Charts.{ChartStep, headFault, stepFault, readChart}
+use Rattle.definitions.specs.Charts.{ChartStep, headFault, stepFault, readChart, groupFault, stepKind, groupCount}
 use Rattle.definitions.specs.Diagrams.{Diagram, InnerNode, nodeFault, strict, padding, nodeFaultAfter, readDiagram}
 use Rattle.definitions.specs.Bytes.{headBytes, stepBytes, chartBytes, diagramBytes}
 use Rattle.definitions.specs.Answers.{Load, ready, refused, readFiles, load}
@@ -32,7 +32,7 @@ loadRefusal (ready c d) = []
 loadRefusal (refused number file place) = number ∷ file ∷ place ∷ []
 
 pub whole-chart : readChart (chartBytes values) ≡ record { number = 0; place = 0; chart = chart }
-unfolding pick only orRemark fieldAt firstField onField scan headFault stepFault readChart
+unfolding pick only orRemark fieldAt firstField onField scan headFault stepFault groupFault stepKind readChart
 whole-chart = refl
 
 pub whole-diagram : readDiagram strict (diagramBytes rules) 6 ≡ record { number = 0; place = 0; diagram = rules }
@@ -98,7 +98,7 @@ expected =
     ∷ []
 
 pub refusals-hold : computed ≡ expected
-unfolding computed expected pick only orRemark fieldAt firstField onField scan headFault stepFault readChart nodeFault nodeFaultAfter padding readDiagram fieldBytes refusedField
+unfolding computed expected pick only orRemark fieldAt firstField onField scan headFault stepFault groupFault stepKind readChart nodeFault nodeFaultAfter padding readDiagram fieldBytes refusedField
 refusals-hold = refl
 
 -- the space: 5 × 4 entries for each work slice and 4 for the plan
@@ -112,7 +112,7 @@ loads =
     ∷ []
 
 pub loads-hold : loads ≡ [] ∷ (7 ∷ 0 ∷ 0 ∷ []) ∷ (7 ∷ 0 ∷ 0 ∷ []) ∷ (6 ∷ 2 ∷ 0 ∷ []) ∷ (1 ∷ 1 ∷ 0 ∷ []) ∷ []
-unfolding loads pick only orRemark fieldAt firstField onField scan headFault stepFault readChart nodeFault nodeFaultAfter padding readDiagram readFiles load
+unfolding loads pick only orRemark fieldAt firstField onField scan headFault stepFault groupFault stepKind readChart nodeFault nodeFaultAfter padding readDiagram groupCount readFiles load
 loads-hold = refl
 
 -- ---- each kind of field. Of a small file, remarks aside: 34 has at least 4 bytes, and an even number of them; another tag has as many bytes as its number

@@ -6,15 +6,16 @@ use mathlib.Core.Bool.{Bool, cond}
 use mathlib.Core.List.{List, [], _∷_, _++_, map}
 use mathlib.Core.Option.{Option, none, some}
 use Rattle.definitions.specs.Basics.{pick, smaller, larger, sumOf, upto}
-use Rattle.definitions.specs.Charts.{Chart, ChartStep}
-use Rattle.definitions.specs.Bytes.{roundedChart}
+use Rattle.definitions.specs.Charts.{Chart, ChartStep, plain}
+use Rattle.definitions.specs.Bytes.{chartBack}
 use Rattle.definitions.specs.Diagrams.{Diagram, InnerNode, descend, descendIn, advance, finish, verdict}
 use Rattle.definitions.specs.Ways.{waysIn, ways, leastWay, wayCost}
 use Rattle.definitions.specs.Pairs.{stageOf, nodeOf, stands, leastCost, reached, goal, reachedPairs, goalPairs, toEnd, sum}
 use Rattle.definitions.specs.Plans.{graph, variable, variableCost, automaton, saysYes, legal, cheapest, chartEstimate, diagramEstimate, estimate}
 
+-- a plain step, as it is written to a file: without a group
 abbrev pub st : ℕ → ℕ → ℕ → ChartStep
-st from to cost = record { from = from; to = to; cost = cost }
+st from to cost = record { tag = plain; from = from; to = to; cost = cost; group = 0 }
 
 abbrev pub nd : ℕ → ℕ → ℕ → InnerNode
 nd step lo hi = record { step = step; lo = lo; hi = hi }
@@ -24,7 +25,7 @@ abbrev pub values : Chart
 values = record { stages = 5; start = 0; end = 4; steps = st 0 1 40 ∷ st 0 1 90 ∷ st 1 2 200 ∷ st 1 3 30 ∷ st 2 3 20 ∷ st 3 4 50 ∷ [] }
 
 abbrev pub chart : Chart
-chart = roundedChart values
+chart = chartBack values
 
 abbrev pub rules : Diagram
 rules = record { root = 3; nodes = nd 2 0 1 ∷ nd 0 1 2 ∷ [] }
@@ -41,7 +42,7 @@ leaf n = record { root = n; nodes = [] }
 
 -- (i): the chart and the diagram whose goal pair is not at node 1
 abbrev skip : Chart
-skip = roundedChart (record { stages = 3; start = 0; end = 2; steps = st 0 2 5 ∷ st 1 2 1 ∷ [] })
+skip = chartBack (record { stages = 3; start = 0; end = 2; steps = st 0 2 5 ∷ st 1 2 1 ∷ [] })
 
 abbrev avoid : Diagram
 avoid = record { root = 2; nodes = nd 1 1 0 ∷ [] }

@@ -9,7 +9,7 @@ use native.Mathlib.Omega.{arith}
 use lib.ListN.{length, take, replicate}
 use Rattle.definitions.specs.Basics.{pick, smaller}
 use Rattle.definitions.specs.Fields.{only, orRemark, fieldAt, firstField, onField, scan}
-use Rattle.definitions.specs.Charts.{headFault, stepFault, readChart}
+use Rattle.definitions.specs.Charts.{headFault, stepFault, readChart, groupFault, stepKind, groupCount}
 use Rattle.definitions.specs.Diagrams.{Diagram, InnerNode, descend, descendIn, advance, verdict, nodeFault, strict, lenient, padding, nodeFaultAfter, readDiagram}
 use Rattle.definitions.specs.Ways.{waysIn, ways, leastWay}
 use Rattle.definitions.specs.Pairs.{stands, leastCost, reached, reachedPairs}
@@ -152,7 +152,7 @@ paddedLoads =
     ∷ []
 
 pub padded-loads-hold : paddedLoads ≡ (13 ∷ 2 ∷ 23 ∷ []) ∷ (13 ∷ 2 ∷ 23 ∷ []) ∷ (13 ∷ 3 ∷ 23 ∷ []) ∷ (1 ∷ 1 ∷ 0 ∷ []) ∷ (13 ∷ 2 ∷ 23 ∷ []) ∷ [] ∷ (1 ∷ 1 ∷ 0 ∷ []) ∷ []
-unfolding paddedLoads pick only orRemark fieldAt firstField onField scan headFault stepFault readChart nodeFault nodeFaultAfter padding readDiagram readFiles load loadTwo
+unfolding paddedLoads pick only orRemark fieldAt firstField onField scan headFault stepFault groupFault stepKind readChart nodeFault nodeFaultAfter padding readDiagram groupCount readFiles load loadTwo
 padded-loads-hold = refl
 
 -- ---- reductions
@@ -207,16 +207,16 @@ abbrev short : List ℕ
 short = 9 ∷ 9 ∷ 9 ∷ 9 ∷ []
 
 pub call-holds : ReduceCall chart flat out out′ (accepted 0 5 0)
-unfolding pick only orRemark fieldAt firstField onField scan headFault stepFault readChart nodeFault nodeFaultAfter padding readDiagram readFiles reduction reducedOf treeOf accepts verdict descend descendIn mk alike diagramOf postorder member position ref numbered nodesOf fileAnswer fileBuffer
+unfolding pick only orRemark fieldAt firstField onField scan headFault stepFault groupFault stepKind readChart nodeFault nodeFaultAfter padding readDiagram groupCount readFiles reduction reducedOf treeOf accepts verdict descend descendIn mk alike diagramOf postorder member position ref numbered nodesOf fileAnswer fileBuffer
 call-holds = record { answer = refl; buffer = refl }
 
 pub short-holds : ReduceCall chart flat short short (refusal 7 0 0 0)
-unfolding pick only orRemark fieldAt firstField onField scan headFault stepFault readChart nodeFault nodeFaultAfter padding readDiagram readFiles reduction reducedOf treeOf accepts verdict descend descendIn mk alike diagramOf postorder member position ref numbered nodesOf fileAnswer fileBuffer
+unfolding pick only orRemark fieldAt firstField onField scan headFault stepFault groupFault stepKind readChart nodeFault nodeFaultAfter padding readDiagram groupCount readFiles reduction reducedOf treeOf accepts verdict descend descendIn mk alike diagramOf postorder member position ref numbered nodesOf fileAnswer fileBuffer
 short-holds = record { answer = refl; buffer = refl }
 
 -- a refused diagram, also where the buffer is too short
 pub refused-holds : ReduceCall chart (take 13 flat) short short (refusal 1 2 5 0)
-unfolding pick only orRemark fieldAt firstField onField scan headFault stepFault readChart nodeFault nodeFaultAfter padding readDiagram readFiles
+unfolding pick only orRemark fieldAt firstField onField scan headFault stepFault groupFault stepKind readChart nodeFault nodeFaultAfter padding readDiagram groupCount readFiles
 refused-holds = (refl, refl)
 
 -- the padded rule of REFERENCE 17.5: 13 at its second node of two that are alike, and its reduction, the rule itself
@@ -225,7 +225,7 @@ unfolding pick only orRemark fieldAt firstField onField scan nodeFault nodeFault
 padded-refused = refl
 
 pub padded-call : ReduceCall chart (diagramBytes padded) (replicate 24 9) (diagramBytes rules ++ 9 ∷ []) (accepted 0 23 0)
-unfolding pick only orRemark fieldAt firstField onField scan headFault stepFault readChart nodeFault nodeFaultAfter padding readDiagram readFiles reduction reducedOf treeOf accepts verdict descend descendIn mk alike diagramOf postorder member position ref numbered nodesOf fileAnswer fileBuffer
+unfolding pick only orRemark fieldAt firstField onField scan headFault stepFault groupFault stepKind readChart nodeFault nodeFaultAfter padding readDiagram groupCount readFiles reduction reducedOf treeOf accepts verdict descend descendIn mk alike diagramOf postorder member position ref numbered nodesOf fileAnswer fileBuffer
 padded-call = record { answer = refl; buffer = refl }
 
 -- with padding the count of reached pairs may be another, though it means the same, here that step 2 is taken: 6 in place of 5
@@ -241,49 +241,49 @@ counts = refl
 
 -- a byte behind the file; a byte of the file; a count; a cost; the padded node left in; 13; a buffer that is written under 7, and under a refusal; 7 before the file's refusal; another place, another file, a count under it
 call-behind : ReduceCall chart flat out (17 ∷ 2 ∷ 0 ∷ 1 ∷ 0 ∷ 0 ∷ []) (accepted 0 5 0) → ⊥
-unfolding pick only orRemark fieldAt firstField onField scan headFault stepFault readChart nodeFault nodeFaultAfter padding readDiagram readFiles reduction reducedOf treeOf accepts verdict descend descendIn mk alike diagramOf postorder member position ref numbered nodesOf fileBuffer
+unfolding pick only orRemark fieldAt firstField onField scan headFault stepFault groupFault stepKind readChart nodeFault nodeFaultAfter padding readDiagram groupCount readFiles reduction reducedOf treeOf accepts verdict descend descendIn mk alike diagramOf postorder member position ref numbered nodesOf fileBuffer
 call-behind s = let e = differ (s .buffer) 5 in omega arith
 
 call-root : ReduceCall chart flat out (17 ∷ 2 ∷ 0 ∷ 0 ∷ 0 ∷ 8 ∷ []) (accepted 0 5 0) → ⊥
-unfolding pick only orRemark fieldAt firstField onField scan headFault stepFault readChart nodeFault nodeFaultAfter padding readDiagram readFiles reduction reducedOf treeOf accepts verdict descend descendIn mk alike diagramOf postorder member position ref numbered nodesOf fileBuffer
+unfolding pick only orRemark fieldAt firstField onField scan headFault stepFault groupFault stepKind readChart nodeFault nodeFaultAfter padding readDiagram groupCount readFiles reduction reducedOf treeOf accepts verdict descend descendIn mk alike diagramOf postorder member position ref numbered nodesOf fileBuffer
 call-root s = let e = differ (s .buffer) 3 in omega arith
 
 call-count : ReduceCall chart flat out out′ (accepted 0 5 1) → ⊥
-unfolding pick only orRemark fieldAt firstField onField scan headFault stepFault readChart nodeFault nodeFaultAfter padding readDiagram readFiles reduction reducedOf treeOf accepts verdict descend descendIn mk alike diagramOf postorder member position ref numbered nodesOf fileAnswer
+unfolding pick only orRemark fieldAt firstField onField scan headFault stepFault groupFault stepKind readChart nodeFault nodeFaultAfter padding readDiagram groupCount readFiles reduction reducedOf treeOf accepts verdict descend descendIn mk alike diagramOf postorder member position ref numbered nodesOf fileAnswer
 call-count s = let e = ap (λ (a : Answer). a .count) (s .answer) in omega arith
 
 call-cost : ReduceCall chart flat out out′ (accepted 50 5 0) → ⊥
-unfolding pick only orRemark fieldAt firstField onField scan headFault stepFault readChart nodeFault nodeFaultAfter padding readDiagram readFiles reduction reducedOf treeOf accepts verdict descend descendIn mk alike diagramOf postorder member position ref numbered nodesOf fileAnswer
+unfolding pick only orRemark fieldAt firstField onField scan headFault stepFault groupFault stepKind readChart nodeFault nodeFaultAfter padding readDiagram groupCount readFiles reduction reducedOf treeOf accepts verdict descend descendIn mk alike diagramOf postorder member position ref numbered nodesOf fileAnswer
 call-cost s = let e = ap (λ (a : Answer). a .cost) (s .answer) in omega arith
 
 call-padded : ReduceCall chart flat (flat ++ 8 ∷ []) (flat ++ 8 ∷ []) (accepted 0 14 0) → ⊥
-unfolding pick only orRemark fieldAt firstField onField scan headFault stepFault readChart nodeFault nodeFaultAfter padding readDiagram readFiles reduction reducedOf treeOf accepts verdict descend descendIn mk alike diagramOf postorder member position ref numbered nodesOf fileAnswer
+unfolding pick only orRemark fieldAt firstField onField scan headFault stepFault groupFault stepKind readChart nodeFault nodeFaultAfter padding readDiagram groupCount readFiles reduction reducedOf treeOf accepts verdict descend descendIn mk alike diagramOf postorder member position ref numbered nodesOf fileAnswer
 call-padded s = let e = ap (λ (a : Answer). a .length) (s .answer) in omega arith
 
 call-thirteen : ReduceCall chart flat out out (refusal 13 2 5 0) → ⊥
-unfolding pick only orRemark fieldAt firstField onField scan headFault stepFault readChart nodeFault nodeFaultAfter padding readDiagram readFiles reduction reducedOf treeOf accepts verdict descend descendIn mk alike diagramOf postorder member position ref numbered nodesOf fileAnswer
+unfolding pick only orRemark fieldAt firstField onField scan headFault stepFault groupFault stepKind readChart nodeFault nodeFaultAfter padding readDiagram groupCount readFiles reduction reducedOf treeOf accepts verdict descend descendIn mk alike diagramOf postorder member position ref numbered nodesOf fileAnswer
 call-thirteen s = let e = ap (λ (a : Answer). a .number) (s .answer) in omega arith
 
 short-written : ReduceCall chart flat short (17 ∷ 2 ∷ 0 ∷ 1 ∷ []) (refusal 7 0 0 0) → ⊥
-unfolding pick only orRemark fieldAt firstField onField scan headFault stepFault readChart nodeFault nodeFaultAfter padding readDiagram readFiles reduction reducedOf treeOf accepts verdict descend descendIn mk alike diagramOf postorder member position ref numbered nodesOf fileBuffer
+unfolding pick only orRemark fieldAt firstField onField scan headFault stepFault groupFault stepKind readChart nodeFault nodeFaultAfter padding readDiagram groupCount readFiles reduction reducedOf treeOf accepts verdict descend descendIn mk alike diagramOf postorder member position ref numbered nodesOf fileBuffer
 short-written s = let e = differ (s .buffer) 0 in omega arith
 
 refused-written : ReduceCall chart (take 13 flat) out out′ (refusal 1 2 5 0) → ⊥
-unfolding pick only orRemark fieldAt firstField onField scan headFault stepFault readChart nodeFault nodeFaultAfter padding readDiagram readFiles
+unfolding pick only orRemark fieldAt firstField onField scan headFault stepFault groupFault stepKind readChart nodeFault nodeFaultAfter padding readDiagram groupCount readFiles
 refused-written s = let e = differ (s .1) 0 in omega arith
 
 refused-seven : ReduceCall chart (take 13 flat) short short (refusal 7 0 0 0) → ⊥
-unfolding pick only orRemark fieldAt firstField onField scan headFault stepFault readChart nodeFault nodeFaultAfter padding readDiagram readFiles
+unfolding pick only orRemark fieldAt firstField onField scan headFault stepFault groupFault stepKind readChart nodeFault nodeFaultAfter padding readDiagram groupCount readFiles
 refused-seven s = let e = ap (λ (a : Answer). a .number) (s .0) in omega arith
 
 refused-place : ReduceCall chart (take 13 flat) short short (refusal 1 2 14 0) → ⊥
-unfolding pick only orRemark fieldAt firstField onField scan headFault stepFault readChart nodeFault nodeFaultAfter padding readDiagram readFiles
+unfolding pick only orRemark fieldAt firstField onField scan headFault stepFault groupFault stepKind readChart nodeFault nodeFaultAfter padding readDiagram groupCount readFiles
 refused-place s = let e = ap (λ (a : Answer). a .place) (s .0) in omega arith
 
 refused-mark : ReduceCall chart (take 13 flat) short short (refusal 1 3 5 0) → ⊥
-unfolding pick only orRemark fieldAt firstField onField scan headFault stepFault readChart nodeFault nodeFaultAfter padding readDiagram readFiles
+unfolding pick only orRemark fieldAt firstField onField scan headFault stepFault groupFault stepKind readChart nodeFault nodeFaultAfter padding readDiagram groupCount readFiles
 refused-mark s = let e = ap (λ (a : Answer). a .file) (s .0) in omega arith
 
 refused-count : ReduceCall chart (take 13 flat) short short (refusal 1 2 5 1) → ⊥
-unfolding pick only orRemark fieldAt firstField onField scan headFault stepFault readChart nodeFault nodeFaultAfter padding readDiagram readFiles
+unfolding pick only orRemark fieldAt firstField onField scan headFault stepFault groupFault stepKind readChart nodeFault nodeFaultAfter padding readDiagram groupCount readFiles
 refused-count s = let e = ap (λ (a : Answer). a .count) (s .0) in omega arith

@@ -7,7 +7,7 @@ use mathlib.Core.List.{List, map}
 use mathlib.Core.Option.{Option, none, some}
 use lib.Dec.{eqb}
 use lib.ListN.{length, getD}
-use Rattle.definitions.specs.Basics.{smaller, larger, sumOf, has}
+use Rattle.definitions.specs.Basics.{smaller, larger, sumOf, keep, upto, least, has}
 use Rattle.definitions.specs.Charts.{Chart, noStep}
 use Rattle.definitions.specs.Diagrams.{Diagram, size, descend, advance, finish, verdict}
 use Rattle.definitions.specs.Ways.{Graph, IsWay, isWay, endOf, leastWay}
@@ -23,15 +23,20 @@ graph c = record {
   from = λ e. getD (c .steps) e noStep .from;
   to = λ e. getD (c .steps) e noStep .to;
   cost = λ e. getD (c .steps) e noStep .cost;
+  group = λ e. getD (c .steps) e noStep .group;
 }
 
--- the diagram's variable that a step sets: the step itself
+-- the diagram's variable that a step sets: its group
 unfoldable pub variable : Chart → ℕ → ℕ
-variable c e = e
+variable c e = graph c .group e
 
--- what it costs to set a variable, or none where no step sets it: the cost of its step
+-- the steps that set a variable
+abbrev pub stepsOf : Chart → ℕ → List ℕ
+stepsOf c k = keep (λ e. eqb (variable c e) k) (upto (graph c .count))
+
+-- what it costs to set a variable: the smallest cost among the steps of the group, none where it has no step
 unfoldable pub variableCost : Chart → ℕ → Option ℕ
-variableCost c k = some (graph c .cost k)
+variableCost c k = least (map (graph c .cost) (stepsOf c k))
 
 -- the diagram as the automaton that reads the steps of a way
 abbrev pub automaton : Chart → Diagram → Automaton
@@ -42,7 +47,7 @@ automaton c d = record {
   accepts = λ n. eqb (finish d n) 1;
 }
 
--- the diagram says yes to the set of a way's steps, all other steps being absent
+-- the diagram says yes to the set of the groups of a way's steps, all other groups being absent: a group is present if at least one of its steps is taken
 unfoldable pub saysYes : Chart → Diagram → List ℕ → Bool
 saysYes c d w = eqb (verdict d (has (map (variable c) w)) (d .root)) 1
 
@@ -74,7 +79,7 @@ abbrev pub leafEstimate : ℕ → Option ℕ
 leafEstimate zero = none
 leafEstimate (suc n) = some 0
 
--- and at an inner node the smaller of that at lo and that at hi plus the step's cost
+-- and at an inner node the smaller of that at lo and that at hi plus the group's cost; a group without steps has none, so that its hi is ignored
 unfoldable pub diagramEstimate : Chart → Diagram → ℕ → Option ℕ
 diagramEstimate c d n = descend d leafEstimate (λ n x lo hi. smaller lo (sumOf (variableCost c (x .step)) hi)) n
 

@@ -11,7 +11,7 @@ use lib.Seq.{length-take-le, take-all}
 use borrow.Author.Tests.{lt-leb, le-leb}
 use Rattle.definitions.specs.Basics.{pick, each}
 use Rattle.definitions.specs.Fields.{Kind, passedOver, only, orRemark, fieldAt, longest, firstField, onField, scan}
-use Rattle.definitions.specs.Charts.{headFault, stepFault, chartRefused, readChart}
+use Rattle.definitions.specs.Charts.{headFault, stepFault, chartRefused, readChart, groupCount, groupFault, stepKind}
 use Rattle.definitions.specs.Diagrams.{nodeFault, strict, padding, nodeFaultAfter, diagramRefused, readDiagram}
 use Rattle.definitions.specs.Bytes.{headBytes, field, stepBytes, rootBytes, nodeBytes, chartBytes, diagramBytes}
 use Rattle.definitions.specs.Answers.{refused, readFiles, load}
@@ -31,7 +31,7 @@ rulesNoted = rootBytes (rules .root) ++ noted (map nodeBytes (rules .nodes))
 
 -- the same chart and the same diagram: no step and no node has another number
 pub chart-noted : readChart chartNoted ≡ record { number = 0; place = 0; chart = chart }
-unfolding pick only orRemark fieldAt firstField onField scan headFault stepFault readChart
+unfolding pick only orRemark fieldAt firstField onField scan headFault stepFault groupFault stepKind readChart
 chart-noted = refl
 
 pub rules-noted : readDiagram strict rulesNoted 6 ≡ record { number = 0; place = 0; diagram = rules }
@@ -80,7 +80,7 @@ remarks =
     ∷ []
 
 pub remarks-hold : map (λ x. x .0) remarks ≡ map (λ x. x .1) remarks
-unfolding remarks pick only orRemark fieldAt firstField onField scan headFault stepFault nodeFault nodeFaultAfter padding readChart readDiagram readFiles load
+unfolding remarks pick only orRemark fieldAt firstField onField scan headFault stepFault groupFault stepKind nodeFault nodeFaultAfter padding readChart readDiagram groupCount readFiles load
 remarks-hold = refl
 
 -- mistakes: a remark before the head let through, a step number taken, tag 7F let through, a cut body let through, a remark's length judged
@@ -94,7 +94,7 @@ remarkMistakes =
     ∷ []
 
 pub remark-mistakes-refuted : map (λ x. alike (x .0) (x .1)) remarkMistakes ≡ map (λ x. false) remarkMistakes
-unfolding remarkMistakes pick only orRemark fieldAt firstField onField scan headFault stepFault nodeFault nodeFaultAfter padding readChart readDiagram readFiles load
+unfolding remarkMistakes pick only orRemark fieldAt firstField onField scan headFault stepFault groupFault stepKind nodeFault nodeFaultAfter padding readChart readDiagram groupCount readFiles load
 remark-mistakes-refuted = refl
 
 -- after a head every tag from 128 on is passed over, and no other for that reason
@@ -131,16 +131,16 @@ module _ (s : List ℕ) (long : longest < length s) where
 
   -- the chart's length is judged before its fields, and before the diagram
   pub long-chart : (mode : Bool) (rules : List ℕ) → readFiles mode s rules ≡ refused 9 1 longest
-  unfolding readFiles pick
+  unfolding groupCount readFiles pick
   long-chart mode rules = rw long-chart-read
 
   -- the diagram's before its fields, and after the chart's fields
   pub long-rules : (mode : Bool) → readFiles mode (chartBytes values) s ≡ refused 9 2 longest
-  unfolding readFiles pick
+  unfolding groupCount readFiles pick
   long-rules mode = rw (whole-chart, long-rules-read mode 6)
 
   pub long-rules-later : (mode : Bool) → readFiles mode (9 ∷ []) s ≡ refused 1 1 0
-  unfolding pick only orRemark fieldAt firstField onField readChart readFiles
+  unfolding pick only orRemark fieldAt firstField onField readChart groupCount readFiles
   long-rules-later mode = refl
 
 -- 32,768 bytes are not too long
@@ -166,4 +166,4 @@ cut-rules mode s steps =
 
 pub cut-files : (mode : Bool) (chart rules : List ℕ) → readFiles mode (take (longest + 1) chart) (take (longest + 1) rules) ≡ readFiles mode chart rules
 unfolding readFiles
-cut-files mode chart rules = rw (cut-chart chart, cut-rules mode rules (length (readChart chart .chart .steps)))
+cut-files mode chart rules = rw (cut-chart chart, cut-rules mode rules (groupCount (readChart chart .chart)))

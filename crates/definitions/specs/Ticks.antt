@@ -9,7 +9,7 @@ use native.Mathlib.Omega.{arith}
 use lib.Dec.{eqb}
 use Rattle.definitions.specs.Basics.{pick, smaller, sumOf}
 use Rattle.definitions.specs.Fields.{only, orRemark, fieldAt, firstField, onField, scan, fieldBytes, refusedField}
-use Rattle.definitions.specs.Charts.{Chart, ChartStep, rounded, stepOf, headFault, stepFault, readChart}
+use Rattle.definitions.specs.Charts.{Chart, ChartStep, plain, rounded, stepOf, headFault, stepFault, groupFault, stepKind, readChart}
 use Rattle.definitions.specs.Diagrams.{Diagram, descend, descendIn, verdict}
 use Rattle.definitions.specs.Bytes.{bodyOfStep, chartBytes}
 use Rattle.definitions.specs.Ways.{waysIn, ways, leastWay}
@@ -25,7 +25,7 @@ ticks =
     ∷ (255, 300) ∷ (256, 300) ∷ (65535, 65550) ∷ (65536, 65550) ∷ (999949, 999950) ∷ (999950, 999950) ∷ (999951, 1000000) ∷ (999999, 1000000) ∷ (1000000, 1000000) ∷ []
 
 abbrev costRead : ℕ → ℕ
-costRead value = stepOf (bodyOfStep (st 3 4 value)) .cost
+costRead value = stepOf plain 0 (bodyOfStep (st 3 4 value)) .cost
 
 pub ticks-hold : map (λ x. costRead (x .0)) ticks ≡ map (λ x. x .1) ticks
 unfolding ticks
@@ -61,7 +61,7 @@ limits =
     ∷ []
 
 pub limits-hold : limits ≡ (0 ∷ 0 ∷ []) ∷ (11 ∷ 9 ∷ []) ∷ (11 ∷ 20 ∷ []) ∷ (11 ∷ 9 ∷ []) ∷ (2 ∷ 8 ∷ 0 ∷ 0 ∷ 0 ∷ 1 ∷ 0 ∷ 65 ∷ 66 ∷ 15 ∷ 0 ∷ []) ∷ []
-unfolding limits pick only orRemark fieldAt firstField onField scan headFault stepFault readChart fieldBytes refusedField
+unfolding limits pick only orRemark fieldAt firstField onField scan headFault stepFault groupFault stepKind readChart fieldBytes refusedField
 limits-hold = refl
 
 -- Three short steps or a long one. By their values the short ones are cheaper, 30 against 90; each takes a tick, so they cost 150 against 100
@@ -72,7 +72,7 @@ abbrev costOf : ChartStep → ℕ
 costOf x = x .cost
 
 pub costs-hold : map costOf (detour .steps) ≡ 50 ∷ 100 ∷ 50 ∷ 50 ∷ []
-unfolding pick only orRemark fieldAt firstField onField scan headFault stepFault readChart
+unfolding pick only orRemark fieldAt firstField onField scan headFault stepFault groupFault stepKind readChart
 costs-hold = refl
 
 -- the rule: the long step is not taken
@@ -86,5 +86,5 @@ sums =
     ∷ diagramEstimate detour (rooted 2 (nd 2 0 1 ∷ [])) 2 ∷ []
 
 pub sums-hold : sums ≡ some 100 ∷ some 150 ∷ some 100 ∷ some 100 ∷ some 50 ∷ some 50 ∷ []
-unfolding sums pick only orRemark fieldAt firstField onField scan headFault stepFault readChart smaller sumOf descend descendIn verdict waysIn ways leastWay toEnd variable variableCost saysYes cheapest chartEstimate diagramEstimate
+unfolding sums pick only orRemark fieldAt firstField onField scan headFault stepFault groupFault stepKind readChart smaller sumOf descend descendIn verdict waysIn ways leastWay toEnd variable variableCost saysYes cheapest chartEstimate diagramEstimate
 sums-hold = refl

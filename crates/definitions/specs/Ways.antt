@@ -8,7 +8,7 @@ use mathlib.Core.Option.{Option}
 use lib.Dec.{ltb, eqb}
 use Rattle.definitions.specs.Basics.{keep, each, upto, least}
 
--- What the searches need of a chart (a weighted acyclic graph): `count` steps, numbered from 0, each at a cost from C
+-- What the searches need of a chart (a weighted acyclic graph): `count` steps, numbered from 0, each at a cost from C and of a group
 pub record GraphOf (C : Type 0) : Type 0 where
   pub stages : ℕ
   pub start : ℕ
@@ -17,6 +17,7 @@ pub record GraphOf (C : Type 0) : Type 0 where
   pub from : ℕ → ℕ
   pub to : ℕ → ℕ
   pub cost : ℕ → C
+  pub group : ℕ → ℕ
 
 abbrev pub Graph : Type 0
 Graph = GraphOf ℕ

@@ -6,6 +6,9 @@ pub struct Stage(pub u16);
 // A step of the chart (an edge), numbered from 0 in file order.
 pub struct Step(pub u16);
 
+// A group of steps that mean the same: what a node of the rule diagram asks for.
+pub struct Group(pub u16);
+
 // A node of the rule diagram: 0 is "no", 1 is "yes", the inner nodes are 2, 3, 4 .. in file order.
 pub struct Node(pub u16);
 

@@ -11,7 +11,7 @@ use lib.Dec.{eqb}
 use lib.ListN.{length}
 use borrow.Author.Tests.{eqb-true, eq-eqb}
 use Rattle.definitions.specs.Basics.{smaller, larger, sumOf}
-use Rattle.definitions.specs.Charts.{Chart}
+use Rattle.definitions.specs.Charts.{Chart, groupCount}
 use Rattle.definitions.specs.Diagrams.{Diagram, size, inner, advance, finish}
 use Rattle.definitions.specs.Ways.{Graph, IsWay, endOf, wayCost}
 use Rattle.definitions.specs.Pairs.{Automaton, stands, goal, toEnd, Estimate}
@@ -145,7 +145,7 @@ module _ (c : Chart) (d : Diagram) (o : Ordered d) where
 
 -- ---- bounds
 
-module _ (c : Chart) (d : Diagram) (v : Valid (graph c)) (small : Small c) (s : Sound (length (c .steps)) d) where
+module _ (c : Chart) (d : Diagram) (v : Valid (graph c)) (small : Small c) (s : Sound (groupCount c) d) where
   -- each inner node below adds at most one step's cost
   abbrev Bounded : ℕ → Type 0
   Bounded n = n < size d → (m : ℕ) → diagramEstimate c d n ≡ some m → m + 1000000 ≤ n * 1000000
@@ -170,7 +170,7 @@ module _ (c : Chart) (d : Diagram) (v : Valid (graph c)) (small : Small c) (s : 
           go b t (inl q) = omega (arith, l (omega arith) m q)
           go b t (inr q) =
               let x = sumOf-parts _ _ m q in
-              omega (arith, r (omega arith) (x .1) (x .3), variableCost-cheap c small (inner d n .step) (x .0) (s .exist n h i) (x .2), x .4)
+              omega (arith, r (omega arith) (x .1) (x .3), variableCost-cheap c (inner d n .step) small (x .0) (x .2), x .4)
 
   pub diagram-bounded : (n m : ℕ) → n < size d → diagramEstimate c d n ≡ some m → m ≤ 510000000
   diagram-bounded n m h e = omega (arith, by-depth n h m e, s .few)

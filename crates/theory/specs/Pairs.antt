@@ -12,7 +12,7 @@ use lib.Dec.{eqb}
 use lib.ListN.{length}
 use borrow.Author.Tests.{eqb-true, eq-eqb, ne-eqb}
 use Rattle.definitions.specs.Basics.{isSome, sumOf, upto}
-use Rattle.definitions.specs.Charts.{Chart}
+use Rattle.definitions.specs.Charts.{Chart, groupCount}
 use Rattle.definitions.specs.Diagrams.{Diagram, finish}
 use Rattle.definitions.specs.Ways.{Graph, IsWay, endOf, wayCost, leastWay}
 use Rattle.definitions.specs.Pairs.{Automaton, stands, leastCost, reached, goal, pair, stageOf, nodeOf, pairs, reachedPairs, Estimate, sum}
@@ -32,7 +32,7 @@ pub record Lawful (g : Graph) (a : Automaton) : Type 0 where
   pub dead : a .accepts 0 ≡ false
 
 -- every sound diagram gives such an automaton
-pub lawful : (c : Chart) (d : Diagram) → Sound (length (c .steps)) d → Lawful (graph c) (automaton c d)
+pub lawful : (c : Chart) (d : Diagram) → Sound (groupCount c) d → Lawful (graph c) (automaton c d)
 lawful c d s = record {
   root-inside = s .root-inside;
   next-inside = λ e n h i. omega (arith, advance-le d (s .ordered) (variable c e) n);

@@ -23,14 +23,14 @@ use Rattle.theory.specs.Pairs.{WayTo, cost-attained, cost-lower, way-rea
 
 -- ---- the variables of a way
 
-rising-sorted : (c : Chart) (w : List ℕ) (s k j : ℕ) → IsWay (graph c) s w → Rising k w
+rising-sorted : (c : Chart) → Valid (graph c) → (w : List ℕ) (s k j : ℕ) → IsWay (graph c) s w → Rising k w
     → ((e : ℕ) → k ≤ e → e < graph c .count → j ≤ variable c e) → Sorted j (map (variable c) w)
-rising-sorted c [] s k j i r h = tt
-rising-sorted c (e ∷ w) s k j i r h =
-    (h e (r .0) (i .0), rising-sorted c w (graph c .to e) (suc e) (variable c e) (i .2) (r .1) (λ f l i. variable-rises c e f (omega arith) i))
+rising-sorted c v [] s k j i r h = tt
+rising-sorted c v (e ∷ w) s k j i r h =
+    (h e (r .0) (i .0), rising-sorted c v w (graph c .to e) (suc e) (variable c e) (i .2) (r .1) (λ f l i. variable-rises c v e f (omega arith) i))
 
 pub variables-sorted : (c : Chart) → Valid (graph c) → (w : List ℕ) (s : ℕ) → IsWay (graph c) s w → Sorted 0 (map (variable c) w)
-variables-sorted c v w s i = rising-sorted c w s 0 0 i (way-rising (graph c) v w s i) (λ e l i. omega arith)
+variables-sorted c v w s i = rising-sorted c v w s 0 0 i (way-rising (graph c) v w s i) (λ e l i. omega arith)
 
 -- a way stands where the list of its variables stands
 pub stands-variables : (c : Chart) (d : Diagram) (w : List ℕ) (n : ℕ) → stands (automaton c d) n w ≡ advanceAll d n (map (variable c) w)

@@ -1,6 +1,6 @@
 -- `chart_fields::step_fault` meets its contract.
+use Rattle.chart_fields.proofs.Values.{long-named, step-laws}
 use borrow.Author.Needs.{needs}
-use Rattle.chart_fields.proofs.Values.{step-laws}
 use Rattle.chart_fields.proofs.bodies.step_fault.Statement.{statement}
 use Rattle.chart_fields.proofs.bodies.step_fault.Tie as tie
 
@@ -28,8 +28,14 @@ returns-4 c = search step-laws
 returns-5 : tie.Need-returns-5
 returns-5 c = search step-laws
 
+group-fault-requires : tie.Need-group-fault-requires
+group-fault-requires c κs = search (long-named, needs)
+
 returns-6 : tie.Need-returns-6
 returns-6 c = search step-laws
+
+returns-7 : tie.Need-returns-7
+returns-7 c = search step-laws
 
 pub step-fault-spec : {M : Type 1} → statement M
 step-fault-spec =
@@ -43,4 +49,6 @@ step-fault-spec =
     returns-3
     returns-4
     returns-5
-    returns-6)
+    group-fault-requires
+    returns-6
+    returns-7)
