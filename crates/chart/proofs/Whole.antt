@@ -1,21 +1,58 @@
--- The whole chart: one law for each way out of `read_chart`, for its answer and for what the tables hold.
+-- The whole chart: one law for each way out of `read_chart`, for its answer and for what the tables hold, and of what it calls.
 -- Assumes nothing.
-use Prim.Native.Nat.{ℕ}
-use mathlib.Core.Path.{_≡_}
+use Prim.Native.Nat.{ℕ, _+_, _≤_}
+use mathlib.Core.Path.{_≡_, refl, sym, _∙_, ap}
 use mathlib.Core.List.{List}
+use lib.ListN.{length, getD, List·getD-eq-default}
 use borrow.Author.Tests.{eq-eqb, ne-eqb}
 use Rattle.definitions.specs.Basics.{pick}
-use Rattle.definitions.specs.Fields.{part, only, firstField, onField}
-use Rattle.definitions.specs.Charts.{headFault, chartRefused, withSteps, scanSteps, readChart}
+use Rattle.definitions.specs.Fields.{two, part, only, firstField, onField}
+use Rattle.definitions.specs.Charts.{groupCount, headFault, chartRefused, withSteps, scanSteps, readChart}
 use Rattle.definitions.specs.declared.Field.{Field}
 use Rattle.definitions.specs.declared.Field.the-variants.{Absent, Faulty, Passed, Whole}
 use Rattle.chart_fields.specs.Bodies.{headBody}
 use Rattle.chart_fields.specs.declared.bodies.HeadBody.{HeadBody}
+use Rattle.chart.specs.Accepted.{groups-scanned}
 use Rattle.chart.specs.Held.{nothing-filled}
+use Rattle.chart.specs.Kinds.{kindAt, groupsTo}
+use Rattle.chart.specs.Limits.{head-fits}
 use Rattle.chart.specs.Tables.{Room, Filled, chartAnswer}
 use Rattle.chart.specs.Turns.{Over}
 use Rattle.chart.specs.declared.reader.ChartRead.{ChartRead}
 use Rattle.chart.specs.declared.reader.StepsRead.{StepsRead}
+
+-- where no head passed
+pub chart-none : (k p : ℕ) → record { number = k; place = p; stages = 0; start = 0; end = 0; steps = 0; groups = 0 } ≡ chartAnswer (chartRefused k p)
+unfolding groupCount
+chart-none k p = refl
+
+-- how many groups
+pub groups-none : (n g : ℕ) → n ≡ 0 → 0 ≡ groupsTo n g
+unfolding groupsTo pick
+groups-none n g h = rw h
+
+pub groups-some : (n g : ℕ) → (n ≡ 0 → ⊥) → g + 1 ≡ groupsTo n g
+unfolding groupsTo pick
+groups-some n g h = rw (ne-eqb n 0 h)
+
+pub ruleset groups-laws = (groups-none, groups-some)
+
+-- the kind that may stand at a place
+module _ (s : List ℕ) (at : ℕ) where
+  pub kind-past : length s ≤ at → 2 ≡ kindAt s at
+  unfolding kindAt pick
+  kind-past h = rw (List·getD-eq-default s 0 {n = at} h)
+
+  module _ (x : ℕ) (ex : x ≡ getD s at 0) where
+    pub kind-grouped : x ≡ 3 → 3 ≡ kindAt s at
+    unfolding kindAt pick
+    kind-grouped q = rw (← ex, q)
+
+    pub kind-plain : (x ≡ 3 → ⊥) → 2 ≡ kindAt s at
+    unfolding kindAt pick
+    kind-plain q = rw (← ex, ne-eqb x 3 q)
+
+pub ruleset kind-laws = (kind-past, kind-grouped, kind-plain)
 
 -- no step passed, and the tables stay
 untouched : (s : List ℕ) (k p : ℕ) (packed : List (List ℕ)) → readChart s ≡ chartRefused k p → Room packed → Filled (readChart s .chart .steps) packed packed
@@ -74,11 +111,16 @@ module _ (s : List ℕ) (r : Field) (given : r ≡ firstField s (only 1 6)) wher
         good = rw (← given, found, ← judged, eq-eqb v 0 passes, read)
 
         module _ (y : StepsRead) (packed packed′ : List (List ℕ)) (over : Over s e (h .stages) packed packed′ y) where
-          pub chart-good : record { number = y .number; place = y .place; stages = h .stages; start = h .start; end = h .end; steps = y .steps } ≡ chartAnswer (readChart s)
-          chart-good = rw (good, over .answer, read)
+          -- the last step's group is the highest
+          groups-are : (n : ℕ) → n ≡ groupsTo (y .steps) (y .group) → n ≡ groupCount (readChart s .chart)
+          groups-are n q = q ∙ ap (λ (z : StepsRead). groupsTo (z .steps) (z .group)) (over .answer) ∙ rw good (rw read (groups-scanned s (two (part s a e) 0) (two (part s a e) 2) (two (part s a e) 4) e))
+
+          pub chart-good : (n : ℕ) → n ≡ groupsTo (y .steps) (y .group)
+              → record { number = y .number; place = y .place; stages = h .stages; start = h .start; end = h .end; steps = y .steps; groups = n } ≡ chartAnswer (readChart s)
+          chart-good n q = rw (groups-are n q, good, over .answer, read)
 
           pub chart-good-filled : Room packed → Filled (readChart s .chart .steps) packed packed′
-          chart-good-filled = rw good (over .filled)
+          chart-good-filled = rw good (over .filled (rw read (head-fits (part s a e) (sym passes ∙ judged) .few-stages)))
 
 pub ruleset chart-laws = (
   chart-empty,

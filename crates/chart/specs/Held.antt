@@ -7,9 +7,8 @@ use lib.ListN.{length, getD, set, drop, length-set}
 use lib.Seq.{getD-set-same, getD-set-other}
 use native.Mathlib.Omega.{arith}
 use Rattle.definitions.specs.Charts.{ChartStep, noStep}
-use Rattle.theory.specs.Packing.{first-packed, second-packed}
 use Rattle.theory.specs.Basics.{length-map-run, getD-map-upto, upto-grown, rest-kept}
-use Rattle.chart_fields.specs.Ends.{endsOf, fromOf, toOf, froms, tos, froms-at, tos-at}
+use Rattle.chart_fields.specs.Ends.{endsOf, fromOf, toOf, tagOf, groupOf, froms, tos, tags, groups, froms-at, tos-at, tags-at, groups-at, from-packed, to-packed, tag-packed, group-packed}
 use Rattle.chart.specs.Tables.{endsIn, costsIn, Steps, stepsIn, heldStep, heldSteps, Room, Filled}
 
 module _ (count : ℕ) (t : Steps) where
@@ -29,6 +28,12 @@ module _ (count : ℕ) (t : Steps) where
 
   pub held-cost : (e : ℕ) → e < count → getD (heldSteps count t) e noStep .cost ≡ getD (t .cost) e 0
   held-cost e h = ap (λ (x : ChartStep). x .cost) (held-step e h)
+
+  pub held-group : (e : ℕ) → e < count → getD (heldSteps count t) e noStep .group ≡ getD (t .group) e 0
+  held-group e h = ap (λ (x : ChartStep). x .group) (held-step e h)
+
+  pub held-tag : (e : ℕ) → e < count → getD (heldSteps count t) e noStep .tag ≡ getD (t .tag) e 0
+  held-tag e h = ap (λ (x : ChartStep). x .tag) (held-step e h)
 
 -- the table with one more entry in each column
 abbrev pub stored : List (List ℕ) → ℕ → ℕ → ℕ → List (List ℕ)
@@ -50,9 +55,15 @@ stored-costs (a ∷ b ∷ r) e ends cost h = refl
 stored-columns : (packed : List (List ℕ)) (e ends cost : ℕ) → length (stored packed e ends cost) ≡ length packed
 stored-columns packed e ends cost = simp length-set
 
--- step x stored: its stages in one number, and its cost
-module _ (count : ℕ) (packed : List (List ℕ)) (x : ChartStep) (ends : ℕ) (packs : ends ≡ endsOf (x .from) (x .to)) (small : x .from < 65536) (room : Room packed)
-    (below : count < 1024) where
+-- what a step is packed with is taken out again
+pub record Packs (x : ChartStep) (ends : ℕ) : Type 0 where
+  pub packs : ends ≡ endsOf (x .tag) (x .group) (x .from) (x .to)
+  pub low-from : x .from < 256
+  pub low-to : x .to < 256
+  pub low-tag : x .tag < 4
+
+-- step x stored: its kind, group and stages in one number, and its cost
+module _ (count : ℕ) (packed : List (List ℕ)) (x : ChartStep) (ends : ℕ) (p : Packs x ends) (room : Room packed) (below : count < 1024) where
   abbrev after : List (List ℕ)
   after = stored packed count ends (x .cost)
 
@@ -82,7 +93,19 @@ module _ (count : ℕ) (packed : List (List ℕ)) (x : ChartStep) (ends : ℕ) (
   costs-before e h = ap (λ (l : List ℕ). getD l e 0) new-costs ∙ getD-set-other (costsIn packed) count e (x .cost) 0 (omega arith)
 
   stored-before : (e : ℕ) → e < count → heldStep t′ e ≡ heldStep t e
-  stored-before e h = rw (froms-at (endsIn after) e, tos-at (endsIn after) e, ends-before e h, ← (froms-at (endsIn packed) e), ← (tos-at (endsIn packed) e), costs-before e h)
+  stored-before e h =
+      rw (
+        froms-at (endsIn after) e,
+        tos-at (endsIn after) e,
+        tags-at (endsIn after) e,
+        groups-at (endsIn after) e,
+        ends-before e h,
+        ← (froms-at (endsIn packed) e),
+        ← (tos-at (endsIn packed) e),
+        ← (tags-at (endsIn packed) e),
+        ← (groups-at (endsIn packed) e),
+        costs-before e h,
+      )
 
   ends-here : getD (endsIn after) count 0 ≡ ends
   ends-here = ap (λ (l : List ℕ). getD l count 0) new-ends ∙ getD-set-same (endsIn packed) count ends 0 (omega (arith, room))
@@ -91,13 +114,19 @@ module _ (count : ℕ) (packed : List (List ℕ)) (x : ChartStep) (ends : ℕ) (
   costs-here = ap (λ (l : List ℕ). getD l count 0) new-costs ∙ getD-set-same (costsIn packed) count (x .cost) 0 (omega (arith, room))
 
   from-here : getD (froms (endsIn after)) count 0 ≡ x .from
-  from-here = froms-at (endsIn after) count ∙ ap fromOf ends-here ∙ second-packed 65536 (x .to) (x .from) ends packs small
+  from-here = froms-at (endsIn after) count ∙ ap fromOf ends-here ∙ from-packed (x .tag) (x .group) (x .from) (x .to) ends (p .packs) (p .low-from)
 
   to-here : getD (tos (endsIn after)) count 0 ≡ x .to
-  to-here = tos-at (endsIn after) count ∙ ap toOf ends-here ∙ first-packed 65536 (x .to) (x .from) ends packs small
+  to-here = tos-at (endsIn after) count ∙ ap toOf ends-here ∙ to-packed (x .tag) (x .group) (x .from) (x .to) ends (p .packs) (p .low-from) (p .low-to)
+
+  tag-here : getD (tags (endsIn after)) count 0 ≡ x .tag
+  tag-here = tags-at (endsIn after) count ∙ ap tagOf ends-here ∙ tag-packed (x .tag) (x .group) (x .from) (x .to) ends (p .packs) (p .low-from) (p .low-to) (p .low-tag)
+
+  group-here : getD (groups (endsIn after)) count 0 ≡ x .group
+  group-here = groups-at (endsIn after) count ∙ ap groupOf ends-here ∙ group-packed (x .tag) (x .group) (x .from) (x .to) ends (p .packs) (p .low-from) (p .low-to) (p .low-tag)
 
   stored-here : heldStep t′ count ≡ x
-  stored-here = rw (from-here, to-here, costs-here)
+  stored-here = rw (tag-here, from-here, to-here, costs-here, group-here)
 
   pub held-grown : heldSteps (count + 1) t′ ≡ heldSteps count t ++ x ∷ []
   unfolding heldSteps

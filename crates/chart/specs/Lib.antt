@@ -1,4 +1,5 @@
 pub mod Tables
+pub mod Kinds
 pub mod Held
 pub mod Limits
 pub mod Accepted

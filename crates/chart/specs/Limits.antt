@@ -1,14 +1,15 @@
 -- What holds of a head and of a step that pass, and so of every chart that is read: the limits of the chart file.
 -- Assumes nothing.
 use Prim.Native.Nat.{ℕ, _≤_, _<_}
-use mathlib.Core.Path.{_≡_}
+use mathlib.Core.Path.{_≡_, _∙_}
 use mathlib.Core.Bool.{not}
 use mathlib.Core.List.{List}
 use lib.Dec.{leb, ltb, eqb}
 use native.Mathlib.Omega.{arith}
-use borrow.Author.Tests.{leb-true, leb-false, ltb-false, eqb-false, not-false}
+use borrow.Author.Tests.{leb-true, leb-false, ltb-false, eqb-false, eq-eqb, not-false}
 use Rattle.definitions.specs.Fields.{two, four}
-use Rattle.definitions.specs.Charts.{headFault, stepFault}
+use Rattle.definitions.specs.Charts.{grouped, headFault, groupFault, stepFault}
+use Rattle.theory.specs.Basics.{pick-true}
 use Rattle.theory.specs.Choices.{past}
 
 pub record HeadFits (b : List ℕ) : Type 0 where
@@ -31,16 +32,29 @@ head-fits b p =
       end-inside = leb-false (two b 0) (two b 4) (p4 .0);
     }
 
-pub record StepFits (stages last count : ℕ) (b : List ℕ) : Type 0 where
+-- of a group that a step names
+pub record GroupFits (group : ℕ) (b : List ℕ) : Type 0 where
+  pub few : two b 8 ≤ 1023
+  pub rises : group ≤ two b 8
+
+group-fits : (group : ℕ) (b : List ℕ) → 0 ≡ groupFault group b → GroupFits group b
+unfolding groupFault
+group-fits group b p =
+    let p1 = past (not (leb (two b 8) 1023)) (λ q. omega arith) p in
+    let p2 = past (ltb (two b 8) group) (λ q. omega arith) (p1 .1) in
+    record { few = leb-true (two b 8) 1023 (not-false _ (p1 .0)); rises = ltb-false (two b 8) group (p2 .0) }
+
+pub record StepFits (stages tag last group count : ℕ) (b : List ℕ) : Type 0 where
   pub below : count < 1024
   pub forward : two b 0 < two b 2
   pub inside : two b 2 < stages
   pub sorted : last ≤ two b 0
   pub cheap : four b 4 ≤ 1000000
+  pub named : tag ≡ grouped → GroupFits group b
 
-pub step-fits : (stages last count : ℕ) (b : List ℕ) → 0 ≡ stepFault stages last count b → StepFits stages last count b
+pub step-fits : (stages tag last group count : ℕ) (b : List ℕ) → 0 ≡ stepFault stages tag last group count b → StepFits stages tag last group count b
 unfolding stepFault
-step-fits stages last count b p =
+step-fits stages tag last group count b p =
     let p1 = past (leb 1024 count) (λ q. omega arith) p in
     let p2 = past (leb (two b 2) (two b 0)) (λ q. omega arith) (p1 .1) in
     let p3 = past (leb stages (two b 2)) (λ q. omega arith) (p2 .1) in
@@ -52,4 +66,5 @@ step-fits stages last count b p =
       inside = leb-false stages (two b 2) (p3 .0);
       sorted = ltb-false (two b 0) last (p4 .0);
       cheap = leb-true (four b 4) 1000000 (not-false _ (p5 .0));
+      named = λ q. group-fits group b (p5 .1 ∙ pick-true _ _ _ (eq-eqb tag grouped q));
     }

@@ -1,4 +1,4 @@
--- The chart that stands in a table: by step the two stages in one number, and the cost, a column for each.
+-- The chart that stands in a table: by step the kind, the group and the two stages in one number, and the cost, a column for each.
 -- Assumes nothing.
 use Prim.Native.Nat.{ℕ}
 use mathlib.Core.Path.{_≡_}
@@ -7,10 +7,10 @@ use mathlib.Core.List.{List, [], map}
 use lib.ListN.{length, getD, drop}
 use Rattle.definitions.specs.Basics.{upto}
 use Rattle.definitions.specs.Fields.{Scan}
-use Rattle.definitions.specs.Charts.{ChartStep, Chart}
+use Rattle.definitions.specs.Charts.{ChartStep, Chart, groupCount, lastGroup}
 use Rattle.definitions.specs.Charts as charts
 use Rattle.definitions.specs.declared.Shape.{Shape}
-use Rattle.chart_fields.specs.Ends.{froms, tos}
+use Rattle.chart_fields.specs.Ends.{froms, tos, tags, groups}
 use Rattle.chart.specs.declared.reader.StepsRead.{StepsRead}
 use Rattle.chart.specs.declared.reader.ChartRead.{ChartRead}
 
@@ -21,18 +21,20 @@ endsIn packed = getD packed 0 []
 abbrev pub costsIn : List (List ℕ) → List ℕ
 costsIn packed = getD packed 1 []
 
--- the steps in it: where each leaves and leads to, and its cost
+-- the steps in it: the kind of each, where it leaves and leads to, its cost and its group
 pub record Steps : Type 0 where
+  pub tag : List ℕ
   pub from : List ℕ
   pub to : List ℕ
   pub cost : List ℕ
+  pub group : List ℕ
 
 abbrev pub stepsIn : List (List ℕ) → Steps
-stepsIn packed = record { from = froms (endsIn packed); to = tos (endsIn packed); cost = costsIn packed }
+stepsIn packed = record { tag = tags (endsIn packed); from = froms (endsIn packed); to = tos (endsIn packed); cost = costsIn packed; group = groups (endsIn packed) }
 
 -- the step of a number
 abbrev pub heldStep : Steps → ℕ → ChartStep
-heldStep t e = record { from = getD (t .from) e 0; to = getD (t .to) e 0; cost = getD (t .cost) e 0 }
+heldStep t e = record { tag = getD (t .tag) e 0; from = getD (t .from) e 0; to = getD (t .to) e 0; cost = getD (t .cost) e 0; group = getD (t .group) e 0 }
 
 -- the first `count` steps
 unfoldable pub heldSteps : ℕ → Steps → List ChartStep
@@ -58,7 +60,7 @@ pub record Filled (passed : List ChartStep) (packed packed′ : List (List ℕ))
 -- ---- the readers' answers, from what the definitions give
 
 abbrev pub stepsAnswer : Scan ChartStep → StepsRead
-stepsAnswer x = record { number = x .number; place = x .place; steps = length (x .passed); last = 0; going = false }
+stepsAnswer x = record { number = x .number; place = x .place; steps = length (x .passed); last = 0; group = lastGroup (x .passed); tag = 0; len = 0; going = false }
 
 abbrev pub chartAnswer : charts.ChartRead → ChartRead
 chartAnswer x = record {
@@ -68,4 +70,5 @@ chartAnswer x = record {
   start = x .chart .start;
   end = x .chart .end;
   steps = length (x .chart .steps);
+  groups = groupCount (x .chart);
 }

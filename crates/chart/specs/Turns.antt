@@ -1,31 +1,34 @@
 -- The walk over the steps of a chart file, turn by turn.
 -- Assumes nothing.
-use Prim.Native.Nat.{ℕ}
+use Prim.Native.Nat.{ℕ, _≤_}
 use mathlib.Core.Path.{_≡_}
 use mathlib.Core.List.{List}
 use lib.ListN.{length}
-use Rattle.definitions.specs.Charts.{ChartStep, lastFrom, stepGrammar, scanSteps}
+use Rattle.definitions.specs.Charts.{ChartStep, lastFrom, lastGroup, stepGrammar, scanSteps}
 use Rattle.fields.specs.Scans.{Reading}
 use Rattle.fields.specs.Turns.{Stands, Turn}
+use Rattle.chart.specs.Kinds.{KindAfter}
 use Rattle.chart.specs.Tables.{Room, Filled, stepsAnswer}
 use Rattle.chart.specs.declared.reader.StepsRead.{StepsRead}
 
--- what is read so far, and that the rest of the walk is still to come
-pub record SoFar (s : List ℕ) (first stages : ℕ) (packed₀ packed : List (List ℕ)) (at last count : ℕ) : Type 0 where
+-- what is read so far at r, and that the rest of the walk is still to come
+pub record SoFar (s : List ℕ) (first stages : ℕ) (packed₀ packed : List (List ℕ)) (r : StepsRead) : Type 0 where
   pub before : List ChartStep
-  pub reading : Reading s (stepGrammar stages) first at before
-  pub counted : length before ≡ count
-  pub latest : lastFrom before ≡ last
-  pub filled : Room packed₀ → Filled before packed₀ packed
+  pub reading : Reading s (stepGrammar stages) first (r .place) before
+  pub counted : length before ≡ r .steps
+  pub latest : lastFrom before ≡ r .last
+  pub highest : lastGroup before ≡ r .group
+  pub kind : KindAfter before (r .tag) (r .len)
+  pub filled : stages ≤ 256 → Room packed₀ → Filled before packed₀ packed
 
 -- the walk is over: the answer, and what the table holds
 pub record Over (s : List ℕ) (first stages : ℕ) (packed₀ packed : List (List ℕ)) (r : StepsRead) : Type 0 where
   pub answer : r ≡ stepsAnswer (scanSteps s stages first)
-  pub filled : Room packed₀ → Filled (scanSteps s stages first .passed) packed₀ packed
+  pub filled : stages ≤ 256 → Room packed₀ → Filled (scanSteps s stages first .passed) packed₀ packed
 
 -- by its origin, the first place and the table then: what is read so far at r, and where the walk stands
 abbrev pub SoFarAt : List ℕ → ℕ → List (List ℕ) → StepsRead → ℕ × List (List ℕ) → Type 0
-SoFarAt s stages packed r o = SoFar s (o .0) stages (o .1) packed (r .place) (r .last) (r .steps)
+SoFarAt s stages packed r o = SoFar s (o .0) stages (o .1) packed r
 
 abbrev pub StandsAt : List ℕ → ℕ → List (List ℕ) → StepsRead → ℕ × List (List ℕ) → Type 0
 StandsAt s stages packed r o = Stands (r .going) (SoFarAt s stages packed r o) (Over s (o .0) stages (o .1) packed r)

@@ -52,7 +52,7 @@ pub fn head_of(b: &[u8]) -> HeadBody
 }
 
 // How long the body of a step is.
-pub fn step_length(tag: u8) -> usize
+pub fn step_length(tag: u8) -> u16
     ensures { λ r. ⌜ r ≡ stepLength tag ⌝ }
 {
     if tag == 3 {

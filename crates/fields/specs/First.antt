@@ -28,7 +28,7 @@ first-number s kind number place p = subst Numbered (sym p) (both Numbered (not 
 
 -- what a caller asks of the body that it was given
 module _ (s : List ℕ) (tag len p a e : ℕ) (r : Field) (given : r ≡ firstField s (only tag len)) (found : r ≡ Whole p a e) where
-  first-within : Within s 0 (only tag len) a e
+  first-within : Within s 0 (only tag len) p a e
   unfolding firstField
   first-within = within s 0 (only tag len) p a e (past (not (leb (length s) longest)) unlike-faulty (sym found ∙ given) .1)
 
@@ -36,12 +36,12 @@ module _ (s : List ℕ) (tag len p a e : ℕ) (r : Field) (given : r ≡ firstFi
   first-said = only-length tag len (getD s 0 0) (two s 1) (first-within .fits)
 
   pub first-order : a ≤ e
-  first-order = whole-order s 0 (only tag len) a e len first-within first-said
+  first-order = whole-order s 0 (only tag len) p a e len first-within first-said
 
   pub first-fits : e ≤ length s
   first-fits = first-within .inside
 
   pub first-length : length (part s a e) ≡ len
-  first-length = whole-length s 0 (only tag len) a e len first-within first-said
+  first-length = whole-length s 0 (only tag len) p a e len first-within first-said
 
 pub ruleset first-laws = (first-order, first-fits, first-length)

@@ -75,7 +75,8 @@ numbered s at kind =
     (both Numbered (isPassedOver (kind (getD s at 0))) tt tt)))))
 
 -- a body stands inside the file, right after its header, with a length that its kind may have
-pub record Within (s : List ℕ) (at : ℕ) (kind : ℕ → Kind) (a e : ℕ) : Type 0 where
+pub record Within (s : List ℕ) (at : ℕ) (kind : ℕ → Kind) (place a e : ℕ) : Type 0 where
+  pub placed : place ≡ at
   pub starts : a ≡ at + 3
   pub ends : e ≡ a + two s (at + 1)
   pub inside : e ≤ length s
@@ -92,7 +93,7 @@ unlike-faulty p = let z : _≡_ {A = ℕ} 0 1 = cc in omega arith
 unlike-passed : {p a e f : ℕ} → Whole p a e ≡ Passed f → ⊥
 unlike-passed p = let z : _≡_ {A = ℕ} 0 1 = cc in omega arith
 
-pub within : (s : List ℕ) (at : ℕ) (kind : ℕ → Kind) (place a e : ℕ) → Whole place a e ≡ fieldAt s at kind → Within s at kind a e
+pub within : (s : List ℕ) (at : ℕ) (kind : ℕ → Kind) (place a e : ℕ) → Whole place a e ≡ fieldAt s at kind → Within s at kind place a e
 unfolding fieldAt
 within s at kind place a e p =
     let len = two s (at + 1) in
@@ -105,6 +106,7 @@ within s at kind place a e p =
     let ea : a ≡ at + 3 = cc (p6 .1) in
     let ee : e ≡ at + 3 + len = cc (p6 .1) in
     record {
+      placed = cc (p6 .1);
       starts = ea;
       ends = omega arith;
       inside = omega (arith, leb-false (length s) at (p1 .0), ltb-false (length s - at) 3 (p2 .0), ltb-false (length s - at - 3) len (p5 .0));
@@ -257,7 +259,7 @@ pub ruleset tell-laws = (tells-small, tells-late)
 pub ruleset goes-laws = (goes-on, goes-not)
 
 -- of a whole field whose length is known: its body's ends are in order, and it is as long as that
-module _ (s : List ℕ) (at : ℕ) (kind : ℕ → Kind) (a e len : ℕ) (w : Within s at kind a e) (long : two s (at + 1) ≡ len) where
+module _ (s : List ℕ) (at : ℕ) (kind : ℕ → Kind) (p a e len : ℕ) (w : Within s at kind p a e) (long : two s (at + 1) ≡ len) where
   pub whole-order : a ≤ e
   whole-order = omega (arith, w .ends)
 

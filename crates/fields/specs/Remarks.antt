@@ -110,7 +110,7 @@ module _ (s : List ℕ) (at tag len : ℕ) where
 
   pub whole-has : (p a e : ℕ) (r : Field) → r ≡ fieldAt s at (orRemark (only tag len)) → r ≡ Whole p a e → HasField s at tag len
   whole-has p a e r given found =
-      let w : Within s at (orRemark (only tag len)) a e = within s at (orRemark (only tag len)) p a e (sym found ∙ given) in
+      let w : Within s at (orRemark (only tag len)) p a e = within s at (orRemark (only tag len)) p a e (sym found ∙ given) in
       let k = or-kind (only tag len) (getD s at 0) (or-given (only tag len) (getD s at 0) (w .given)) in
       let long = only-length tag len (getD s at 0) (two s (at + 1)) (rw k at (w .fits)) in
       record {

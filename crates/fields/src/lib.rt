@@ -4,3 +4,4 @@ pub mod reader;
 
 pub use look::first_field;
 pub use look::goes_on;
+pub use look::next_field;

@@ -1,28 +1,41 @@
 -- `chart::put_steps` meets its contract.
 use Prim.Native.Nat.{_-_}
+use mathlib.Core.Path.{_≡_, refl, sym, _∙_, subst}
+use mathlib.Core.Bool.{true}
 use lib.ListN.{length}
 use borrow.Author.Needs.{needs}
+use Rattle.fields.specs.Positions.{HasField, goes-has}
 use Rattle.fields.specs.Scans.{leftOf}
 use Rattle.fields.specs.Turns.{Run, run-start, run-next, run-less, run-done}
 use Rattle.chart.specs.Turns.{SoFarAt, StandsAt}
+use Rattle.chart.proofs.Steps.{has-of-kind}
 use Rattle.chart.proofs.reader.put_steps.Statement.{statement}
 use Rattle.chart.proofs.reader.put_steps.Tie as tie
 
+-- all of them are of the first one's kind
 abbrev Inv-loop : tie.InvT-loop
-Inv-loop file stages steps₀ read₀ here₀ steps read here =
-    Run file 2 8 (read₀ .place) (read .place) (read .going) here (SoFarAt file stages steps₀ read₀) (SoFarAt file stages steps read) (StandsAt file stages steps read)
+Inv-loop file stages steps₀ tag len read₀ here₀ steps read here =
+    Run file tag len (read₀ .place) (read .place) (read .going) here (SoFarAt file stages steps₀ read₀) (SoFarAt file stages steps read) (StandsAt file stages steps read)
+    × (here ≡ true → read .tag ≡ tag)
 
 abbrev μ-loop : tie.MeasureT-loop
-μ-loop file stages steps₀ read₀ here₀ steps read here = leftOf here (length file - read .place)
+μ-loop file stages steps₀ tag len read₀ here₀ steps read here = leftOf here (length file - read .place)
+
+step-length-requires : tie.Need-step-length-requires Inv-loop μ-loop
+step-length-requires c κs = search needs
 
 loop-holds : tie.Need-loop-holds Inv-loop μ-loop
-loop-holds c = let start : tie.Start Inv-loop μ-loop = search in run-start (start .pre)
+loop-holds c =
+    let start : tie.Start Inv-loop μ-loop = search in
+    let measured : tie.After-step-length Inv-loop μ-loop = search in
+    (run-start (rw (measured .step-length .ensures) (start .pre)), λ e. refl)
 
 put-step-requires : tie.Need-put-step-requires Inv-loop μ-loop
 put-step-requires c κs =
     let turn : tie.In-loop Inv-loop μ-loop = search in
     let head : tie.At-loop Inv-loop μ-loop = search in
-    head .loop .inv .has (turn .loop-test .taken)
+    let measured : tie.After-step-length Inv-loop μ-loop = search in
+    has-of-kind _ _ _ _ _ (head .loop .inv .0 .has (turn .loop-test .taken)) (head .loop .inv .1 (turn .loop-test .taken)) (measured .step-length .ensures)
 
 goes-on-requires : tie.Need-goes-on-requires Inv-loop μ-loop
 goes-on-requires c κs = search needs
@@ -33,7 +46,7 @@ loop-less c =
     let stored : tie.After-put-step Inv-loop μ-loop = search in
     let turn : tie.In-loop Inv-loop μ-loop = search in
     let head : tie.At-loop Inv-loop μ-loop = search in
-    run-less (head .loop .inv) (turn .loop-test .taken) (stored .put-step .ensures) (judged .goes-on .ensures)
+    run-less (head .loop .inv .0) (turn .loop-test .taken) (stored .put-step .ensures .0) (judged .goes-on .ensures)
 
 loop-again : tie.Need-loop-again Inv-loop μ-loop
 loop-again c =
@@ -41,13 +54,14 @@ loop-again c =
     let stored : tie.After-put-step Inv-loop μ-loop = search in
     let turn : tie.In-loop Inv-loop μ-loop = search in
     let head : tie.At-loop Inv-loop μ-loop = search in
-    run-next (head .loop .inv) (turn .loop-test .taken) (stored .put-step .ensures) (judged .goes-on .ensures)
+    (run-next (head .loop .inv .0) (turn .loop-test .taken) (stored .put-step .ensures .0) (judged .goes-on .ensures),
+      λ e. stored .put-step .ensures .1 (goes-has _ _ _ _ _ _ (judged .goes-on .ensures) e .0) ∙ head .loop .inv .1 (turn .loop-test .taken))
 
 returns : tie.Need-returns Inv-loop μ-loop
 returns c =
     let left : tie.After-loop Inv-loop μ-loop = search in
     let head : tie.At-loop Inv-loop μ-loop = search in
-    run-done (head .loop .inv) (left .loop-test .left)
+    run-done (head .loop .inv .0) (left .loop-test .left)
 
 pub put-steps-spec : {M : Type 1} → statement M
 put-steps-spec =
@@ -55,6 +69,7 @@ put-steps-spec =
     (tie.spec
     Inv-loop
     μ-loop
+    step-length-requires
     loop-holds
     put-step-requires
     goes-on-requires

@@ -53,6 +53,9 @@ head-of-requires c κs = search first-laws
 read-steps-requires : tie.Need-read-steps-requires
 read-steps-requires c κs = search needs
 
+groups-of-requires : tie.Need-groups-of-requires
+groups-of-requires c κs = search needs
+
 returns-2 : tie.Need-returns-2
 returns-2 c = search chart-laws
 
@@ -85,6 +88,7 @@ read-chart-spec =
     returns
     head-of-requires
     read-steps-requires
+    groups-of-requires
     returns-2
     returns-3
     returns-4

@@ -47,6 +47,7 @@ use denote.Triple.Walked.{says, Stays, stay-none, stay-none-slice, stay-ref, wal
 use denote.Exit.{yes}
 use denote.Signature.{plain, namedLft}
 use Rattle.definitions.specs.Fields.{only, orRemark, fieldAt}
+use Rattle.definitions.specs.Charts.{stepLength}
 use Rattle.definitions.specs.declared.Field.{Field}
 use Rattle.fields.specs.declared.reader.Reader.{Reader}
 use Rattle.chart.specs.declared.reader.StepsRead.{StepsRead}
@@ -156,7 +157,7 @@ module _ {M : Type 1} (𝓤 : URA M) (H : Heap 𝓤) (A : Atoms 𝓤) (W : Given
   abbrev to-take : ℕ → GName → Field → Val → StepsRead → List (List ℕ) → Take 𝓤 H A mem run .Ghost
   to-take ν δ f u t vs = (((κ, (ν ∷ [], tt)), (q, (fullShare, tt)), tt, with-take δ f t vs, vals-take u t), tt)
 
-  asked-take : (ν : ℕ) (δ : GName) (f : Field) (u : Val) (t : StepsRead) (vs : List (List ℕ)) → f ≡ fieldAt (now s) (t .place) (orRemark (only 2 8))
+  asked-take : (ν : ℕ) (δ : GName) (f : Field) (u : Val) (t : StepsRead) (vs : List (List ℕ)) → f ≡ fieldAt (now s) (t .place) (orRemark (only (t .tag) (stepLength (t .tag))))
       → ent 𝓤 (onEntry 𝓤 H A take.signature (κ, (ν ∷ [], tt)) (q, (fullShare, tt)) (with-take δ f t vs) (vals-take u t)) (Take 𝓤 H A mem run .pre (to-take ν δ f u t vs))
   asked-take ν δ f u t vs found =
       qed W ((‵ (flft κ q) ⊛ ‵ (flft (ν ∷ []) fullShare) ⊛ ‵ ftrue) ∷ ‵ (owns (ShrSlice (named 0) κ u8 ∷ S.the-row ∷ SR ∷ u16 ∷ MutRef (named 1) (ν ∷ []) TB ∷ []) (with-take δ f t vs) (vals-take u t)) ∷ []) ∵
@@ -175,6 +176,12 @@ module _ {M : Type 1} (𝓤 : URA M) (H : Heap 𝓤) (A : Atoms 𝓤) (W : Given
   place-fits : (r : StepsRead) (w : Val) → Is SR r (w ∷ []) → r .place < 2 ^ 64
   place-fits r w p = LL.owed R.the-type R′.the-laws r _ p .1 .0 .1
 
+  tag-fits : (r : StepsRead) (w : Val) → Is SR r (w ∷ []) → r .tag < 2 ^ 8
+  tag-fits r w p = LL.owed R.the-type R′.the-laws r _ p .1 .1 .1 .1 .1 .0 .1
+
+  len-fits : (r : StepsRead) (w : Val) → Is SR r (w ∷ []) → r .len < 2 ^ 16
+  len-fits r w p = LL.owed R.the-type R′.the-laws r _ p .1 .1 .1 .1 .1 .1 .0 .1
+
   lowers : (r : StepsRead) (w : Val) → Is SR r (w ∷ []) → Is SR r (R′.lowered r ∷ [])
   lowers r w p = subst (λ (y : Val). Is SR r (y ∷ [])) (lowered-is r w p) p
 
@@ -192,10 +199,10 @@ module _ {M : Type 1} (𝓤 : URA M) (H : Heap 𝓤) (A : Atoms 𝓤) (W : Given
   Nearer-wf = InvImage·wf left (Nat·lt-wfRel .wf)
 
   abbrev begun : StepsRead
-  begun = record { number = 0; place = start; steps = 0; last = 0; going = true }
+  begun = record { number = 0; place = start; steps = 0; last = 0; group = 0; tag = 2; len = 8; going = true }
 
   begun-is : Is SR begun (R′.lowered begun ∷ [])
-  begun-is = LL.owes R.the-type R′.the-laws begun ((refl, lit< tt), ((refl, start-fits), ((refl, lit< tt), ((refl, lit< tt), (refl, tt)))))
+  begun-is = LL.owes R.the-type R′.the-laws begun ((refl, lit< tt), ((refl, start-fits), ((refl, lit< tt), ((refl, lit< tt), ((refl, lit< tt), ((refl, lit< tt), ((refl, lit< tt), (refl, tt))))))))
 
   module _ (𝓣 : Tables 𝓤 H) (known-new : Triple 𝓤 (𝓣 .C #fields·reader·new) (New 𝓤 H A mem run)) (known-next : Triple 𝓤 (𝓣 .C #fields·reader·next) (Next 𝓤 H A mem run)) (known-moved : Triple 𝓤 (𝓣 .C #fields·reader·moved) (Moved 𝓤 H A mem run))
       (known-take : Triple 𝓤 (𝓣 .C #chart·reader·take-steps) (Take 𝓤 H A mem run)) (l₀ l₁ l₂ l₃ l₄ l₅ l₆ l₇ l₈ l₉ l₁₀ l₁₁ l₁₂ : ℕ) where
@@ -230,15 +237,15 @@ module _ {M : Type 1} (𝓤 : URA M) (H : Heap 𝓤) (A : Atoms 𝓤) (W : Given
         → t .going ≡ true → Sq W (held d u t vs) (runs C Λ En mir-of.turn-1 (anyQ (Turned (d, u, t, vs, ud, is, src, at, g))))
     unfolding afterTurn
     more d u t vs ud is src at g going =
-        assigns ! (of-opd ! (load ! (from ! (fld ! refl (stop !))) (look-in ! 17 (sub ! 4 refl (whole !))))) (from ! (stop !)) (init ! 11 refl (tt, tt)) $ rewrite ! 11 (λ (y : Bool). ‵ (fat fullShare tyBool l₉ 0 (vbool y))) going refl $
+        assigns ! (of-opd ! (load ! (from ! (fld ! refl (stop !))) (look-in ! 17 (sub ! 7 refl (whole !))))) (from ! (stop !)) (init ! 11 refl (tt, tt)) $ rewrite ! 11 (λ (y : Bool). ‵ (fat fullShare tyBool l₉ 0 (vbool y))) going refl $
         stays ! (load ! (from ! (stop !)) (look ! 11 refl)) $
         -- the next field
         assigns ! (of-opd ! (load ! (from ! (stop !)) (look ! 19 refl))) (from ! (stop !)) (init ! 9 refl (LL.lawful (T.the-type αᵉ) (T′.the-laws αᵉ) 𝓤 H A W .typed d _ ud .0)) $ move ! (0 ∷ []) $
         use1 W (‵ (B (κ, tt) .own d (u ∷ [])) ⊛ ‵ (B (κ, tt) .own d (u ∷ []))) (LL.copy (T.the-type (namedLft 1 0 tt (κ, tt))) (T′.the-copy (namedLft 1 0 tt (κ, tt))) 𝓤 H A W .twice d (u ∷ [])) $ split ! $ move ! (0 ∷ 2 ∷ []) $
-        use2 W (raw (Next 𝓤 H A mem run .pre (to-next 𝓤 H A W mem run κ q 2 8 d u))) (goes-next 𝓤 H A W mem run κ q 2 8 (lit< tt) (lit< tt) d u) $
-        calls-at ! fm (Next 𝓤 H A mem run) known-next (to-next 𝓤 H A W mem run κ q 2 8 d u) (and-then ! (load ! (from ! (stop !)) (look ! 9 refl)) (and-then ! (lit ! tt) (and-then ! (lit ! tt) (no-more !)))) (λ k.
-        use1 W (later (some (λ (f : Field). ((‵ (flft κ q) ⊛ ‵ ftrue) ⊛ ‵ (S.the-row .own f (k ∷ []))) ⊛ raw (ensured 𝓤 H A next.ended (next.clauses 𝓤 H A mem run) (κ, tt) (d, (2, (8, tt))) tt f)))) (id⊢ 𝓤 _) $ await ! tt $ pick ! (λ f.
-        split ! $ move ! (1 ∷ []) $ use1 W (raw (fact 𝓤 (f ≡ fieldAt (now (d .src)) (d .at) (orRemark (only 2 8))))) (next-said 𝓤 H A W mem run κ q 2 8 d f) $ heard ! (f ≡ fieldAt (now (d .src)) (d .at) (orRemark (only 2 8))) (λ ef. move ! (0 ∷ []) $ split ! $
+        use2 W (raw (Next 𝓤 H A mem run .pre (to-next 𝓤 H A W mem run κ q (t .tag) (t .len) d u))) (goes-next 𝓤 H A W mem run κ q (t .tag) (t .len) (tag-fits t _ is) (len-fits t _ is) d u) $
+        calls-at ! fm (Next 𝓤 H A mem run) known-next (to-next 𝓤 H A W mem run κ q (t .tag) (t .len) d u) (and-then ! (load ! (from ! (stop !)) (look ! 9 refl)) (and-then ! (load ! (from ! (fld ! refl (stop !))) (look-in ! 17 (sub ! 5 refl (whole !)))) (and-then ! (load ! (from ! (fld ! refl (stop !))) (look-in ! 17 (sub ! 6 refl (whole !)))) (no-more !)))) (λ k.
+        use1 W (later (some (λ (f : Field). ((‵ (flft κ q) ⊛ ‵ ftrue) ⊛ ‵ (S.the-row .own f (k ∷ []))) ⊛ raw (ensured 𝓤 H A next.ended (next.clauses 𝓤 H A mem run) (κ, tt) (d, (t .tag, (t .len, tt))) tt f)))) (id⊢ 𝓤 _) $ await ! tt $ pick ! (λ f.
+        split ! $ move ! (1 ∷ []) $ use1 W (raw (fact 𝓤 (f ≡ fieldAt (now (d .src)) (d .at) (orRemark (only (t .tag) (t .len)))))) (next-said 𝓤 H A W mem run κ q (t .tag) (t .len) d f) $ heard ! (f ≡ fieldAt (now (d .src)) (d .at) (orRemark (only (t .tag) (t .len)))) (λ ef. move ! (0 ∷ []) $ split ! $
         move ! (1 ∷ []) $ peeks ! S.the-row (Is S.the-row) (shows 𝓤 H A S.the-row) f (k ∷ []) (λ isf. land ! (from ! (stop !)) (init ! 16 refl (EL.lawful S.the-type S′.the-laws 𝓤 H A W tt .typed f _ isf .0)) $
         -- it is taken, the table lent again for a lifetime ν of the call
         assigns ! (addr ! (from ! (hop ! (look ! 22 refl) (stop !)))) (from ! (stop !)) (init ! 8 refl (tt, tt)) $ lft-new ! tt (λ ν. move ! (5 ∷ 6 ∷ []) $
@@ -271,14 +278,16 @@ module _ {M : Type 1} (𝓤 : URA M) (H : Heap 𝓤) (A : Atoms 𝓤) (W : Given
         z : State
         z = (d, u, t, vs, ud, is, src, at, g)
 
-        found-at : {f : Field} → f ≡ fieldAt (now (d .src)) (d .at) (orRemark (only 2 8)) → f ≡ fieldAt (now s) (t .place) (orRemark (only 2 8))
-        found-at e = e ∙ (ap (λ (y : RefT (List ℕ)). fieldAt (now y) (d .at) (orRemark (only 2 8))) src ∙ ap (λ (n : ℕ). fieldAt (now s) n (orRemark (only 2 8))) at)
+        found-at : {f : Field} → f ≡ fieldAt (now (d .src)) (d .at) (orRemark (only (t .tag) (t .len))) → f ≡ fieldAt (now s) (t .place) (orRemark (only (t .tag) (stepLength (t .tag))))
+        found-at e =
+            e ∙ (ap (λ (y : RefT (List ℕ)). fieldAt (now y) (d .at) (orRemark (only (t .tag) (t .len)))) src ∙ ap (λ (n : ℕ). fieldAt (now s) n (orRemark (only (t .tag) (t .len)))) at)
+            ∙ ap (λ (n : ℕ). fieldAt (now s) (t .place) (orRemark (only (t .tag) n))) (g .goes going .kind .long)
 
     ends : (d : Reader) (u : Val) (t : StepsRead) (vs : List (List ℕ)) (ud : Is (B (κ, tt)) d (u ∷ [])) (is : Is SR t (R′.lowered t ∷ [])) (src : d .src ≡ s) (at : d .at ≡ t .place) (g : StandsAt (now s) stages vs t (start, us))
         → t .going ≡ false → Sq W (held d u t vs) (runs C Λ En mir-of.turn-1 (anyQ (Turned (d, u, t, vs, ud, is, src, at, g))))
     unfolding afterTurn
     ends d u t vs ud is src at g stopped =
-        assigns ! (of-opd ! (load ! (from ! (fld ! refl (stop !))) (look-in ! 17 (sub ! 4 refl (whole !))))) (from ! (stop !)) (init ! 11 refl (tt, tt)) $ rewrite ! 11 (λ (y : Bool). ‵ (fat fullShare tyBool l₉ 0 (vbool y))) stopped refl $
+        assigns ! (of-opd ! (load ! (from ! (fld ! refl (stop !))) (look-in ! 17 (sub ! 7 refl (whole !))))) (from ! (stop !)) (init ! 11 refl (tt, tt)) $ rewrite ! 11 (λ (y : Bool). ‵ (fat fullShare tyBool l₉ 0 (vbool y))) stopped refl $
         leaves-loop ! (load ! (from ! (stop !)) (look ! 11 refl)) $ exec ! C Λ En rest (atRet En Post) $
         assigns ! (of-opd ! (load ! (from ! (stop !)) (look ! 17 refl))) (from ! (stop !)) (init ! 29 refl (LL.lawful R.the-type R′.the-laws 𝓤 H A W .typed t _ is .0)) $ returns ! (look ! 29 refl) $ forget ! 29 refl $ forget ! 27 refl $
         forget ! 25 refl $ forget ! 23 refl $ forget ! 21 refl $ forget ! 19 refl $ forget ! 17 refl $ forget ! 11 refl $ move ! (29 ∷ 30 ∷ []) $ free1 ! $ move ! (27 ∷ 28 ∷ []) $ free1 ! $ move ! (25 ∷ 26 ∷ []) $ free1 ! $
@@ -311,7 +320,7 @@ module _ {M : Type 1} (𝓤 : URA M) (H : Heap 𝓤) (A : Atoms 𝓤) (W : Given
         use1 W (later (some (λ (d : Reader). ((‵ (flft κ q) ⊛ ‵ ftrue) ⊛ ‵ (B (κ, tt) .own d (u ∷ []))) ⊛ raw (ensured 𝓤 H A moved.ended (moved.clauses 𝓤 H A mem run) (κ, tt) (r, (start, tt)) tt d)))) (id⊢ 𝓤 _) $ await ! tt $ pick ! (λ d.
         split ! $ move ! (1 ∷ []) $ use1 W (raw (fact 𝓤 ((d .src ≡ r .src) × (d .at ≡ start)))) (moved-said 𝓤 H A W mem run κ q r d start) $ heard ! ((d .src ≡ r .src) × (d .at ≡ start)) (λ ed. move ! (0 ∷ []) $ split ! $
         move ! (1 ∷ []) $ peeks ! (B (κ, tt)) (Is (B (κ, tt))) (shows 𝓤 H A (B (κ, tt))) d (u ∷ []) (λ ud. land ! (from ! (stop !)) (init ! 19 refl (LL.lawful (T.the-type αᵉ) (T′.the-laws αᵉ) 𝓤 H A W .typed d _ ud .0)) $
-        assigns ! (agg ! (and-then ! (lit ! tt) (and-then ! (load ! (from ! (stop !)) (look ! 25 refl)) (and-then ! (lit ! tt) (and-then ! (lit ! tt) (and-then ! (true-lit !) (no-more !))))))) (from ! (stop !)) (init ! 17 refl (LL.lawful R.the-type R′.the-laws 𝓤 H A W .typed begun _ begun-is .0)) $
+        assigns ! (agg ! (and-then ! (lit ! tt) (and-then ! (load ! (from ! (stop !)) (look ! 25 refl)) (and-then ! (lit ! tt) (and-then ! (lit ! tt) (and-then ! (lit ! tt) (and-then ! (lit ! tt) (and-then ! (lit ! tt) (and-then ! (true-lit !) (no-more !)))))))))) (from ! (stop !)) (init ! 17 refl (LL.lawful R.the-type R′.the-laws 𝓤 H A W .typed begun _ begun-is .0)) $
         forget ! 13 refl $ keep ! (0 ∷ 1 ∷ 2 ∷ 3 ∷ 4 ∷ 5 ∷ 6 ∷ 7 ∷ 8 ∷ 9 ∷ 10 ∷ 11 ∷ 12 ∷ 13 ∷ 14 ∷ 15 ∷ 16 ∷ 17 ∷ 18 ∷ 19 ∷ 20 ∷ 21 ∷ 22 ∷ 23 ∷ 24 ∷ 25 ∷ 26 ∷ 27 ∷ 28 ∷ 29 ∷ 30 ∷ []) $
         first ! $ blocks ! $ loops ! 𝓣 Nearer Nearer-wf At turns (d, u, begun, us, ud, begun-is, ed .0 ∙ er .0, ed .1, stands-on (steps-start (now s) start stages us))))))))))
 

@@ -1,55 +1,52 @@
 -- `chart::take_steps` meets its contract.
-use Rattle.fields.specs.Remarks.{whole-has}
-use Rattle.chart.proofs.Steps.{take-laws}
+use Rattle.chart.proofs.Steps.{found-anew, due-anew, take-anew}
 use borrow.Author.Needs.{needs}
 use Rattle.chart.proofs.reader.take_steps.Statement.{statement}
 use Rattle.chart.proofs.reader.take_steps.Tie as tie
 
-enum-told : tie.Need-enum-told
-enum-told c = search needs
+due-kind-requires : tie.Need-due-kind-requires
+due-kind-requires c κs = search needs
 
-stopped-requires : tie.Need-stopped-requires
-stopped-requires c κs = search needs
-
-enum-known-found : tie.Need-enum-known-found
-enum-known-found c = search needs
-
-stopped-requires-2 : tie.Need-stopped-requires-2
-stopped-requires-2 c κs = search needs
-
-enum-known-found-2 : tie.Need-enum-known-found-2
-enum-known-found-2 c = search needs
-
-enum-told-2 : tie.Need-enum-told-2
-enum-told-2 c = search needs
-
-put-steps-requires : tie.Need-put-steps-requires
-put-steps-requires c κs = search whole-has
+take-found-requires : tie.Need-take-found-requires
+take-found-requires c κs = search needs
 
 returns : tie.Need-returns
-returns c = search take-laws
+returns c = search needs
+
+step-length-requires : tie.Need-step-length-requires
+step-length-requires c κs = search needs
+
+next-field-requires : tie.Need-next-field-requires
+next-field-requires c κs = search needs
+
+take-found-requires-2 : tie.Need-take-found-requires-2
+take-found-requires-2 c κs =
+    let start : tie.Start = search in
+    let judged : tie.After-due-kind = search in
+    let anew : tie.Else1 = search in
+    let measured : tie.After-step-length = search in
+    let looked : tie.After-next-field = search in
+    let r = start .args .read in
+    let table = start .args .steps .now in
+    (found-anew _ 0 r table _ (judged .due-kind .ensures) (anew .if1 .left) _ (measured .step-length .ensures) _ (looked .next-field .ensures),
+      due-anew _ 0 r table _ (judged .due-kind .ensures) (anew .if1 .left) _ (measured .step-length .ensures))
 
 returns-2 : tie.Need-returns-2
-returns-2 c = search take-laws
-
-returns-3 : tie.Need-returns-3
-returns-3 c = search take-laws
-
-returns-4 : tie.Need-returns-4
-returns-4 c = search needs
+returns-2 c =
+    let start : tie.Start = search in
+    let judged : tie.After-due-kind = search in
+    let anew : tie.Else1 = search in
+    let measured : tie.After-step-length = search in
+    take-anew _ _ (start .args .read) _ _ (judged .due-kind .ensures) (anew .if1 .left) _ (measured .step-length .ensures) _ _ (c .take-found2 .ensures)
 
 pub take-steps-spec : {M : Type 1} → statement M
 take-steps-spec =
     tie.close
     (tie.spec
-    enum-told
-    stopped-requires
-    enum-known-found
-    stopped-requires-2
-    enum-known-found-2
-    enum-told-2
-    put-steps-requires
+    due-kind-requires
+    take-found-requires
     returns
-    returns-2
-    returns-3
-    returns-4)
+    step-length-requires
+    next-field-requires
+    take-found-requires-2
+    returns-2)
