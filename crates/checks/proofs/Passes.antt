@@ -8,11 +8,12 @@ use native.Mathlib.Omega.{arith}
 use native.Mathlib.Nat.{mul-le-mul-right}
 use lib.ListN.{length}
 use borrow.Author.Tests.{le-leb, lt-leb}
-use Rattle.definitions.specs.Charts.{Chart, ChartStep, readChart}
+use Rattle.definitions.specs.Charts.{Chart, ChartStep, groupCount, readChart}
 use Rattle.definitions.specs.Diagrams.{Diagram, InnerNode, strict, readDiagram}
 use Rattle.definitions.specs.Diagrams as diagrams
 use Rattle.definitions.specs.Plans.{graph}
-use Rattle.theory.specs.Limits.{Small, Valid, Sound}
+use Rattle.theory.specs.Limits.{Small, OneKind, Valid, Sound}
+use Rattle.theory.specs.Variables.{groups-few}
 use Rattle.definitions.specs.Answers.{load, spaceFits, workNeed}
 use Rattle.chart.specs.Tables as chart
 use Rattle.chart.specs.Accepted.{Within, chart-accepted}
@@ -50,18 +51,21 @@ module _ (s t : List ℕ) (work plan : ℕ) (x : ChartRead) (ex : x ≡ chart.ch
     steps-is : x .steps ≡ length (readChart s .chart .steps)
     steps-is = ap (λ (y : ChartRead). y .steps) ex
 
-    pub few-steps : x .steps ≤ 1024
-    few-steps = omega (arith, steps-is, accepted .0 .few)
+    groups-is : x .groups ≡ groupCount (readChart s .chart)
+    groups-is = ap (λ (y : ChartRead). y .groups) ex
+
+    pub few-groups : x .groups ≤ 1024
+    few-groups = omega (arith, groups-is, groups-few (readChart s .chart) (accepted .0))
 
     pub some-stages : 1 ≤ x .stages
     some-stages = omega (arith, stages-is, accepted .0 .some-stages)
 
-    module _ (y : DiagramRead) (ey : y ≡ files.diagramAnswer (readDiagram strict t (x .steps))) where
+    module _ (y : DiagramRead) (ey : y ≡ files.diagramAnswer (readDiagram strict t (x .groups))) where
       abbrev d : diagrams.DiagramRead
-      d = readDiagram strict t (length (readChart s .chart .steps))
+      d = readDiagram strict t (groupCount (readChart s .chart))
 
-      same-file : readDiagram strict t (x .steps) ≡ d
-      same-file = ap (readDiagram strict t) steps-is
+      same-file : readDiagram strict t (x .groups) ≡ d
+      same-file = ap (readDiagram strict t) groups-is
 
       rules-number : y .number ≡ d .number
       rules-number = ap (λ (z : DiagramRead). z .number) ey ∙ ap (λ (z : diagrams.DiagramRead). z .number) same-file
@@ -77,8 +81,8 @@ module _ (s t : List ℕ) (work plan : ℕ) (x : ChartRead) (ex : x ≡ chart.ch
         rules-passed : d .number ≡ 0
         rules-passed = sym rules-number ∙ cy
 
-        sound : Sound (length (readChart s .chart .steps)) (d .diagram)
-        sound = diagram-accepted strict t (length (readChart s .chart .steps)) rules-passed
+        sound : Sound (groupCount (readChart s .chart)) (d .diagram)
+        sound = diagram-accepted strict t (groupCount (readChart s .chart)) rules-passed
 
         nodes-is : y .nodes ≡ length (d .diagram .nodes)
         nodes-is = ap (λ (z : DiagramRead). z .nodes) ey ∙ ap (λ (z : diagrams.DiagramRead). length (z .diagram .nodes)) same-file
@@ -109,7 +113,7 @@ module _ (s t : List ℕ) (work plan : ℕ) (x : ChartRead) (ex : x ≡ chart.ch
             (e, λ q. omega arith)
 
         module _ (steps steps₀ : List (List ℕ)) (inner : List ℕ) (fc : chart.Filled (readChart s .chart .steps) steps₀ steps)
-            (fd : files.Filled (readDiagram strict t (x .steps) .diagram .nodes) inner) (z : Shape)
+            (fd : files.Filled (readDiagram strict t (x .groups) .diagram .nodes) inner) (z : Shape)
             (zs : z .stages ≡ x .stages) (zb : z .start .0 ≡ x .start) (ze : z .end .0 ≡ x .end) (zc : z .steps ≡ x .steps) (zr : z .root .0 ≡ y .root) (zn : z .nodes ≡ y .nodes) where
           abbrev w : Read
           w = read steps inner
@@ -137,7 +141,7 @@ module _ (s t : List ℕ) (work plan : ℕ) (x : ChartRead) (ex : x ≡ chart.ch
 
           same-nodes : files.nodesHeld (z .nodes) inner ≡ D .nodes
           same-nodes =
-              let l : length (readDiagram strict t (x .steps) .diagram .nodes) ≡ length (D .nodes) = ap (λ (w : diagrams.DiagramRead). length (w .diagram .nodes)) same-file in
+              let l : length (readDiagram strict t (x .groups) .diagram .nodes) ≡ length (D .nodes) = ap (λ (w : diagrams.DiagramRead). length (w .diagram .nodes)) same-file in
               ap (λ (k : ℕ). files.nodesHeld k inner) (zn ∙ nodes-is ∙ sym l) ∙ fd .held ∙ ap (λ (w : diagrams.DiagramRead). w .diagram .nodes) same-file
 
           root-is : z .root .0 ≡ D .root
@@ -151,10 +155,11 @@ module _ (s t : List ℕ) (work plan : ℕ) (x : ChartRead) (ex : x ≡ chart.ch
 
           in-tables : Tables z w
           in-tables =
-              let so : Sound (z .steps) (diagramIn z w) = subst (λ (k : ℕ). Sound k (diagramIn z w)) (sym (zc ∙ steps-is)) (subst (Sound (length (C .steps))) (sym same-diagram) sound) in
+              let so : Sound (groupCount (chartIn z w)) (diagramIn z w) = subst (λ (c : Chart). Sound (groupCount c) (diagramIn z w)) (sym same-chart) (subst (Sound (groupCount C)) (sym same-diagram) sound) in
               record {
                 valid = subst (λ (c : Chart). Valid (graph c)) (sym same-chart) (accepted .0);
                 small = subst (λ (c : Chart). Small c) (sym same-chart) (accepted .1);
+                kinds = subst (λ (c : Chart). OneKind c) (sym same-chart) (accepted .3);
                 sound = so;
                 held = held-tables (z .nodes) (w .inner .step) (w .inner .lo) (w .inner .hi) (z .root .0) (so .ordered) (omega (arith, few-nodes)) (fd .marked);
               }

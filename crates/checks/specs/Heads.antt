@@ -1,7 +1,7 @@
 -- Tables that hold a chart also hold it with another start and end in its head: only the sizes differ.
 -- Assumes nothing.
 use Prim.Native.Nat.{ℕ, _<_}
-use Rattle.definitions.specs.Charts.{Chart, headed}
+use Rattle.definitions.specs.Charts.{Chart, headed, groupCount}
 use Rattle.definitions.specs.Plans.{graph}
 use Rattle.definitions.specs.declared.Shape.{Shape}
 use Rattle.theory.specs.Limits.{Valid}
@@ -24,11 +24,14 @@ valid-headed c start end v h i = record {
   inside = v .inside;
   sorted = v .sorted;
   cheap = v .cheap;
+  grouped = v .grouped;
+  few-groups = v .few-groups;
 }
 
 module _ (z : Shape) (start end : ℕ) (h : start < z .stages) (i : end < z .stages) where
   pub headed-tables : {t : Read} → Tables z t → Tables (headedShape z start end) t
-  headed-tables {t} x = record { valid = valid-headed (chartIn z t) start end (x .valid) h i; small = x .small; sound = x .sound; held = x .held }
+  unfolding groupCount
+  headed-tables {t} x = record { valid = valid-headed (chartIn z t) start end (x .valid) h i; small = x .small; kinds = record { tags = x .kinds .tags; alike = x .kinds .alike; alone = x .kinds .alone }; sound = x .sound; held = x .held }
 
   pub headed-ready : {w : Walk} → Ready z w → Ready (headedShape z start end) w
   headed-ready r = record { tables = headed-tables (r .tables); firsts = r .firsts; rows = r .rows }

@@ -7,10 +7,9 @@ use mathlib.Core.List.{List, [], _∷_}
 use mathlib.Core.Logic.{_⊎_, inl, inr}
 use native.Mathlib.Omega.{arith}
 use lib.Dec.{leb}
-use lib.ListN.{length}
 use borrow.Author.Tests.{le-leb, lt-leb, eq-eqb, ne-eqb, eqb-true, eqb-false, leb-true, leb-false, not-true, not-false}
 use Rattle.definitions.specs.Basics.{pick, every}
-use Rattle.definitions.specs.Charts.{Chart, readChart}
+use Rattle.definitions.specs.Charts.{Chart, groupCount, readChart}
 use Rattle.definitions.specs.Diagrams.{Diagram, strict, DiagramRead, readDiagram}
 use Rattle.definitions.specs.Answers.{Load, ready, refused, readFiles, withSpace, load, withWork, loadWork, workNeed, planNeed, workFits, spaceFits}
 use Rattle.chart.specs.Accepted.{chart-accepted}
@@ -23,7 +22,7 @@ module _ (mode : Bool) (s t : List ℕ) where
   chartIs = readChart s .chart
 
   abbrev rulesRead : DiagramRead
-  rulesRead = readDiagram mode t (length (chartIs .steps))
+  rulesRead = readDiagram mode t (groupCount chartIs)
 
   pub chart-refused : (readChart s .number ≡ 0 → ⊥) → readFiles mode s t ≡ refused (readChart s .number) 1 (readChart s .place)
   unfolding readFiles
@@ -140,7 +139,7 @@ ready-parts s t works plan c d e =
     (y .0, y .1, x .1)
 
 pub ready-files : (s t works : List ℕ) (plan : ℕ) (c : Chart) (d : Diagram) → load s t works plan ≡ ready c d
-    → (c ≡ readChart s .chart) × (d ≡ readDiagram strict t (length (readChart s .chart .steps)) .diagram)
+    → (c ≡ readChart s .chart) × (d ≡ readDiagram strict t (groupCount (readChart s .chart)) .diagram)
 ready-files s t works plan c d e = let x = ready-parts s t works plan c d e in (sym (x .0), sym (x .1))
 
 pub ready-space : (s t : List ℕ) (work plan : ℕ) (c : Chart) (d : Diagram) → load s t (work ∷ []) plan ≡ ready c d → (workNeed c d ≤ work) × (planNeed c ≤ plan)

@@ -9,9 +9,8 @@ use Rattle.definitions.specs.Diagrams.{size}
 use Rattle.definitions.specs.Ways.{Graph}
 use Rattle.definitions.specs.Pairs.{Automaton, rowStarts}
 use Rattle.definitions.specs.Plans.{graph, automaton}
-use Rattle.theory.specs.Limits.{Sound}
 use Rattle.theory.specs.Pairs.{Lawful, lawful}
-use Rattle.chart.specs.Held.{held-count, held-from, held-to, held-cost}
+use Rattle.chart.specs.Held.{held-count, held-from, held-to, held-cost, held-group}
 use Rattle.chart_stages.specs.FirstSteps.{FirstTable, Firsts, first-leaves, leaves-first, first-inside, first-rises}
 use Rattle.chart_stages.specs.HeldGraph.{held-firsts}
 use Rattle.diagram.specs.Held.{length-held}
@@ -47,11 +46,8 @@ module _ (z : Shape) (t : Read) (in-tables : Tables z t) where
   pub width-is : automatonIn z t .size ≡ z .nodes + 2
   width-is = ap (λ (n : ℕ). n + 2) (length-held (z .nodes) (t .inner .step) (t .inner .lo) (t .inner .hi))
 
-  pub sound-in : Sound (length (chartIn z t .steps)) (diagramIn z t)
-  sound-in = subst (λ (n : ℕ). Sound n (diagramIn z t)) (sym count-is) (in-tables .sound)
-
   pub lawful-in : Lawful (graphIn z t) (automatonIn z t)
-  lawful-in = lawful (chartIn z t) (diagramIn z t) sound-in
+  lawful-in = lawful (chartIn z t) (diagramIn z t) (in-tables .sound)
 
   pub few-stages : z .stages ≤ 256
   few-stages = in-tables .valid .few-stages
@@ -71,6 +67,9 @@ module _ (z : Shape) (t : Read) (in-tables : Tables z t) where
 
     pub cost-at : getD (t .steps .cost) e 0 ≡ graphIn z t .cost e
     cost-at = sym (held-cost (z .steps) (t .steps) e h)
+
+    pub group-at : getD (t .steps .group) e 0 ≡ graphIn z t .group e
+    group-at = sym (held-group (z .steps) (t .steps) e h)
 
 module _ (z : Shape) (w : Walk) (r : Ready z w) where
   abbrev g : Graph

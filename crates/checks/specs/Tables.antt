@@ -3,10 +3,10 @@
 use Prim.Native.Nat.{ℕ, _+_, _*_}
 use mathlib.Core.Path.{_≡_}
 use mathlib.Core.List.{List}
-use Rattle.definitions.specs.Charts.{Chart}
+use Rattle.definitions.specs.Charts.{Chart, groupCount}
 use Rattle.definitions.specs.Diagrams.{Diagram}
 use Rattle.definitions.specs.Plans.{graph}
-use Rattle.theory.specs.Limits.{Small, Valid, Sound}
+use Rattle.theory.specs.Limits.{Small, OneKind, Valid, Sound}
 use Rattle.definitions.specs.Answers.{Load, ready, refused}
 use Rattle.chart.specs.Tables as chart
 use Rattle.diagram_fields.specs.Words.{Nodes, nodesIn}
@@ -43,7 +43,8 @@ pub record Room (steps : List (List ℕ)) (inner : List ℕ) : Type 0 where
 pub record Tables (z : Shape) (t : Read) : Type 0 where
   pub valid : Valid (graph (chartIn z t))
   pub small : Small (chartIn z t)
-  pub sound : Sound (z .steps) (diagramIn z t)
+  pub kinds : OneKind (chartIn z t)
+  pub sound : Sound (groupCount (chartIn z t)) (diagramIn z t)
   pub held : diagram.Held (diagramIn z t) (t .inner .step) (t .inner .lo) (t .inner .hi)
 
 -- nothing was read

@@ -85,7 +85,7 @@ pub fn load(
     if c.number != 0 {
         return refused(c.number as u32, 1, c.place);
     }
-    let d = read_diagram(rules, c.steps, true, inner);
+    let d = read_diagram(rules, c.groups, true, inner);
     if d.number != 0 {
         return refused(d.number as u32, 2, d.place);
     }

@@ -4,7 +4,7 @@ use mathlib.Core.Bool.{true}
 use native.Mathlib.Omega.{arith}
 use Rattle.diagram.specs.Accepted.{accepted-filled}
 use Rattle.diagram.specs.declared.reader.DiagramRead.{DiagramRead}
-use Rattle.checks.proofs.Passes.{few-steps, some-stages, chart-refused, rules-refused, few-nodes, few-pairs, work-refused, plan-refused, loaded}
+use Rattle.checks.proofs.Passes.{few-groups, some-stages, chart-refused, rules-refused, few-nodes, few-pairs, work-refused, plan-refused, loaded}
 use borrow.Author.Needs.{needs}
 use Rattle.checks.proofs.load.Statement.{statement}
 use Rattle.checks.proofs.load.Tie as tie
@@ -30,7 +30,7 @@ read-diagram-requires c κs =
     let p : tie.Else1 = search in
     let x : tie.After-read-chart = search in
     let s : tie.Start = search in
-    (few-steps (s .args .chart .now) (s .args .rules .now) (s .args .work) (s .args .plan) _ (x .read-chart .ensures .0) (p .if1 .left), s .pre .of-nodes)
+    (few-groups (s .args .chart .now) (s .args .rules .now) (s .args .work) (s .args .plan) _ (x .read-chart .ensures .0) (p .if1 .left), s .pre .of-nodes)
 
 cast-refused-2 : tie.Need-cast-refused-2
 cast-refused-2 c = search needs
@@ -111,7 +111,7 @@ returns-5 c =
     let x : tie.After-read-chart = search in
     let s : tie.Start = search in
     let fc = x .read-chart .ensures .1 (s .pre .of-steps) in
-    let few = few-steps (s .args .chart .now) (s .args .rules .now) (s .args .work) (s .args .plan) _ (x .read-chart .ensures .0) (p .if1 .left) in
+    let few = few-groups (s .args .chart .now) (s .args .rules .now) (s .args .work) (s .args .plan) _ (x .read-chart .ensures .0) (p .if1 .left) in
     let read = y .read-diagram .ensures in
     let fd = accepted-filled true (s .args .rules .now) _ (sym (ap (λ (d : DiagramRead). d .number) (read .answer)) ∙ q .if2 .left) few _ _ (read .table) in
     loaded (s .args .chart .now) (s .args .rules .now) (s .args .work) (s .args .plan) _ (x .read-chart .ensures .0) (p .if1 .left) _ (y .read-diagram .ensures .answer) (q .if2 .left) _ _ _ fc fd _ refl refl refl refl refl refl _ refl refl refl refl (f .if3 .left) (c .if4 .left)
