@@ -10,6 +10,7 @@ ghost use Rattle.guided_expand.specs.Progress.{progress};
 ghost use Rattle.guided_expand.specs.Opening.{Opened, Opening, Leading};
 use chart_fields::COST;
 use chart_fields::ENDS;
+use chart_fields::group_at;
 use chart_fields::to_at;
 use definitions::NONE;
 use definitions::Node;
@@ -133,7 +134,8 @@ pub fn settle<'a>(
     let mut m = lowered_at(inner, source.pair.node);
     let mut e = first[s];
     while e < until {
-        let key = Step(e);
+        let step = Step(e);
+        let key = group_at(&steps[ENDS], e as usize);
         m = descend_to(inner, key, m);
         if m.node.0 == 0 {
             return left;
@@ -153,7 +155,7 @@ pub fn settle<'a>(
             by_stage,
             by_node,
             source,
-            key,
+            step,
             t,
         );
         e += 1;

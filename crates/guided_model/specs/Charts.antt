@@ -9,7 +9,7 @@ use mathlib.Core.Option.{Option, none, some}
 use native.Mathlib.Omega.{arith}
 use lib.ListN.{length, getD, set, take, drop, length-set, length-take}
 use Rattle.definitions.specs.Basics.{NONE}
-use Rattle.definitions.specs.Charts.{Chart}
+use Rattle.definitions.specs.Charts.{Chart, groupCount}
 use Rattle.definitions.specs.Diagrams.{Diagram, size}
 use Rattle.definitions.specs.Ways.{Graph, wayCost}
 use Rattle.definitions.specs.Pairs.{Automaton, Estimate, pair, goal, leastCost}
@@ -58,7 +58,7 @@ module _ (c : Chart) (d : Diagram) (h : Estimate) where
     pub best : cheapest c d ≡ none
     pub logged : LoggedFrom (graph c) (automaton c d) h base (cheapest c d) count log log′
 
-module _ (c : Chart) (d : Diagram) (s : Sound (length (c .steps)) d) {h : Estimate} (u : Guide (graph c) (automaton c d) h) where
+module _ (c : Chart) (d : Diagram) (s : Sound (groupCount c) d) {h : Estimate} (u : Guide (graph c) (automaton c d) h) where
   abbrev g : Graph
   g = graph c
 

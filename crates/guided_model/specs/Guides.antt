@@ -6,7 +6,7 @@ use mathlib.Core.Option.{some}
 use native.Mathlib.Omega.{arith}
 use lib.ListN.{length}
 use borrow.Author.Tests.{eqb-true}
-use Rattle.definitions.specs.Charts.{Chart}
+use Rattle.definitions.specs.Charts.{Chart, groupCount}
 use Rattle.definitions.specs.Diagrams.{Diagram}
 use Rattle.definitions.specs.Ways.{endOf}
 use Rattle.definitions.specs.Pairs.{toEnd}
@@ -27,7 +27,7 @@ estimate-until c d v t n m e =
     let q : endOf (graph c) t (w .0) ≡ c .end = eqb-true _ _ (w .2) in
     omega (arith, way-climbs (graph c) v (w .0) t (w .1))
 
-abbrev pub guide : (c : Chart) (d : Diagram) → Valid (graph c) → Small c → Sound (length (c .steps)) d → Guide (graph c) (automaton c d) (estimate c d)
+abbrev pub guide : (c : Chart) (d : Diagram) → Valid (graph c) → Small c → Sound (groupCount c) d → Guide (graph c) (automaton c d) (estimate c d)
 guide c d v small s = record {
   valid = v;
   lawful = lawful c d s;

@@ -1,24 +1,24 @@
-// The walks over the table of a rule diagram: advancing a node by a step, and which nodes finish at 1.
+// The walks over the table of a rule diagram: advancing a node by a group, and which nodes finish at 1.
 ghost use mathlib.Core.Path.{_≡_};
 ghost use Prim.Native.Nat.{_+_, _≤_, _<_};
 ghost use lib.ListN.{length};
 ghost use Rattle.diagram_fields.specs.Words.{MARK, Marked, nodesIn};
 ghost use Rattle.nodes.specs.Walks.{Falls, Tests, Lowers, BranchesTo, Finishes, Finishing};
+use definitions::Group;
 use definitions::Node;
-use definitions::Step;
 use diagram_fields::hi_at;
 use diagram_fields::lo_at;
 use diagram_fields::lo_of;
 use diagram_fields::step_at;
 use diagram_fields::step_of;
 
-// A node of a diagram, and the step that it tests: the mark where it is none of the inner ones.
+// A node of a diagram, and the group that it tests: the mark where it is none of the inner ones.
 pub struct Lowered {
     pub node: Node,
     pub step: u16,
 }
 
-// A node with its step, by the table.
+// A node with its group, by the table.
 pub fn lowered_at(inner: &[u32; 512], n: Node) -> Lowered
     requires { ⌜ n .0 < 512 ⌝ }
     ensures { λ r. ⌜ (r .node .0 ≡ n .0) × Tests (nodesIn (now (inner .entry)) .step) r ⌝ }
@@ -27,9 +27,9 @@ pub fn lowered_at(inner: &[u32; 512], n: Node) -> Lowered
     Lowered { node: n, step }
 }
 
-// The first half of advancing a node by step `e`: to lo while the node is inner and its step is below `e`. Mostly it is not, and
-// no entry is read. On the way down each entry is read once: it has the step and the lo.
-pub fn descend_to(inner: &[u32; 512], e: Step, from: Lowered) -> Lowered
+// The first half of advancing a node by group `e`: to lo while the node is inner and its group is below `e`. Mostly it is not, and
+// no entry is read. On the way down each entry is read once: it has the group and the lo.
+pub fn descend_to(inner: &[u32; 512], e: Group, from: Lowered) -> Lowered
     requires { ⌜
         (let t = nodesIn (now inner) in
         Marked (t .step) × Falls (t .lo) (from .node .0) × (e .0 ≤ MARK) × Tests (t .step) from)
@@ -57,8 +57,8 @@ pub fn descend_to(inner: &[u32; 512], e: Step, from: Lowered) -> Lowered
     }
 }
 
-// The second half: to hi where step `e` is the lowered node's own. Both halves together advance a node.
-pub fn branch(inner: &[u32; 512], e: Step, at: Lowered) -> Node
+// The second half: to hi where group `e` is the lowered node's own. Both halves together advance a node.
+pub fn branch(inner: &[u32; 512], e: Group, at: Lowered) -> Node
     requires { ⌜
         (let t = nodesIn (now inner) in
         Marked (t .step) × (at .node .0 < 512) × (e .0 < MARK) × Tests (t .step) at)

@@ -24,7 +24,7 @@ use Rattle.sweep_model.specs.Model.{Rows, costAt, countAt, offer, relaxStep, re
 use Rattle.sweep_model.specs.Rows.{Entry, entry-low}
 use Rattle.sweep_model.specs.Offers.{pair-fits, roomy, place-fits}
 use Rattle.sweep_model.specs.Sweeps.{step-made}
-use Rattle.checks.specs.Ready.{Walk, walk, graphIn, automatonIn, count-is, width-is, lawful-in, few-stages, few-nodes, few-steps, to-at, cost-at, first-leave, row-start}
+use Rattle.checks.specs.Ready.{Walk, walk, graphIn, automatonIn, count-is, width-is, lawful-in, few-stages, few-nodes, few-steps, to-at, cost-at, group-at, first-leave, first-order, row-start}
 use Rattle.checks.specs.Tables.{Read, Tables, chartIn, diagramIn}
 use Rattle.definitions.specs.declared.Shape.{Shape}
 use Rattle.sweep_offers.specs.Offers.{Open, Offering, stepped}
@@ -38,7 +38,8 @@ pub record Walking (z : Shape) (on : Walk) (s n v begin until : ℕ) (r₀ r : R
   pub same : relaxSteps (graphIn z (on .read)) (automatonIn z (on .read)) n v begin (until - begin) r₀
       ≡ relaxSteps (graphIn z (on .read)) (automatonIn z (on .read)) n v e (until - e) r
   pub later : begin ≤ e
-  pub carried : (f : ℕ) → e ≤ f → advance (diagramIn z (on .read)) f m ≡ advance (diagramIn z (on .read)) f n
+  pub carried : (f : ℕ) → e ≤ f → f < until
+      → advance (diagramIn z (on .read)) (graphIn z (on .read) .group f) m ≡ advance (diagramIn z (on .read)) (graphIn z (on .read) .group f) n
   pub down : m ≤ n
 
 module _ {z : Shape} {on : Walk} {s n v begin until : ℕ} {r₀ r : Rows} {e m : ℕ} (w : Walking z on s n v begin until r₀ r e m) where
@@ -82,6 +83,17 @@ module _ {z : Shape} {on : Walk} {s n v begin until : ℕ} {r₀ r : Rows} {e m 
 
     pub walk-step : e < 1024
     walk-step = omega (arith, leaving .0, few-steps z (on .read) (standing .ready .tables))
+
+    exist : (f : ℕ) → f < until → f < g .count
+    exist f h = omega (arith, w .ends, first-order z on (standing .ready) s (standing .stage) .1, count-is z (on .read) tables)
+
+    -- the group k of step e, by which the node is advanced
+    module _ {k : ℕ} (ek : k ≡ getD (on .read .steps .group) e 0) where
+      key-is : k ≡ g .group e
+      key-is = ek ∙ group-at z (on .read) tables e (leaving .0)
+
+      pub walk-key : k < 1024
+      walk-key = omega (arith, key-is, tables .valid .few-groups e (exist e more))
 
     -- one step e out of the stage, to node t
     module _ (t : ℕ) (et : t ≡ a .next e n) where
@@ -167,28 +179,33 @@ module _ {z : Shape} {on : Walk} {s n v begin until : ℕ} {r₀ r : Rows} {e m 
             low = standing .low;
           }
 
-    module _ {m′ : ℕ} (x : Lowers (on .read .inner .step) (on .read .inner .lo) e m m′) where
-      lowered-is : m′ ≡ lowered d e m
+    module _ {k m′ : ℕ} (ek : k ≡ getD (on .read .steps .group) e 0) (x : Lowers (on .read .inner .step) (on .read .inner .lo) k m m′) where
+      lowered-is : m′ ≡ lowered d k m
       lowered-is = x .is d (on .read .inner .hi) (standing .ready .tables .held) small
 
-      carried-on : (f : ℕ) → e ≤ f → advance d f m′ ≡ advance d f n
-      carried-on f h = ap (advance d f) lowered-is ∙ advance-lowered d (standing .ready .tables .held .ordered) e f m h ∙ w .carried f h
+      carried-on : (f : ℕ) → e ≤ f → f < until → advance d (g .group f) m′ ≡ advance d (g .group f) n
+      carried-on f h l =
+          ap (advance d (g .group f)) lowered-is
+          ∙ advance-lowered d (standing .ready .tables .held .ordered) k (g .group f) m (omega (arith, key-is ek, tables .valid .grouped e f h (exist f l)))
+          ∙ w .carried f h l
 
       -- node 0 offers nothing, by no step
-      dead : (k f : ℕ) → e ≤ f → m′ ≡ 0 → (r : Rows) → relaxSteps g a n v f k r ≡ r
+      dead : (c f : ℕ) → e ≤ f → f + c ≤ until → m′ ≡ 0 → (r : Rows) → relaxSteps g a n v f c r ≡ r
       unfolding relaxSteps relaxStep
-      dead zero f h q r = refl
-      dead (suc k) f h q r =
-          let none : a .next f n ≡ 0 = next-is (chartIn z (on .read)) d f n ∙ sym (carried-on f h) ∙ ap (advance d f) q ∙ advance-leaf d (standing .ready .tables .held .ordered) f 0 (omega arith) in
-          ap (relaxSteps g a n v (suc f) k) (pick-true _ _ _ (eq-eqb _ 0 none)) ∙ dead k (suc f) (omega arith) q r
+      dead zero f h l q r = refl
+      dead (suc c) f h l q r =
+          let none : a .next f n ≡ 0 = next-is (chartIn z (on .read)) d f n ∙ sym (carried-on f h (omega arith)) ∙ ap (advance d (g .group f)) q
+          ∙ advance-leaf d (standing .ready .tables .held .ordered) (g .group f) 0 (omega arith) in
+          ap (relaxSteps g a n v (suc f) c) (pick-true _ _ _ (eq-eqb _ 0 none)) ∙ dead c (suc f) (omega arith) (omega arith) q r
 
       pub walk-dead : m′ ≡ 0 → r ≡ relaxSteps g a n v begin (until - begin) r₀
-      walk-dead q = sym (w .same ∙ dead (until - e) e (omega arith) q r)
+      walk-dead q = sym (w .same ∙ dead (until - e) e (omega arith) (omega arith) q r)
 
-      module _ {t : ℕ} (y : BranchesTo (on .read .inner .step) (on .read .inner .hi) e m′ t) where
+      module _ {t : ℕ} (y : BranchesTo (on .read .inner .step) (on .read .inner .hi) k m′ t) where
         advanced-is : t ≡ a .next e n
         advanced-is =
-            y (on .read .inner .lo) m x .is d (standing .ready .tables .held) small ∙ w .carried e (omega arith) ∙ sym (next-is (chartIn z (on .read)) d e n)
+            y (on .read .inner .lo) m x .is d (standing .ready .tables .held) small ∙ ap (λ (i : ℕ). advance d i m) (key-is ek) ∙ w .carried e (omega arith) more
+            ∙ sym (next-is (chartIn z (on .read)) d e n)
 
         pub walk-offering : Offering (on .read .steps) row e n v t r
         walk-offering = offering t advanced-is
@@ -206,7 +223,7 @@ module _ {z : Shape} {on : Walk} {s n v begin until : ℕ} {r₀ r : Rows} {e m 
               same = w .same ∙ ap (λ (i : ℕ). relaxSteps g a n v e i r) k
                   ∙ ap₂ (λ (i : ℕ) (l : Rows). relaxSteps g a n v i (until - (e + 1)) l) j (sym p);
               later = omega (arith, w .later);
-              carried = λ f h. carried-on f (omega arith);
+              carried = λ f h l. carried-on f (omega arith) l;
               down = omega (arith, w .down, x .below);
             }
 
@@ -225,6 +242,6 @@ module _ {t : Read} {row : List ℕ} {n v begin until : ℕ} {r : Rows} (x : Sta
     standing = x .standing;
     same = refl;
     later = omega arith;
-    carried = λ f h. ap (advance (diagramIn (x .z) t) f) q;
+    carried = λ f h l. ap (advance (diagramIn (x .z) t) (graphIn (x .z) t .group f)) q;
     down = omega (arith, q);
   }

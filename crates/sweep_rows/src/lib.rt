@@ -5,6 +5,8 @@ ghost use Rattle.sweep_model.specs.Model.{rows, relaxSteps, relaxNodes, relaxRo
 ghost use Rattle.checks.specs.Tables.{read};
 ghost use Rattle.checks.specs.Ready.{walk, graphIn, automatonIn};
 ghost use Rattle.sweep_rows.specs.Standing.{Stands, Row, InRow, at};
+use chart_fields::ENDS;
+use chart_fields::group_at;
 use convert::wide;
 use definitions::Node;
 use definitions::Shape;
@@ -51,11 +53,12 @@ fn relax_node<'a>(
     let end = leaving.until.0;
     while next < end {
         let e = Step(next);
-        m = descend_to(inner, e, m);
+        let key = group_at(&steps[ENDS], next as usize);
+        m = descend_to(inner, key, m);
         if m.node.0 == 0 {
             return;
         }
-        let t = branch(inner, e, m);
+        let t = branch(inner, key, m);
         relax_step(costs, via, nodes, counts, steps, row, e, n, v, t);
         next += 1;
     }

@@ -8,7 +8,7 @@ use Rattle.checks.specs.Ready.{walk}
 use Rattle.nodes.specs.Walks.{Tests}
 use Rattle.sweep_model.specs.Model.{rows}
 use Rattle.sweep_rows.specs.Standing.{Stands}
-use Rattle.sweep_rows.proofs.Walking.{Walking, walk-node, walk-start, walk-step, walk-marked, walk-falls, walk-dead, walk-offering, walk-more, walk-done}
+use Rattle.sweep_rows.proofs.Walking.{Walking, walk-node, walk-start, walk-step, walk-key, walk-marked, walk-falls, walk-dead, walk-offering, walk-more, walk-done}
 use borrow.Author.Needs.{needs}
 use Rattle.sweep_rows.proofs.relax_node.Statement.{statement}
 use Rattle.sweep_rows.proofs.relax_node.Tie as tie
@@ -36,13 +36,27 @@ loop-holds c =
     let at = begun .lowered-at .ensures in
     ((λ x. walk-start x (at .0)), refl, refl, refl, at .1)
 
+index-1-group-at : tie.Need-index-1-group-at Inv-loop μ-loop
+index-1-group-at c = search needs
+
+cast-group-at : tie.Need-cast-group-at Inv-loop μ-loop
+cast-group-at c = search needs
+
+group-at-requires : tie.Need-group-at-requires Inv-loop μ-loop
+group-at-requires c κs =
+    let turn : tie.In-loop Inv-loop μ-loop = search in
+    let head : tie.At-loop Inv-loop μ-loop = search in
+    let start : tie.Start Inv-loop μ-loop = search in
+    walk-step (head .loop .inv .0 (start .pre)) (turn .loop-test .taken)
+
 descend-to-requires : tie.Need-descend-to-requires Inv-loop μ-loop
 descend-to-requires c κs =
+    let named : tie.After-group-at Inv-loop μ-loop = search in
     let turn : tie.In-loop Inv-loop μ-loop = search in
     let head : tie.At-loop Inv-loop μ-loop = search in
     let start : tie.Start Inv-loop μ-loop = search in
     let w = head .loop .inv .0 (start .pre) in
-    (walk-marked w, walk-falls w _ (omega arith), omega (arith, walk-step w (turn .loop-test .taken)), head .loop .inv .4)
+    (walk-marked w, walk-falls w _ (omega arith), omega (arith, walk-key w (turn .loop-test .taken) (named .group-at .ensures)), head .loop .inv .4)
 
 same-length : tie.Need-same-length Inv-loop μ-loop
 same-length c =
@@ -61,29 +75,32 @@ same-length-3 c =
 
 returns : tie.Need-returns Inv-loop μ-loop
 returns c =
+    let named : tie.After-group-at Inv-loop μ-loop = search in
     let low : tie.After-descend-to Inv-loop μ-loop = search in
     let turn : tie.In-loop Inv-loop μ-loop = search in
     let head : tie.At-loop Inv-loop μ-loop = search in
-    λ x. walk-dead (head .loop .inv .0 x) (turn .loop-test .taken) (low .descend-to .ensures .0) (c .if1 .taken)
+    λ x. walk-dead (head .loop .inv .0 x) (turn .loop-test .taken) (named .group-at .ensures) (low .descend-to .ensures .0) (c .if1 .taken)
 
 branch-requires : tie.Need-branch-requires Inv-loop μ-loop
 branch-requires c κs =
+    let named : tie.After-group-at Inv-loop μ-loop = search in
     let low : tie.After-descend-to Inv-loop μ-loop = search in
     let turn : tie.In-loop Inv-loop μ-loop = search in
     let head : tie.At-loop Inv-loop μ-loop = search in
     let start : tie.Start Inv-loop μ-loop = search in
     let w = head .loop .inv .0 (start .pre) in
-    (walk-marked w, walk-falls w _ (low .descend-to .ensures .0 .below) .inside, omega (arith, walk-step w (turn .loop-test .taken)), low .descend-to .ensures .1)
+    (walk-marked w, walk-falls w _ (low .descend-to .ensures .0 .below) .inside, omega (arith, walk-key w (turn .loop-test .taken) (named .group-at .ensures)), low .descend-to .ensures .1)
 
 relax-step-requires : tie.Need-relax-step-requires Inv-loop μ-loop
 relax-step-requires c κs =
+    let named : tie.After-group-at Inv-loop μ-loop = search in
     let led : tie.After-branch Inv-loop μ-loop = search in
     let low : tie.After-descend-to Inv-loop μ-loop = search in
     let turn : tie.In-loop Inv-loop μ-loop = search in
     let head : tie.At-loop Inv-loop μ-loop = search in
     let start : tie.Start Inv-loop μ-loop = search in
     let w = head .loop .inv .0 (start .pre) in
-    walk-offering w (turn .loop-test .taken) (low .descend-to .ensures .0) (led .branch .ensures)
+    walk-offering w (turn .loop-test .taken) (named .group-at .ensures) (low .descend-to .ensures .0) (led .branch .ensures)
 
 add-next : tie.Need-add-next Inv-loop μ-loop
 add-next c =
@@ -99,11 +116,12 @@ loop-less c = search needs
 loop-again : tie.Need-loop-again Inv-loop μ-loop
 loop-again c =
     let done : tie.After-relax-step Inv-loop μ-loop = search in
+    let named : tie.After-group-at Inv-loop μ-loop = search in
     let led : tie.After-branch Inv-loop μ-loop = search in
     let low : tie.After-descend-to Inv-loop μ-loop = search in
     let turn : tie.In-loop Inv-loop μ-loop = search in
     let head : tie.At-loop Inv-loop μ-loop = search in (
-      (λ x. walk-more (head .loop .inv .0 x) (turn .loop-test .taken) (low .descend-to .ensures .0) (led .branch .ensures) _ (done .relax-step .ensures)),
+      (λ x. walk-more (head .loop .inv .0 x) (turn .loop-test .taken) (named .group-at .ensures) (low .descend-to .ensures .0) (led .branch .ensures) _ (done .relax-step .ensures)),
       omega (arith, head .loop .inv .1, done .relax-step .kept .0),
       omega (arith, head .loop .inv .2, done .relax-step .kept .1 .0),
       omega (arith, head .loop .inv .3, done .relax-step .kept .1 .1 .0),
@@ -138,6 +156,9 @@ relax-node-spec =
     μ-loop
     lowered-at-requires
     loop-holds
+    index-1-group-at
+    cast-group-at
+    group-at-requires
     descend-to-requires
     same-length
     same-length-2

@@ -74,12 +74,29 @@ loop-holds c =
     let at = begun .lowered-at .ensures in
     ((λ x. walk-start x (at .0)), settles-order (start .pre), refl, refl, refl, refl, refl, at .1)
 
-descend-to-requires : tie.Need-descend-to-requires Inv-loop μ-loop
-descend-to-requires c κs =
+index-1-group-at : tie.Need-index-1-group-at Inv-loop μ-loop
+index-1-group-at c = search needs
+
+cast-group-at : tie.Need-cast-group-at Inv-loop μ-loop
+cast-group-at c =
+    let turn : tie.In-loop Inv-loop μ-loop = search in
+    let head : tie.At-loop Inv-loop μ-loop = search in
+    omega (arith, walk-step (head .loop .inv .0 (start-of head .pre)) (turn .loop-test .taken))
+
+group-at-requires : tie.Need-group-at-requires Inv-loop μ-loop
+group-at-requires c κs =
     let turn : tie.In-loop Inv-loop μ-loop = search in
     let head : tie.At-loop Inv-loop μ-loop = search in
     let start : tie.Start Inv-loop μ-loop = search in
-    let w = walk-falls (head .loop .inv .0 (start .pre)) (turn .loop-test .taken) in
+    walk-step (head .loop .inv .0 (start .pre)) (turn .loop-test .taken)
+
+descend-to-requires : tie.Need-descend-to-requires Inv-loop μ-loop
+descend-to-requires c κs =
+    let named : tie.After-group-at Inv-loop μ-loop = search in
+    let turn : tie.In-loop Inv-loop μ-loop = search in
+    let head : tie.At-loop Inv-loop μ-loop = search in
+    let start = start-of head in
+    let w = walk-falls (head .loop .inv .0 (start .pre)) (turn .loop-test .taken) (named .group-at .ensures) in
     (w .0, w .1, w .2, head .loop .inv .7)
 
 same-length : tie.Need-same-length Inv-loop μ-loop
@@ -109,28 +126,31 @@ same-length-5 c =
 
 returns : tie.Need-returns Inv-loop μ-loop
 returns c =
+    let named : tie.After-group-at Inv-loop μ-loop = search in
     let low : tie.After-descend-to Inv-loop μ-loop = search in
     let turn : tie.In-loop Inv-loop μ-loop = search in
     let head : tie.At-loop Inv-loop μ-loop = search in
-    λ x. walk-dead (head .loop .inv .0 x) (turn .loop-test .taken) (low .descend-to .ensures .0) (c .if1 .taken)
+    λ x. walk-dead (head .loop .inv .0 x) (turn .loop-test .taken) (named .group-at .ensures) (low .descend-to .ensures .0) (c .if1 .taken)
 
 branch-requires : tie.Need-branch-requires Inv-loop μ-loop
 branch-requires c κs =
+    let named : tie.After-group-at Inv-loop μ-loop = search in
     let low : tie.After-descend-to Inv-loop μ-loop = search in
     let turn : tie.In-loop Inv-loop μ-loop = search in
     let head : tie.At-loop Inv-loop μ-loop = search in
     let start = start-of head in
-    let w = walk-branches (head .loop .inv .0 (start .pre)) (turn .loop-test .taken) (low .descend-to .ensures .0) in
+    let w = walk-branches (head .loop .inv .0 (start .pre)) (turn .loop-test .taken) (named .group-at .ensures) (low .descend-to .ensures .0) in
     (w .0, w .1, w .2, low .descend-to .ensures .1)
 
 offer-requires : tie.Need-offer-requires Inv-loop μ-loop
 offer-requires c κs =
+    let named : tie.After-group-at Inv-loop μ-loop = search in
     let led : tie.After-branch Inv-loop μ-loop = search in
     let low : tie.After-descend-to Inv-loop μ-loop = search in
     let turn : tie.In-loop Inv-loop μ-loop = search in
     let head : tie.At-loop Inv-loop μ-loop = search in
     let start = start-of head in
-    walk-leading (head .loop .inv .0 (start .pre)) (turn .loop-test .taken) (low .descend-to .ensures .0) (led .branch .ensures)
+    walk-leading (head .loop .inv .0 (start .pre)) (turn .loop-test .taken) (named .group-at .ensures) (low .descend-to .ensures .0) (led .branch .ensures)
 
 add-e : tie.Need-add-e Inv-loop μ-loop
 add-e c =
@@ -144,6 +164,7 @@ loop-less c = search needs
 
 loop-again : tie.Need-loop-again Inv-loop μ-loop
 loop-again c =
+    let named : tie.After-group-at Inv-loop μ-loop = search in
     let done : tie.After-offer Inv-loop μ-loop = search in
     let led : tie.After-branch Inv-loop μ-loop = search in
     let low : tie.After-descend-to Inv-loop μ-loop = search in
@@ -152,8 +173,8 @@ loop-again c =
     let w = head .loop .inv .0 in
     let kept = done .offer .kept in (
       (λ x.
-          let led-to = walk-leading (w x) (turn .loop-test .taken) (low .descend-to .ensures .0) (led .branch .ensures) in
-          walk-more (w x) (turn .loop-test .taken) (low .descend-to .ensures .0) (led .branch .ensures) (kept .1 .0) (done .offer .ensures led-to)),
+          let led-to = walk-leading (w x) (turn .loop-test .taken) (named .group-at .ensures) (low .descend-to .ensures .0) (led .branch .ensures) in
+          walk-more (w x) (turn .loop-test .taken) (named .group-at .ensures) (low .descend-to .ensures .0) (led .branch .ensures) (kept .1 .0) (done .offer .ensures led-to)),
       omega (arith, turn .loop-test .taken),
       omega (arith, head .loop .inv .2, kept .0),
       omega (arith, head .loop .inv .3, kept .1 .0),
@@ -207,6 +228,9 @@ settle-spec =
     mul-e
     element-copy-out-e
     loop-holds
+    index-1-group-at
+    cast-group-at
+    group-at-requires
     descend-to-requires
     same-length
     same-length-2
