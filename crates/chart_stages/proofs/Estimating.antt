@@ -13,8 +13,9 @@ use Rattle.chart.specs.Tables.{Steps, chartIn}
 use Rattle.chart.specs.Held.{held-count, held-to, held-cost}
 use Rattle.chart_stages.specs.FirstSteps.{Firsts, first-leaves, first-rises, first-inside}
 use Rattle.chart_stages.specs.HeldGraph.{held-firsts}
-use Rattle.chart_stages.specs.Estimates.{EstimateTable, WayFrom, WayBy, Shows, Told, told-start, told-turn, told-is, by-none, by-turn, by-all}
+use Rattle.chart_stages.specs.Estimates.{EstimateTable, WayFrom, WayBy, Told, told-start, told-turn, told-is, by-none, by-turn, by-all}
 use Rattle.chart_stages.specs.Leaving.{Staged, Leaving}
+use Rattle.theory.specs.Least.{Shows}
 
 -- ---- the steps that leave a stage
 

@@ -19,7 +19,7 @@ use Rattle.definitions.specs.Plans.{chartEstimate}
 use Rattle.definitions.specs.Promises.{shown}
 use Rattle.theory.specs.Limits.{Valid}
 use Rattle.theory.specs.Basics.{same-or-not}
-use Rattle.theory.specs.Least.{IsLeast, More, least-of, least-unique, least-same, least-either, least-more}
+use Rattle.theory.specs.Least.{IsLeast, More, least-of, least-unique, least-either, least-more, Shows, shows-same}
 use Rattle.theory.specs.Ways.{way-climbs, way-cheap, step-cheap, leastWay-lower, leastWay-attained}
 use Rattle.chart_stages.specs.FirstSteps.{firstStep, leaves-first}
 
@@ -43,10 +43,6 @@ pub record WayBy (g : Graph) (e s m : ℕ) : Type 0 where
   pub leaves : g .from step ≡ s
   pub rest : More (g .cost step) (WayFrom g (g .to step)) m
 
--- v shows the least of the numbers with P
-abbrev pub Shows : (ℕ → Type 0) → ℕ → Type 0
-Shows P v = (o : Option ℕ) × IsLeast P o × (v ≡ shown o)
-
 -- the entry of each stage from s on shows the least cost of its ways to the end
 pub record Told (g : Graph) (s : ℕ) (estimates : List ℕ) : Type 0 where
   pub at : (t : ℕ) → s ≤ t → t < 256 → Shows (WayFrom g t) (getD estimates t 0)
@@ -67,9 +63,6 @@ module _ (P Q : ℕ → Type 0) (few : (m : ℕ) → Q m → m ≤ 510000000) (c
     least-either P (More c Q) (p .0) (sumOf (some c) (q .0)) (p .1) (least-more c Q (q .0) (q .1)),
     smaller-shown (p .0) (q .0) known rest r (q .1) (p .2) (q .2) h l,
   )
-
-shows-same : (P Q : ℕ → Type 0) (v : ℕ) → ((m : ℕ) → P m → Q m) → ((m : ℕ) → Q m → P m) → Shows P v → Shows Q v
-shows-same P Q v f h s = (s .0, least-same P Q (s .0) f h (s .1), s .2)
 
 module _ (g : Graph) (v : Valid g) where
   -- such a way costs at most 510,000,000

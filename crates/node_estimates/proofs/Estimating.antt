@@ -1,6 +1,7 @@
 -- The loop of `fill_diagram_estimates`: its invariant, with one law for each way on.
 use Prim.Native.Nat.{ℕ, zero, suc, _+_, _*_, _≤_, _<_, min}
-use mathlib.Core.Path.{_≡_, _∙_, subst}
+use mathlib.Core.Path.{_≡_, refl, _∙_, subst}
+use mathlib.Core.Logic.{_⊎_}
 use mathlib.Core.List.{List}
 use mathlib.Core.Option.{Option, none, some}
 use lib.ListN.{length, getD, set, length-set}
@@ -8,9 +9,11 @@ use lib.Seq.{getD-set-same, getD-set-other}
 use native.Mathlib.Omega.{arith}
 use borrow.Author.Count.{below-more}
 use Rattle.definitions.specs.Basics.{NONE, smaller, sumOf}
-use Rattle.definitions.specs.Charts.{Chart}
+use Rattle.definitions.specs.Charts.{Chart, groupCount}
 use Rattle.definitions.specs.Diagrams.{Diagram, size, inner}
 use Rattle.theory.specs.Limits.{Ordered, Sound}
+use Rattle.theory.specs.Limits as limits
+use Rattle.theory.specs.Variables.{variableCost-cheap}
 use Rattle.definitions.specs.Plans.{diagramEstimate}
 use Rattle.definitions.specs.Promises.{shown}
 use Rattle.theory.specs.Basics.{either, lt-or-le}
@@ -35,16 +38,28 @@ shows-is n v none s = s
 shows-is n v (some m) s = s .0
 
 -- what is joined of two nodes below n
-module _ (k low high r i j n : ℕ) (join : r ≡ min low (high + k)) (cheap : k ≤ 1000000) (li : i < n) (lj : j < n) (few : n < 512) where
+module _ (k low high r i j n : ℕ) (join : r ≡ min low (high + k)) (cheap : (k ≤ 1000000) ⊎ (k ≡ NONE)) (li : i < n) (lj : j < n) (few : n < 512) where
   joined-small : Small i low → Small j high → Small n r
-  joined-small si sj g = either (lt-or-le low (high + k)) (λ q. omega (arith, join, si (omega (arith, join)))) (λ q. omega (arith, join, sj (omega (arith, join))))
+  joined-small si sj g =
+      either (lt-or-le low (high + k)) (λ q. omega (arith, join, si (omega (arith, join))))
+      (λ q. either cheap (λ c. omega (arith, join, sj (omega (arith, join)))) (λ c. absurd (omega (arith, join))))
 
-  joined-shows : (l h : Option ℕ) → Shows i low l → Shows j high h → Shows n r (smaller l (sumOf (some k) h))
+  -- a group without steps adds nothing
+  joined-none : (l h : Option ℕ) → Shows i low l → k ≡ NONE → Shows n r (smaller l (sumOf none h))
   unfolding smaller sumOf
-  joined-shows none none sl sh = omega (arith, join)
-  joined-shows (some x) none sl sh = omega (arith, join)
-  joined-shows none (some y) sl sh = omega (arith, join)
-  joined-shows (some x) (some y) sl sh = omega (arith, join)
+  joined-none none h sl q = omega (arith, join)
+  joined-none (some x) h sl q = omega (arith, join)
+
+  joined-some : (l h : Option ℕ) → Shows i low l → Shows j high h → k ≤ 1000000 → Shows n r (smaller l (sumOf (some k) h))
+  unfolding smaller sumOf
+  joined-some none none sl sh c = omega (arith, join)
+  joined-some (some x) none sl sh c = omega (arith, join)
+  joined-some none (some y) sl sh c = omega (arith, join)
+  joined-some (some x) (some y) sl sh c = omega (arith, join)
+
+  joined-shows : (l h p : Option ℕ) → Shows i low l → Shows j high h → k ≡ shown p → ((m : ℕ) → p ≡ some m → m ≤ 1000000) → Shows n r (smaller l (sumOf p h))
+  joined-shows l h none sl sh q few = joined-none l h sl q
+  joined-shows l h (some m) sl sh q few = subst (λ (x : ℕ). Shows n r (smaller l (sumOf (some x) h))) q (joined-some l h sl sh (omega (arith, few m refl)))
 
 -- the entries of the nodes below n are right
 pub record Estimating (step lo hi cost : List ℕ) (count : ℕ) (r : List ℕ) (n : ℕ) : Type 0 where
@@ -52,7 +67,7 @@ pub record Estimating (step lo hi cost : List ℕ) (count : ℕ) (r : List ℕ) 
   pub few : n ≤ count + 2
   pub inner : 2 ≤ n
   pub small : (k : ℕ) → k < n → Small k (getD r k 0)
-  pub shows : (c : Chart) (d : Diagram) → Costs c cost → Held d step lo hi → Sound (length (c .steps)) d → length (d .nodes) ≤ count
+  pub shows : (c : Chart) (d : Diagram) → limits.Small c × Costs c cost → Held d step lo hi → Sound (groupCount c) d → length (d .nodes) ≤ count
       → (k : ℕ) → k < n → k < size d → Shows k (getD r k 0) (diagramEstimate c d k)
 
 module _ (step lo hi cost : List ℕ) (count : ℕ) where
@@ -119,7 +134,7 @@ module _ (step lo hi cost : List ℕ) (count : ℕ) where
         hi-less : getD hi n 0 < n
         hi-less = child-below hi count n his (found .inner) l
 
-        new-shows : (c : Chart) (d : Diagram) → Costs c cost → Held d step lo hi → Sound (length (c .steps)) d → length (d .nodes) ≤ count
+        new-shows : (c : Chart) (d : Diagram) → limits.Small c × Costs c cost → Held d step lo hi → Sound (groupCount c) d → length (d .nodes) ≤ count
             → n < size d → Shows n v (diagramEstimate c d n)
         new-shows c d p h s f i =
             rw (
@@ -127,11 +142,11 @@ module _ (step lo hi cost : List ℕ) (count : ℕ) where
               held-lo d step lo hi h n (found .inner) i,
               held-hi d step lo hi h n (found .inner) i,
               held-step d step lo hi h n (found .inner) i,
-              p (getD step n 0) (omega (arith, s .exist n (found .inner) i, held-step d step lo hi h n (found .inner) i)),
             )
             (joined-shows (getD cost (getD step n 0) 0) _ _ v (getD lo n 0) (getD hi n 0) n join (priced .cheap n (found .inner) l) lo-less hi-less
-            (omega (arith, los .inside)) _ _
-            (found .shows c d p h s f (getD lo n 0) lo-less (omega (arith, lo-less))) (found .shows c d p h s f (getD hi n 0) hi-less (omega (arith, hi-less))))
+            (omega (arith, los .inside)) _ _ _
+            (found .shows c d p h s f (getD lo n 0) lo-less (omega (arith, lo-less))) (found .shows c d p h s f (getD hi n 0) hi-less (omega (arith, hi-less)))
+            (p .1 (getD step n 0) (omega (arith, s .exist n (found .inner) i, held-step d step lo hi h n (found .inner) i))) (variableCost-cheap c (getD step n 0) (p .0)))
 
         pub estimating-next : Estimating step lo hi cost count (set r n v) (n + 1)
         estimating-next = record {

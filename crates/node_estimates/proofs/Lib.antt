@@ -1,1 +1,2 @@
 mod Estimating
+mod Pricing

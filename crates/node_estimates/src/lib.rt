@@ -1,16 +1,23 @@
-// The diagram estimates of the nodes of a rule diagram that stands in a table.
+// The diagram estimates of the nodes of a rule diagram that stands in a table, and what the groups of a chart cost.
 ghost use mathlib.Core.Path.{_≡_};
 ghost use Prim.Native.Nat.{_+_, _<_, min};
-ghost use lib.ListN.{length, getD};
+ghost use lib.ListN.{length, getD, replicate};
+ghost use Rattle.definitions.specs.Basics.{NONE};
+ghost use Rattle.definitions.specs.Plans.{graph};
+ghost use Rattle.theory.specs.Limits.{Small, Valid};
+ghost use Rattle.chart.specs.Tables.{stepsIn, chartIn};
 ghost use Rattle.diagram_fields.specs.Words.{nodesIn};
 ghost use Rattle.nodes.specs.Walks.{Falls};
-ghost use Rattle.node_estimates.specs.Estimates.{Priced, Estimated};
+ghost use Rattle.node_estimates.specs.Estimates.{Priced, Costs, Estimated};
+use chart_fields::COST;
+use chart_fields::ENDS;
+use chart_fields::group_at;
 use convert::lesser;
 use convert::wide;
+use definitions::Group;
 use definitions::NONE;
 use definitions::Node;
 use definitions::Shape;
-use definitions::Step;
 use diagram_fields::hi_at;
 use diagram_fields::lo_at;
 use diagram_fields::step_at;
@@ -24,11 +31,12 @@ fn join(low: u32, high: u32, cost: u32) -> u32
     lesser(wide(low), through) as u32
 }
 
-// An inner node's estimate: the smaller of that at lo and that at hi with the cost of its step.
+// An inner node's estimate: the smaller of that at lo and that at hi with the cost of its group. A group that is never present
+// costs NONE, so that its hi is ignored.
 fn inner_estimate<'a>(
     estimates: &'a [u32; 512],
     cost: &'a [u32; 1024],
-    e: Step,
+    e: Group,
     lo: Node,
     hi: Node,
 ) -> u32
@@ -43,7 +51,7 @@ fn inner_estimate<'a>(
     join(low, high, cost[e.0 as usize])
 }
 
-// Fills the table: the estimate of each node of a diagram that stands in the tables, from node 0 up.
+// Fills the table: the estimate of each node of a diagram that stands in the tables, from node 0 up, by what each group costs.
 pub fn fill_diagram_estimates<'a>(
     estimates: &mut [u32; 512],
     z: Shape,
@@ -67,6 +75,28 @@ pub fn fill_diagram_estimates<'a>(
         let e = step_at(inner, n);
         let lo = lo_at(inner, n);
         let hi = hi_at(inner, n);
-        estimates[n] = inner_estimate(estimates, cost, Step(e), Node(lo), Node(hi));
+        estimates[n] = inner_estimate(estimates, cost, Group(e), Node(lo), Node(hi));
+    }
+}
+
+// The smaller of two costs.
+fn cheaper(a: u32, b: u32) -> u32
+    ensures { λ r. ⌜ r ≡ min a b ⌝ }
+{
+    if a <= b {
+        return a;
+    }
+    b
+}
+
+// Fills the table, which is NONE at first: for each group the smallest cost among its steps.
+pub fn fill_prices(price: &mut [u32; 1024], z: Shape, steps: &[[u32; 1024]; 2])
+    requires { ⌜ now price ≡ replicate 1024 NONE ⌝ }
+    requires { ⌜ (let c = chartIn z (stepsIn (now steps)) in Valid (graph c) × Small c) ⌝ }
+    ensures { λ _. ⌜ Costs (chartIn z (stepsIn (now (steps .entry)))) (now (price .exit)) ⌝ }
+{
+    for e in 0..z.steps {
+        let k = group_at(&steps[ENDS], e).0 as usize;
+        price[k] = cheaper(price[k], steps[COST][e]);
     }
 }

@@ -6,6 +6,7 @@ use mathlib.Core.Logic.{_⊎_, inl, inr}
 use mathlib.Core.Option.{Option, none, some}
 use native.Mathlib.Omega.{arith}
 use Rattle.definitions.specs.Basics.{smaller, sumOf}
+use Rattle.definitions.specs.Promises.{shown}
 use Rattle.theory.specs.Basics.{either, lt-or-le, AtMost, at-most, none-not-some}
 
 -- o is the least number with P: none where there is none
@@ -48,3 +49,10 @@ pub least-more : (c : ℕ) (P : ℕ → Type 0) (a : Option ℕ) → IsLeast P a
 unfolding sumOf
 least-more c P none h = λ k t. h (t .0) (t .1)
 least-more c P (some x) h = ((x, h .0, refl), λ k t. omega (arith, h .1 (t .0) (t .1)))
+
+-- v shows the least of the numbers with P
+abbrev pub Shows : (ℕ → Type 0) → ℕ → Type 0
+Shows P v = (o : Option ℕ) × IsLeast P o × (v ≡ shown o)
+
+pub shows-same : (P Q : ℕ → Type 0) (v : ℕ) → ((m : ℕ) → P m → Q m) → ((m : ℕ) → Q m → P m) → Shows P v → Shows Q v
+shows-same P Q v f h s = (s .0, least-same P Q (s .0) f h (s .1), s .2)

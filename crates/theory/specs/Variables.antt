@@ -1,7 +1,7 @@
 -- Laws of the diagram's variables: which one a step sets, how many there are, and what setting one costs. Nothing else looks into their definitions.
 -- Assumes nothing.
 use Prim.Native.Nat.{ℕ, zero, suc, _≤_, _<_}
-use mathlib.Core.Path.{_≡_, refl, ap}
+use mathlib.Core.Path.{_≡_, refl, sym, _∙_, ap}
 use mathlib.Core.List.{List, [], _∷_, map, Memᴰ·map, Memᴰ·of-map}
 use mathlib.Core.Option.{some}
 use native.Mathlib.Omega.{arith}
@@ -13,7 +13,7 @@ use Rattle.definitions.specs.Diagrams.{Diagram, advance}
 use Rattle.definitions.specs.Plans.{graph, automaton, variable, stepsOf, variableCost}
 use Rattle.theory.specs.Limits.{Small, Valid}
 use Rattle.theory.specs.Basics.{AtMost, keep-in, in-keep, run-in, in-run, least-lower, least-in}
-use Rattle.theory.specs.Least.{IsLeast, least-of}
+use Rattle.theory.specs.Least.{IsLeast, least-of, least-unique}
 
 -- a step sets the variable of its group
 pub variable-is : (c : Chart) (e : ℕ) → variable c e ≡ graph c .group e
@@ -94,3 +94,24 @@ module _ (c : Chart) (k : ℕ) where
 -- a step costs at least what setting its variable costs
 pub variableCost-at-most : (c : Chart) (e : ℕ) → e < graph c .count → AtMost (variableCost c (variable c e)) (graph c .cost e)
 variableCost-at-most c e h = rw (variable-is c e) (variableCost-lower c (graph c .group e) (graph c .cost e) (e, h, refl, refl))
+
+-- ---- a chart in which each step is a group alone
+
+module _ (c : Chart) (alone : (e : ℕ) → e < graph c .count → graph c .group e ≡ e) where
+  -- its groups are its steps
+  pub alone-groups : groupCount c ≡ graph c .count
+  unfolding groupCount
+  alone-groups = go (graph c .count) refl
+    where
+      within : above (map groupOf (c .steps)) ≤ graph c .count
+      within = groups-within (c .steps) (graph c .count) (λ e h. omega (arith, alone e h))
+
+      go : (n : ℕ) → graph c .count ≡ n → above (map groupOf (c .steps)) ≡ graph c .count
+      go zero h = omega (arith, within)
+      go (suc n) h = omega (arith, within, groups-below (c .steps) n (omega arith), alone n (omega arith))
+
+  -- and each costs what its step costs
+  pub alone-cost : (k : ℕ) → k < graph c .count → variableCost c k ≡ some (graph c .cost k)
+  alone-cost k h =
+      least-unique (SetAt c k) (variableCost c k) (some (graph c .cost k)) (variableCost-least c k)
+      ((k, h, alone k h, refl), λ m x. let q : x .0 ≡ k = sym (alone (x .0) (x .1)) ∙ x .2 in omega (arith, x .3, ap (graph c .cost) q))
