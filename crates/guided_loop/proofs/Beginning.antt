@@ -7,6 +7,7 @@ use mathlib.Core.List.{List}
 use native.Mathlib.Omega.{arith}
 use lib.ListN.{length, getD, set, drop, replicate, length-replicate, getD-replicate}
 use lib.Seq.{drop-set-lt}
+use Rattle.definitions.specs.Charts.{groupCount}
 use Rattle.definitions.specs.Basics.{NONE}
 use Rattle.definitions.specs.Ways.{Graph}
 use Rattle.definitions.specs.Pairs.{Automaton, stageOf, nodeOf}
@@ -19,7 +20,7 @@ use Rattle.queue.specs.declared.Counts.{Counts}
 use Rattle.queue.specs.Queue.{state, Contains, Queue, Empty, Inserting, Inserted}
 use Rattle.queue.proofs.Facts.{queue-empty, contains-none}
 use Rattle.checks.specs.Tables.{chartIn, diagramIn, Tables, pairsIn}
-use Rattle.checks.specs.Ready.{Walk, graphIn, automatonIn, width-is, sound-in, few-stages, few-nodes, row-start}
+use Rattle.checks.specs.Ready.{Walk, graphIn, automatonIn, width-is, few-stages, few-nodes, row-start}
 use Rattle.guided_model.specs.State.{Openable}
 use Rattle.guided_model.specs.Charts.{Running, running-start}
 use Rattle.guided_offers.specs.Estimates.{Estimates}
@@ -41,8 +42,8 @@ module _ {z : Shape} {on : Walk} {t : Estimates} (by : Guides z on t) where
   abbrev pub tables : Tables z (on .read)
   tables = by .ready .tables
 
-  pub sound : Sound (length (chartIn z (on .read) .steps)) (diagramIn z (on .read))
-  sound = sound-in z (on .read) tables
+  pub sound : Sound (groupCount (chartIn z (on .read))) (diagramIn z (on .read))
+  sound = tables .sound
 
   pub width : a .size ≡ z .nodes + 2
   width = width-is z (on .read) tables

@@ -5,17 +5,19 @@ use mathlib.Core.Path.{_≡_, refl, sym, _∙_, subst}
 use mathlib.Core.Bool.{false}
 use mathlib.Core.List.{List}
 use mathlib.Core.Option.{Option, none, some}
+use mathlib.Core.Logic.{_⊎_, inl, inr}
 use native.Mathlib.Omega.{arith}
+use native.Mathlib.Decide.{decLt}
 use lib.ListN.{length, getD}
 use Rattle.definitions.specs.Basics.{NONE, larger}
-use Rattle.definitions.specs.Charts.{Chart}
+use Rattle.definitions.specs.Charts.{Chart, noStep, plain, groupCount}
 use Rattle.definitions.specs.Diagrams.{Diagram, size}
 use Rattle.definitions.specs.Ways.{Graph}
 use Rattle.definitions.specs.Pairs.{Automaton}
 use Rattle.definitions.specs.Plans.{chartEstimate, diagramEstimate, estimate}
 use Rattle.definitions.specs.Promises.{shown}
 use Rattle.definitions.specs.declared.Shape.{Shape}
-use Rattle.theory.specs.Basics.{true-not-false}
+use Rattle.theory.specs.Basics.{either, true-not-false}
 use Rattle.theory.specs.Limits.{Sound}
 use Rattle.theory.specs.Estimates.{chart-bounded, diagram-bounded}
 use Rattle.chart_stages.specs.FirstSteps.{SortedTable, FirstTable}
@@ -26,8 +28,9 @@ use Rattle.nodes.specs.Walks.{Falls}
 use Rattle.nodes.specs.Falling.{lo-falls, hi-falls}
 use Rattle.node_estimates.specs.Estimates.{Priced, Costs}
 use Rattle.node_estimates.specs.Prices.{costs-of, priced}
+use Rattle.chart.specs.Held.{held-tag}
 use Rattle.checks.specs.Tables.{Read, chartIn, diagramIn, Tables}
-use Rattle.checks.specs.Ready.{Walk, graphIn, automatonIn, count-is, width-is, sound-in, few-stages, few-nodes, cost-at}
+use Rattle.checks.specs.Ready.{Walk, graphIn, automatonIn, count-is, width-is, few-stages, few-nodes, cost-at}
 use Rattle.guided_model.specs.State.{Guide}
 use Rattle.guided_model.specs.Guides.{guide, estimate-until}
 use Rattle.guided_model.specs.Bounds.{estimate-none, estimate-some}
@@ -61,24 +64,31 @@ module _ {z : Shape} {t : Read} (in-tables : Tables z t) where
   abbrev a : Automaton
   a = automatonIn z t
 
-  pub sound : Sound (length (C .steps)) D
-  sound = sound-in z t in-tables
+  pub sound : Sound (groupCount C) D
+  sound = in-tables .sound
 
   width : size D ≡ z .nodes + 2
   width = width-is z t in-tables
 
-  prices : Costs C (t .steps .cost)
-  prices = costs-of C (t .steps .cost) (λ k h. cost-at z t in-tables k (omega (arith, count-is z t in-tables)))
+  -- where the first step is not grouped, the column of costs has what each group costs
+  pub plain-costs : (k : ℕ) → k ≡ getD (t .steps .tag) 0 0 → (k ≡ 3 → ⊥) → Costs C (t .steps .cost)
+  plain-costs k ek n = costs-of C (t .steps .cost) (in-tables .kinds) (go (decLt 0 (z .steps))) (λ e h. cost-at z t in-tables e (omega (arith, count-is z t in-tables)))
+    where
+      go : Dec (0 < z .steps) → (getD (C .steps) 0 noStep .tag ≡ plain) ⊎ (g .count ≡ 0)
+      go (no h) = inr (omega (arith, count-is z t in-tables))
+      go (yes h) =
+          either (in-tables .kinds .tags 0 (omega (arith, count-is z t in-tables))) (λ q. inl q)
+          (λ q. absurd (n (ek ∙ sym (held-tag (z .steps) (t .steps) 0 h) ∙ q)))
 
   -- what the calls that fill tables ask
   pub run-lo : Falls (t .inner .lo) (z .nodes + 1)
   run-lo = lo-falls D (t .inner .step) (t .inner .lo) (t .inner .hi) (in-tables .held) (z .nodes + 1) (omega (arith, width))
 
-  pub run-nodes : Falls (t .inner .lo) (z .nodes + 1) × Falls (t .inner .hi) (z .nodes + 1) × Priced (t .inner .step) (t .steps .cost) (z .nodes)
-  run-nodes = (
+  pub run-nodes : (prices : List ℕ) → Costs C prices → Falls (t .inner .lo) (z .nodes + 1) × Falls (t .inner .hi) (z .nodes + 1) × Priced (t .inner .step) prices (z .nodes)
+  run-nodes prices costs = (
     run-lo,
     hi-falls D (t .inner .step) (t .inner .lo) (t .inner .hi) (in-tables .held) (z .nodes + 1) (omega (arith, width)),
-    priced C D (t .inner .step) (t .inner .lo) (t .inner .hi) (t .steps .cost) (z .nodes) prices (in-tables .held) (in-tables .valid) (in-tables .small) sound (omega (arith, width)),
+    priced C D (t .inner .step) (t .inner .lo) (t .inner .hi) prices (z .nodes) costs (in-tables .held) (in-tables .valid) (in-tables .small) sound (omega (arith, width)),
   )
 
   pub run-sorted : SortedTable (z .steps) (t .steps .from) × (z .stages ≤ 256)
@@ -108,7 +118,7 @@ module _ {z : Shape} {on : Walk} {byNode : List ℕ} (p : Prepared z on byNode) 
   unfolding estimate
   run-holds s n late h i =
       larger-shown (chartEstimate (chartIn z t) s) (diagramEstimate (chartIn z t) (diagramIn z t) n) (getD byStage s 0) (getD byNode n 0) (es .at s late h)
-      (p .nodes .is (chartIn z t) (diagramIn z t) (prices in-tables) (in-tables .held) (sound in-tables) (omega (arith, width in-tables)) n (omega (arith, width in-tables)))
+      (p .nodes .by .is (chartIn z t) (diagramIn z t) (in-tables .small, p .nodes .costs) (in-tables .held) (sound in-tables) (omega (arith, width in-tables)) n (omega (arith, width in-tables)))
       (λ m e. chart-bounded (chartIn z t) (in-tables .valid) s m e)
       (λ m e. diagram-bounded (chartIn z t) (diagramIn z t) (in-tables .valid) (in-tables .small) (sound in-tables) n m (omega (arith, width in-tables)) e)
 

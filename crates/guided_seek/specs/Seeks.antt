@@ -7,7 +7,7 @@ use mathlib.Core.List.{List}
 use Rattle.definitions.specs.Pairs.{Estimate}
 use Rattle.definitions.specs.Plans.{estimate}
 use Rattle.definitions.specs.declared.Shape.{Shape}
-use Rattle.node_estimates.specs.Estimates.{Estimated}
+use Rattle.node_estimates.specs.Estimates.{Costs, Estimated}
 use Rattle.checks.specs.Tables.{Read, chartIn, diagramIn, pairsIn}
 use Rattle.checks.specs.Ready.{Walk, Ready}
 use Rattle.guided_model.specs.Charts.{GoalSettled, NoneSettled}
@@ -19,10 +19,16 @@ use Rattle.guided_ends.specs.declared.Ended.{Ended}
 abbrev pub estimateIn : Shape → Read → Estimate
 estimateIn z t = estimate (chartIn z t) (diagramIn z t)
 
+-- the table has the estimate of each node, by a table of what the groups of the chart cost
+pub record NodeEstimates (z : Shape) (t : Read) (byNode : List ℕ) : Type 0 where
+  pub prices : List ℕ
+  pub costs : Costs (chartIn z t) prices
+  pub by : Estimated (t .inner .step) (t .inner .lo) (t .inner .hi) prices (z .nodes) byNode
+
 -- all tables that do not depend on start and end are filled
 pub record Prepared (z : Shape) (on : Walk) (byNode : List ℕ) : Type 0 where
   pub ready : Ready z on
-  pub nodes : Estimated (on .read .inner .step) (on .read .inner .lo) (on .read .inner .hi) (on .read .steps .cost) (z .nodes) byNode
+  pub nodes : NodeEstimates z (on .read) byNode
 
 -- and the slices are long enough
 pub record Seeking (z : Shape) (on : Walk) (byNode : List ℕ) (x : Work) (log : List ℕ) : Type 0 where

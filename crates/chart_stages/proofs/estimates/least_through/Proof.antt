@@ -4,7 +4,8 @@ use native.Mathlib.Omega.{arith}
 use Rattle.definitions.specs.Basics.{NONE}
 use Rattle.definitions.specs.Plans.{graph}
 use Rattle.chart.specs.Tables.{stepsIn, chartIn}
-use Rattle.chart_stages.specs.Estimates.{WayBy, Shows}
+use Rattle.chart_stages.specs.Estimates.{WayBy}
+use Rattle.theory.specs.Least.{Shows}
 use Rattle.chart_stages.specs.Leaving.{Leaving}
 use Rattle.chart_stages.proofs.Estimating.{steps-rise, steps-end, none-yet, to-below, step-turn, steps-done}
 use borrow.Author.Needs.{needs}

@@ -4,7 +4,7 @@ use mathlib.Core.Path.{ap}
 use mathlib.Core.List.{List}
 use native.Mathlib.Omega.{arith}
 use lib.ListN.{length}
-use Rattle.guided_seek.proofs.Preparing.{run-nodes, run-sorted, run-narrow}
+use Rattle.guided_seek.proofs.Preparing.{run-sorted, run-narrow}
 use borrow.Author.Needs.{needs}
 use Rattle.guided_seek.proofs.tables.fill_tables.Statement.{statement}
 use Rattle.guided_seek.proofs.tables.fill_tables.Tie as tie
@@ -13,29 +13,26 @@ index-1-fill-first-steps : tie.Need-index-1-fill-first-steps
 index-1-fill-first-steps c = search needs
 
 fill-first-steps-requires : tie.Need-fill-first-steps-requires
-fill-first-steps-requires c κs =
+fill-first-steps-requires c κs = 
     let start : tie.Start = search in
     let sorted = run-sorted (start .pre .1 .1 .1) in
     (start .pre .0, sorted .0, sorted .1)
 
-index-1-fill-diagram-estimates : tie.Need-index-1-fill-diagram-estimates
-index-1-fill-diagram-estimates c = search needs
-
-fill-diagram-estimates-requires : tie.Need-fill-diagram-estimates-requires
-fill-diagram-estimates-requires c κs =
+estimate-nodes-requires : tie.Need-estimate-nodes-requires
+estimate-nodes-requires c κs = 
     let start : tie.Start = search in
-    (run-nodes (start .pre .1 .1 .1), ap (λ (l : List ℕ). length l) (start .pre .1 .1 .0))
+    (ap (λ (l : List ℕ). length l) (start .pre .1 .1 .0), start .pre .1 .1 .1)
 
 cast-fill-row-starts : tie.Need-cast-fill-row-starts
 cast-fill-row-starts c = search needs
 
 add-fill-row-starts : tie.Need-add-fill-row-starts
-add-fill-row-starts c =
+add-fill-row-starts c = 
     let start : tie.Start = search in
     omega (arith, run-narrow (start .pre .1 .1 .1))
 
 fill-row-starts-requires : tie.Need-fill-row-starts-requires
-fill-row-starts-requires c κs =
+fill-row-starts-requires c κs = 
     let start : tie.Start = search in
     let narrow = run-narrow (start .pre .1 .1 .1) in
     (start .pre .1 .0, narrow .0, narrow .1)
@@ -49,8 +46,7 @@ fill-tables-spec =
     (tie.spec
     index-1-fill-first-steps
     fill-first-steps-requires
-    index-1-fill-diagram-estimates
-    fill-diagram-estimates-requires
+    estimate-nodes-requires
     cast-fill-row-starts
     add-fill-row-starts
     fill-row-starts-requires
