@@ -8,10 +8,10 @@ use mathlib.Core.Option.{Option, none, some}
 use lib.Dec.{ltb}
 use lib.ListN.{take}
 use borrow.Author.Tests.{lt-ltb, le-ltb}
-use Rattle.definitions.specs.Charts.{Chart, headed}
+use Rattle.definitions.specs.Charts.{Chart, headed, groupCount}
 use Rattle.definitions.specs.Diagrams.{Diagram}
 use Rattle.definitions.specs.Pairs.{pairs}
-use Rattle.definitions.specs.Plans.{graph, automaton, cheapest, estimate}
+use Rattle.definitions.specs.Plans.{graph, automaton, cheapest, estimate, variable, variableCost}
 use Rattle.definitions.specs.Promises.{onChart, answeredBy, foundNumber, foundCost, CycledIf, CycleSlices, cycleSlices}
 use Rattle.definitions.specs.declared.Cycle.{Cycle}
 use Rattle.definitions.specs.declared.Shape.{Shape}
@@ -49,8 +49,12 @@ module _ {z : Shape} {on : Walk} {byNode : List ℕ} {x : CycleSlices} (ask : As
   module _ (s : c .start < z .stages) (h : c .end < z .stages) where
     -- what its search asks
     pub entry-seeks : Seeking (headedShape z (c .start) (c .end)) on byNode (workOf x) (x .log)
+    unfolding groupCount variable variableCost
     entry-seeks = record {
-      prepared = record { ready = headed-ready z (c .start) (c .end) s h (ask .prepared .ready); nodes = ask .prepared .nodes };
+      prepared = record {
+        ready = headed-ready z (c .start) (c .end) s h (ask .prepared .ready);
+        nodes = record { prices = ask .prepared .nodes .prices; costs = ask .prepared .nodes .costs; by = ask .prepared .nodes .by };
+      };
       space = record {
         keys-fit = ask .space .keys-fit;
         via-fits = ask .space .via-fits;
