@@ -18,5 +18,6 @@ pub mod Remarks
 pub mod Ticks
 pub mod Calls
 pub mod Cycles
+pub mod Groups
 pub mod Conjunctions
 pub mod Padding

@@ -11,7 +11,7 @@ use mathlib.Core.Option.{Option, none, some}
 use lib.Dec.{ltb, eqb}
 use lib.ListN.{length, getD, take, drop}
 use Rattle.definitions.specs.Basics.{NONE, pick, upto}
-use Rattle.definitions.specs.Charts.{Chart, headed}
+use Rattle.definitions.specs.Charts.{Chart, headed, groupCount}
 use Rattle.definitions.specs.Diagrams.{Diagram, lenient}
 use Rattle.definitions.specs.Ways.{Graph, wayCost}
 use Rattle.definitions.specs.Pairs.{Automaton, Estimate, pair, pairs, stageOf, nodeOf, leastCost, goal, sum, reachedPairs}
@@ -281,8 +281,8 @@ conjoinSlices work file = record { work = work; file = file }
 abbrev pub ConjoinPromise : LoadTwo → ConjoinSlices → ConjoinSlices → Answer → Type 0
 ConjoinPromise (refusedTwo number file place) before after r = (r ≡ refusal number file place 0) × (after .file ≡ before .file) × (after .work ≡ before .work)
 ConjoinPromise (readyTwo c d e) before after r =
-    (r ≡ writtenAnswer (conjunction (length (c .steps)) d e) (length (before .file)))
-    × (after .file ≡ writtenBuffer (conjunction (length (c .steps)) d e) (before .file))
+    (r ≡ writtenAnswer (conjunction (groupCount c) d e) (length (before .file)))
+    × (after .file ≡ writtenBuffer (conjunction (groupCount c) d e) (before .file))
     × (length (after .work) ≡ length (before .work)) × (drop (pairNeed d e) (after .work) ≡ drop (pairNeed d e) (before .work))
 
 abbrev pub ConjoinCall : List ℕ → List ℕ → List ℕ → ConjoinSlices → ConjoinSlices → Answer → Type 0
@@ -293,7 +293,7 @@ ConjoinCall chart rules more before after r = ConjoinPromise (loadTwo chart rule
 -- By what the checks give: a refused call leaves the buffer, else the reduction's file is written. A reduction never has too many nodes, and nothing is left free
 abbrev pub ReducePromise : Load → List ℕ → List ℕ → Answer → Type 0
 ReducePromise (refused number file place) out out′ r = (r ≡ refusal number file place 0) × (out′ ≡ out)
-ReducePromise (ready c d) out out′ r = Filed (diagramBytes (reduction (length (c .steps)) d)) out out′ r
+ReducePromise (ready c d) out out′ r = Filed (diagramBytes (reduction (groupCount c) d)) out out′ r
 
 -- both files, of which padding in the diagram is taken, and the file buffer before and after
 abbrev pub ReduceCall : List ℕ → List ℕ → List ℕ → List ℕ → Answer → Type 0

@@ -15,3 +15,4 @@ pub mod Product
 pub mod Counting
 pub mod Logs
 pub mod Agreement
+pub mod Kinds
