@@ -1,5 +1,5 @@
 -- The three demands on both searches, for every pair of files, sound or broken, and for lent slices of every length. Read it from top to bottom.
--- Of the definitions it uses what the readers give (`readChart`, `readDiagram`), legal plans and their cost (`Legal`, `wayCost`), the node at which a way
+-- Of the definitions it uses what the readers give (`readChart`, `groupCount`, `readDiagram`), legal plans and their cost (`Legal`, `wayCost`), the node at which a way
 -- stands (`stands`), `advance`, `finish` and `estimate`, and the number NONE. `Demanded` proves it from what the calls promise (`SweepCall`, `GuidedCall`),
 -- and `Converse` these from it.
 -- Assumes nothing.
