@@ -8,7 +8,7 @@ use mathlib.Core.Option.{Option, none, some}
 use native.Mathlib.Omega.{arith}
 use lib.ListN.{length, getD, take, drop, length-append, length-drop}
 use lib.Seq.{take-at, drop-at}
-use Rattle.definitions.specs.Charts.{Chart, readChart}
+use Rattle.definitions.specs.Charts.{Chart, readChart, groupCount}
 use Rattle.definitions.specs.Diagrams.{Diagram}
 use Rattle.definitions.specs.Ways.{wayCost}
 use Rattle.definitions.specs.Plans.{graph, Legal, cheapest}
@@ -65,7 +65,7 @@ module _ (chart rules : List ℕ) (x : Call) (one : Demand1 chart rules x) (two 
 
       go : Judged chart rules x → Promised (refused n f p) x
       go (chart-bad h u) = by _ u (stops _ _ _ (one .chart-refused h) h (chart-own chart .1))
-      go (rules-bad h i u) = by _ u (stops _ _ _ (one .rules-refused h i) i (rules-own rules (length (readChart chart .chart .steps)) .1))
+      go (rules-bad h i u) = by _ u (stops _ _ _ (one .rules-refused h i) i (rules-own rules (groupCount (readChart chart .chart)) .1))
       go (too-short h i u) = by _ u (stops 7 0 0 (one .space-refused _ _ h i) (λ q. omega arith) (λ q. omega arith))
       go (all-pass a u) = absurd (refused-not-ready n f p _ _ (sym e ∙ u))
 

@@ -1,5 +1,5 @@
 -- The three demands on both searches, for every pair of files, sound or broken, and for lent slices of every length. Read it from top to bottom.
--- Of the definitions it uses what the readers give (`readChart`, `readDiagram`), legal plans and their cost (`Legal`, `wayCost`), the node at which a way
+-- Of the definitions it uses what the readers give (`readChart`, `groupCount`, `readDiagram`), legal plans and their cost (`Legal`, `wayCost`), the node at which a way
 -- stands (`stands`), `advance`, `finish` and `estimate`, and the number NONE. `Demanded` proves it from what the calls promise (`SweepCall`, `GuidedCall`),
 -- and `Converse` these from it.
 -- Assumes nothing.
@@ -10,7 +10,7 @@ use mathlib.Core.Logic.{_⊎_, _↔_}
 use mathlib.Core.Option.{some}
 use lib.ListN.{length, getD, drop}
 use Rattle.definitions.specs.Basics.{NONE}
-use Rattle.definitions.specs.Charts.{Chart, readChart}
+use Rattle.definitions.specs.Charts.{Chart, readChart, groupCount}
 use Rattle.definitions.specs.Diagrams.{Diagram, strict, DiagramRead, readDiagram, size, advance, finish}
 use Rattle.definitions.specs.Ways.{IsWay, endOf, wayCost}
 use Rattle.definitions.specs.Pairs.{stands}
@@ -42,7 +42,7 @@ guidedCall before after r = record { works = guidedWorks before; works′ = guid
 
 -- the diagram file, read for the chart of the chart file
 abbrev pub rulesRead : List ℕ → List ℕ → DiagramRead
-rulesRead chart rules = readDiagram strict rules (length (readChart chart .chart .steps))
+rulesRead chart rules = readDiagram strict rules (groupCount (readChart chart .chart))
 
 -- both files are accepted: they hold the chart c and the diagram d
 pub record Files (chart rules : List ℕ) (c : Chart) (d : Diagram) : Type 0 where

@@ -8,7 +8,7 @@ use lib.Dec.{leb, eqb}
 use lib.ListN.{length, getD}
 use Rattle.definitions.specs.Basics.{pick, has}
 use Rattle.definitions.specs.Fields.{two, part, Kind, only, orRemark, fieldAt, firstField, onField, Grammar, Scan, stopped, scan}
-use Rattle.definitions.specs.Charts.{ChartRead, headFault, stepFault, lastFrom, chartRefused, withSteps, stepGrammar, scanSteps, readChart}
+use Rattle.definitions.specs.Charts.{ChartRead, headFault, stepFault, lastFrom, chartRefused, withSteps, stepGrammar, scanSteps, readChart, groupCount, groupFault, lastGroup}
 use Rattle.definitions.specs.Diagrams.{InnerNode, noNode, nodeFault, innerNodeOf, strict, lenient, padding, nodeFaultAfter, DiagramRead, diagramRefused, withNodes, nodeGrammar, scanNodes, readDiagram}
 use Rattle.definitions.specs.Answers.{Load, ready, refused, readFiles}
 use Rattle.definitions.specs.declared.Field.{Field}
@@ -18,7 +18,7 @@ use Rattle.theory.specs.Choices.{both}
 
 -- the numbers of files, and 0
 abbrev pub fileNumber : Bool → ℕ → Bool
-fileNumber mode n = has (0 ∷ 1 ∷ 2 ∷ 3 ∷ 4 ∷ 5 ∷ 6 ∷ 9 ∷ 10 ∷ 11 ∷ []) n || (mode && eqb n 13)
+fileNumber mode n = has (0 ∷ 1 ∷ 2 ∷ 3 ∷ 4 ∷ 5 ∷ 6 ∷ 9 ∷ 10 ∷ 11 ∷ 14 ∷ []) n || (mode && eqb n 13)
 
 -- a number that is none of them
 pub no-file : (mode : Bool) (n m : ℕ) → fileNumber mode n ≡ true → fileNumber mode m ≡ false → n ≡ m → ⊥
@@ -56,14 +56,15 @@ module _ (mode : Bool) where
       (both Own _ refl
       (both Own _ refl refl)))
 
-  step-own : (stages last count : ℕ) (b : List ℕ) → Own (stepFault stages last count b)
-  unfolding stepFault
-  step-own stages last count b =
+  step-own : (stages tag last group count : ℕ) (b : List ℕ) → Own (stepFault stages tag last group count b)
+  unfolding stepFault groupFault
+  step-own stages tag last group count b =
       both Own _ refl
       (both Own _ refl
       (both Own _ refl
       (both Own _ refl
-      (both Own _ refl refl))))
+      (both Own _ refl
+      (both Own _ (both Own _ refl (both Own _ refl refl)) refl)))))
 
   node-own : (steps : ℕ) (stepAt : ℕ → ℕ) (count : ℕ) (b : List ℕ) → Own (nodeFault steps stepAt count b)
   unfolding nodeFault
@@ -124,7 +125,7 @@ module _ (mode : Bool) where
       go (Whole place a e) f =
           let b = part s a e in
           both (λ (x : ChartRead). Own (x .number)) (eqb (headFault b) 0)
-          (scan-own s (stepGrammar (two b 0)) (λ before tag b′. step-own (two b 0) (lastFrom before) (length before) b′) (length s) e []) (head-own b)
+          (scan-own s (stepGrammar (two b 0)) (λ before tag b′. step-own (two b 0) tag (lastFrom before) (lastGroup before) (length before) b′) (length s) e []) (head-own b)
 
   rules-numbered : (s : List ℕ) (steps : ℕ) → Own (readDiagram mode s steps .number)
   unfolding readDiagram onField
@@ -149,7 +150,7 @@ module _ (mode : Bool) where
 
   load-own : (chart rules : List ℕ) → OwnLoad (readFiles mode chart rules)
   unfolding readFiles
-  load-own chart rules = both OwnLoad _ (chart-numbered chart) (both OwnLoad _ (rules-numbered rules (length (readChart chart .chart .steps))) tt)
+  load-own chart rules = both OwnLoad _ (chart-numbered chart) (both OwnLoad _ (rules-numbered rules (groupCount (readChart chart .chart))) tt)
 
   pub files-number : (chart rules : List ℕ) (number file place : ℕ) → readFiles mode chart rules ≡ refused number file place → fileNumber mode number ≡ true
   files-number chart rules number file place e = subst OwnLoad e (load-own chart rules)

@@ -7,7 +7,7 @@ use mathlib.Core.Logic.{_⊎_, inl, inr}
 use mathlib.Core.Option.{Option, none, some}
 use native.Mathlib.Omega.{arith}
 use lib.ListN.{length, getD, take, drop, length-take, take-append-drop}
-use Rattle.definitions.specs.Charts.{Chart, readChart}
+use Rattle.definitions.specs.Charts.{Chart, readChart, groupCount}
 use Rattle.definitions.specs.Diagrams.{Diagram}
 use Rattle.definitions.specs.Ways.{wayCost}
 use Rattle.definitions.specs.Plans.{graph, Legal, cheapest}
@@ -131,7 +131,7 @@ module _ (chart rules : List ℕ) (x : Call) (promise : Promised (loadOf chart r
     where
       go : Judged chart rules x → Result
       go (chart-bad p e) = stop _ _ _ e p (chart-own chart .1)
-      go (rules-bad p q e) = stop _ _ _ e q (rules-own rules (length (readChart chart .chart .steps)) .1)
+      go (rules-bad p q e) = stop _ _ _ e q (rules-own rules (groupCount (readChart chart .chart)) .1)
       go (too-short f s e) = stop 7 0 0 e (λ q. omega arith) (λ q. omega arith)
       go (all-pass a e) = either (ends _ _ a) (found _ _ a) (lacks _ _ a)
 

@@ -5,8 +5,10 @@ use mathlib.Core.Path.{_≡_, refl}
 use mathlib.Core.List.{[], _∷_, _++_}
 use native.Mathlib.Omega.{arith}
 use lib.ListN.{take, replicate}
+use Rattle.definitions.specs.Basics.{pick}
+use Rattle.definitions.specs.Charts.{grouped}
 use Rattle.definitions.specs.Marked.{values, rules}
-use Rattle.definitions.specs.Bytes.{le2, le4, field, chartBytes, diagramBytes}
+use Rattle.definitions.specs.Bytes.{le2, le4, field, stepBytes, chartBytes, diagramBytes}
 
 low-byte-first : le2 513 ++ le4 67305985 ≡ 1 ∷ 2 ∷ 1 ∷ 2 ∷ 3 ∷ 4 ∷ []
 low-byte-first = refl
@@ -33,7 +35,13 @@ chart-file : chartBytes values
     ∷ 2 ∷ 8 ∷ 0 ∷ 1 ∷ 0 ∷ 3 ∷ 0 ∷ 30 ∷ 0 ∷ 0 ∷ 0
     ∷ 2 ∷ 8 ∷ 0 ∷ 2 ∷ 0 ∷ 3 ∷ 0 ∷ 20 ∷ 0 ∷ 0 ∷ 0
     ∷ 2 ∷ 8 ∷ 0 ∷ 3 ∷ 0 ∷ 4 ∷ 0 ∷ 50 ∷ 0 ∷ 0 ∷ 0 ∷ []
+unfolding pick
 chart-file = refl
+
+-- a step that names its group
+grouped-step : stepBytes (record { tag = grouped; from = 0; to = 1; cost = 40; group = 258 }) ≡ 3 ∷ 10 ∷ 0 ∷ 0 ∷ 0 ∷ 1 ∷ 0 ∷ 40 ∷ 0 ∷ 0 ∷ 0 ∷ 2 ∷ 1 ∷ []
+unfolding pick
+grouped-step = refl
 
 diagram-file : diagramBytes rules
     ≡ 17 ∷ 2 ∷ 0 ∷ 3 ∷ 0

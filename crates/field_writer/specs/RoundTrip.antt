@@ -1,26 +1,30 @@
--- Every chart and every diagram within the limits has a file of bytes, and is read back from it, the chart with its costs rounded.
+-- Every chart and every diagram within the limits has a file of bytes, and is read back from it: the chart with its costs rounded and, where its steps are plain, each
+-- a group alone.
 -- Assumes nothing.
-use Prim.Native.Nat.{ℕ, _+_, _-_, _*_, _/_, _%_, _≤_, _<_}
-use mathlib.Core.Path.{_≡_, refl, sym, _∙_, ap}
+use Prim.Native.Nat.{ℕ, zero, suc, _+_, _-_, _*_, _/_, _%_, _≤_, _<_}
+use mathlib.Core.Path.{_≡_, refl, sym, _∙_, ap, subst}
 use mathlib.Core.Bool.{Bool, true, false, _&&_}
-use mathlib.Core.List.{List, [], _∷_, _++_, map, map-id}
+use mathlib.Core.List.{List, [], _∷_, _++_}
+use mathlib.Core.Logic.{_⊎_, inl, inr}
 use native.Mathlib.Omega.{arith}
-use lib.ListN.{length, getD, length-append, length-map, List·getD-map, List·getD-append, List·getD-eq-default}
+use native.Mathlib.Nat.{mul-le-mul-right}
+use lib.Dec.{eqb}
+use lib.ListN.{length, getD, length-append, List·getD-append, List·getD-eq-default}
 use lib.Seq.{getD-at}
-use borrow.Author.Tests.{lt-ltb, le-ltb, lt-leb}
+use borrow.Author.Tests.{lt-ltb, le-ltb, lt-leb, eq-eqb}
 use Rattle.definitions.specs.Basics.{pick, each}
-use Rattle.definitions.specs.Fields.{two, four, only, firstField, onField, stopped}
-use Rattle.definitions.specs.Charts.{Chart, ChartStep, noStep, headFault, stepFault, rounded, stepOf, lastFrom, stepGrammar, scanSteps, readChart}
+use Rattle.definitions.specs.Fields.{two, four, Kind, exactly, isForeign, isPassedOver, lengthFits, only, firstField, onField, stopped}
+use Rattle.definitions.specs.Charts.{Chart, ChartStep, noStep, plain, grouped, headFault, groupFault, stepFault, rounded, stepOf, lastFrom, lastGroup, stepLength, stepKind, stepGrammar, scanSteps, readChart}
 use Rattle.definitions.specs.Diagrams.{InnerNode, Diagram, noNode, size, inner, childFits, nodeFault, innerNodeOf, padding, nodeFaultAfter, nodeGrammar, scanNodes, readDiagram}
 use Rattle.theory.specs.Limits.{Valid, Small, Sound, Unpadded}
 use Rattle.theory.specs.Padding.{padding-none, fault-within}
-use Rattle.definitions.specs.Marked.{st, nd}
+use Rattle.definitions.specs.Marked.{nd}
 use Rattle.definitions.specs.Plans.{graph}
 use Rattle.definitions.specs.declared.Field.the-variants.{Whole}
-use Rattle.theory.specs.Basics.{pick-false, either, lt-or-le}
+use Rattle.theory.specs.Basics.{pick-true, pick-false, either, lt-or-le}
 use Rattle.theory.specs.Choices.{tests}
-use Rattle.definitions.specs.Bytes.{le2, le4, bodyOfHead, bodyOfStep, roundedStep, roundedChart, stepBytes, chartBytes, headBytes, bodyOfNode, nodeBytes, rootBytes, diagramBytes}
-use Rattle.field_writer.specs.Sizes.{chart-long, diagram-long, AllBytes, append-bytes, le2-bytes, le4-bytes, field-bytes, each-bytes}
+use Rattle.definitions.specs.Bytes.{le2, le4, bodyOfHead, bodyOfStep, stepBack, stepsBack, chartBack, stepBytes, chartBytes, headBytes, bodyOfNode, nodeBytes, rootBytes, diagramBytes}
+use Rattle.field_writer.specs.Sizes.{OfKind, step-long, length-few, chart-long, diagram-long, AllBytes, append-bytes, le2-bytes, le4-bytes, field-bytes, each-bytes}
 use Rattle.fields.specs.First.{first-short}
 use Rattle.field_writer.specs.Scanned.{fieldAt-written, Reads, scan-written}
 
@@ -51,20 +55,56 @@ head-passes : (b : List ℕ) → 1 ≤ two b 0 → two b 0 ≤ 256 → two b 2 <
 unfolding headFault pick
 head-passes b h i j k = let n : two b 0 ≡ 0 → ⊥ = λ e. omega arith in simp tests
 
-step-passes : (stages last count : ℕ) (b : List ℕ) → count < 1024 → two b 0 < two b 2 → two b 2 < stages → last ≤ two b 0 → four b 4 ≤ 1000000 → stepFault stages last count b ≡ 0
-unfolding stepFault pick
-step-passes stages last count b h i j k l = simp tests
+-- the group is judged where the step names one
+step-passes : (stages tag last group count : ℕ) (b : List ℕ) → count < 1024 → two b 0 < two b 2 → two b 2 < stages → last ≤ two b 0 → four b 4 ≤ 1000000
+    → (tag ≡ plain) ⊎ ((tag ≡ grouped) × (two b 8 ≤ 1023) × (group ≤ two b 8)) → stepFault stages tag last group count b ≡ 0
+unfolding stepFault groupFault pick
+step-passes stages tag last group count b h i j k l (inl q) = rw q (simp tests)
+step-passes stages tag last group count b h i j k l (inr q) =
+    let few : two b 8 ≤ 1023 = q .1 in
+    let later : group ≤ two b 8 = q .2 in
+    rw (q .0) (simp tests)
 
-same-step : (x : ChartStep) → stepOf (bodyOfStep x) ≡ roundedStep x
-same-step x = λ i. st (le2-back (x .from) i) (le2-back (x .to) i) (rounded (le4-back (x .cost) i))
+-- the first step may be of either kind, and the others are of the same
+kind-own : (before : List ChartStep) (tag : ℕ) → (tag ≡ plain) ⊎ (tag ≡ grouped) → (0 < length before → getD before 0 noStep .tag ≡ tag) → stepKind before tag ≡ exactly (stepLength tag)
+unfolding stepKind only pick
+kind-own [] tag (inl q) same = rw q
+kind-own [] tag (inr q) same = rw q
+kind-own (x ∷ before) tag is same = go (same (omega arith))
+  where
+    go : x .tag ≡ tag → stepKind (x ∷ before) tag ≡ exactly (stepLength tag)
+    go q = rw (q, eq-eqb tag tag refl)
 
--- the steps before leave the same stages, rounded or not
-same-last : (before : List ChartStep) → lastFrom (map roundedStep before) ≡ lastFrom before
-same-last before =
-    ap (λ (k : ℕ). getD (map roundedStep before) (k - 1) noStep .from) (length-map before roundedStep)
-    ∙ ap (λ (x : ChartStep). x .from) (List·getD-map roundedStep before (length before - 1) noStep)
+same-step : (e : ℕ) (x : ChartStep) → stepOf (x .tag) e (bodyOfStep x) ≡ stepBack e x
+unfolding pick
+same-step e x = λ i. record {
+  tag = x .tag;
+  from = le2-back (x .from) i;
+  to = le2-back (x .to) i;
+  cost = rounded (le4-back (x .cost) i);
+  group = named (eqb (x .tag) grouped) i;
+}
+  where
+    named : (b : Bool) → pick b (two (le2 (x .from) ++ le2 (x .to) ++ le4 (x .cost) ++ pick b (le2 (x .group)) []) 8) e ≡ pick b (x .group) e
+    named true = le2-back (x .group)
+    named false = refl
 
-module _ (c : Chart) (v : Valid (graph c)) (small : Small c) where
+-- ---- steps that are read back
+
+back-long : (l : List ChartStep) (e : ℕ) → length (stepsBack e l) ≡ length l
+back-long [] e = refl
+back-long (x ∷ l) e = omega (arith, back-long l (suc e))
+
+back-at : (l : List ChartStep) (e k n : ℕ) → k < length l → k + e ≡ n → getD (stepsBack e l) k noStep ≡ stepBack n (getD l k noStep)
+back-at [] e k n h q = absurd (omega arith)
+back-at (x ∷ l) e zero n h q = let r : e ≡ n = omega arith in ap (λ (i : ℕ). stepBack i x) r
+back-at (x ∷ l) e (suc k) n h q = back-at l (suc e) k n (omega arith) (omega arith)
+
+back-more : (l : List ChartStep) (x : ChartStep) (e n : ℕ) → length l + e ≡ n → stepsBack e l ++ stepBack n x ∷ [] ≡ stepsBack e (l ++ x ∷ [])
+back-more [] x e n q = let r : n ≡ e = omega arith in ap (λ (i : ℕ). stepBack i x ∷ []) r
+back-more (y ∷ l) x e n q = ap (λ (z : List ChartStep). stepBack e y ∷ z) (back-more l x (suc e) n (omega arith))
+
+module _ (c : Chart) (v : Valid (graph c)) (small : Small c) (kind : ℕ) (of-kind : OfKind c kind) where
   module _ (before : List ChartStep) (x : ChartStep) (rest : List ChartStep) (split : c .steps ≡ before ++ x ∷ rest) where
     abbrev k : ℕ
     k = length before
@@ -78,6 +118,15 @@ module _ (c : Chart) (v : Valid (graph c)) (small : Small c) where
     from-is : graph c .from k ≡ x .from
     from-is = ap (λ (y : ChartStep). y .from) step-is
 
+    group-is : graph c .group k ≡ x .group
+    group-is = ap (λ (y : ChartStep). y .group) step-is
+
+    tag-is : x .tag ≡ kind
+    tag-is = sym (ap (λ (y : ChartStep). y .tag) step-is) ∙ of-kind .alike k inside
+
+    known : (x .tag ≡ plain) ⊎ (x .tag ≡ grouped)
+    known = subst (λ (t : ℕ). (t ≡ plain) ⊎ (t ≡ grouped)) (sym tag-is) (of-kind .known)
+
     forward : x .from < x .to
     forward = omega (arith, v .forward k inside, from-is, ap (λ (y : ChartStep). y .to) step-is)
 
@@ -87,31 +136,76 @@ module _ (c : Chart) (v : Valid (graph c)) (small : Small c) where
     cheap : x .cost ≤ 1000000
     cheap = omega (arith, small k inside, ap (λ (y : ChartStep). y .cost) step-is)
 
-    rises : lastFrom before ≤ x .from
-    rises =
-        either (lt-or-le 0 k)
-        (λ h. omega (arith, v .sorted (k - 1) k (omega arith) inside, from-is, ap (λ (y : ChartStep). y .from) (earlier before x rest split noStep (k - 1) (omega arith))))
-        (λ h. omega (arith, ap (λ (y : ChartStep). y .from) (List·getD-eq-default before noStep {n = k - 1} (omega arith))))
+    few : x .group < 1024
+    few = omega (arith, v .few-groups k inside, group-is)
 
-    step-reads : Reads (stepGrammar (c .stages)) 2 bodyOfStep roundedStep (map roundedStep before) x
-    unfolding only pick
+    -- what was read before it: a step of the same kind, from an earlier or the same stage, and, where it names a group, of an earlier or the same one
+    abbrev past : List ChartStep
+    past = stepsBack 0 before
+
+    past-long : length past ≡ k
+    past-long = back-long before 0
+
+    -- the step before as it is read back
+    module _ (h : 0 < k) where
+      last-is : getD past (length past - 1) noStep ≡ stepBack (k - 1) (getD (c .steps) (k - 1) noStep)
+      last-is =
+          ap (λ (i : ℕ). getD past (i - 1) noStep) past-long ∙ back-at before 0 (k - 1) (k - 1) (omega arith) (omega arith)
+          ∙ ap (stepBack (k - 1)) (sym (earlier before x rest split noStep (k - 1) (omega arith)))
+
+      last-kind : getD (c .steps) (k - 1) noStep .tag ≡ x .tag
+      last-kind = of-kind .alike (k - 1) (omega (arith, inside)) ∙ sym tag-is
+
+      rises-behind : lastFrom past ≤ x .from
+      rises-behind = omega (arith, ap (λ (y : ChartStep). y .from) last-is, v .sorted (k - 1) k (omega arith) inside, from-is)
+
+      named-behind : x .tag ≡ grouped → lastGroup past ≤ x .group
+      named-behind q =
+          let g = pick-true (eqb (getD (c .steps) (k - 1) noStep .tag) grouped) (graph c .group (k - 1)) (k - 1) (eq-eqb _ grouped (last-kind ∙ q)) in
+          omega (arith, ap (λ (y : ChartStep). y .group) last-is, g, v .grouped (k - 1) k (omega arith) inside, group-is)
+
+    first-is : k ≤ 0 → getD past (length past - 1) noStep ≡ noStep
+    first-is h = List·getD-eq-default past noStep {n = length past - 1} (omega (arith, past-long))
+
+    rises : lastFrom past ≤ x .from
+    rises = either (lt-or-le 0 k) rises-behind (λ h. omega (arith, ap (λ (y : ChartStep). y .from) (first-is h)))
+
+    named : (x .tag ≡ plain) ⊎ ((x .tag ≡ grouped) × (two (bodyOfStep x) 8 ≤ 1023) × (lastGroup past ≤ two (bodyOfStep x) 8))
+    unfolding pick
+    named = either known inl (λ q.
+        let g : two (bodyOfStep x) 8 ≡ x .group = rw q (le2-back (x .group)) in
+        inr (q, omega (arith, g, few), either (lt-or-le 0 k) (λ h. omega (arith, g, named-behind h q)) (λ h. omega (arith, ap (λ (y : ChartStep). y .group) (first-is h)))))
+
+    kind-is : stepKind past (x .tag) ≡ exactly (stepLength (x .tag))
+    kind-is = kind-own past (x .tag) known (λ h. ap (λ (y : ChartStep). y .tag) (back-at before 0 0 0 (omega (arith, past-long)) (omega arith))
+        ∙ ap (λ (y : ChartStep). y .tag) (sym (earlier before x rest split noStep 0 (omega (arith, past-long)))) ∙ of-kind .alike 0 (omega (arith, inside)) ∙ sym tag-is)
+
+    step-reads : Reads (stepGrammar (c .stages)) (λ y. y .tag) bodyOfStep (stepsBack 0) before x
     step-reads = record {
-      other = refl;
-      known = refl;
-      given = refl;
-      fits = refl;
+      other = either known (λ q. rw q) (λ q. rw q);
+      known = ap isForeign kind-is;
+      given = ap isPassedOver kind-is;
+      fits = ap (λ (i : Kind). lengthFits i (length (bodyOfStep x))) kind-is ∙ eq-eqb _ _ (step-long x);
       passes =
-          step-passes (c .stages) (lastFrom (map roundedStep before)) (length (map roundedStep before)) (bodyOfStep x) (omega (arith, v .few, inside, length-map before roundedStep))
-          (omega (arith, forward)) (omega (arith, to-inside)) (omega (arith, rises, same-last before)) (omega (arith, cheap));
-      same = same-step x;
+          step-passes (c .stages) (x .tag) (lastFrom past) (lastGroup past) (length past) (bodyOfStep x) (omega (arith, v .few, inside, past-long))
+          (omega (arith, forward)) (omega (arith, to-inside)) (omega (arith, rises)) (omega (arith, cheap)) named;
+      same = ap (λ (y : ChartStep). past ++ y ∷ []) (same-step (length past) x) ∙ back-more before x 0 (length past) (omega (arith, past-long));
     }
 
     step-bytes : AllBytes (stepBytes x)
+    unfolding pick
     step-bytes =
         let to-small : x .to < 65536 = omega (arith, to-inside, v .few-stages) in
-        field-bytes 2 (bodyOfStep x) (omega arith) (omega arith)
-        (append-bytes (le2 (x .from)) (le2 (x .to) ++ le4 (x .cost)) (le2-bytes (x .from) (omega (arith, forward)))
-        (append-bytes (le2 (x .to)) (le4 (x .cost)) (le2-bytes (x .to) to-small) (le4-bytes (x .cost) (omega (arith, cheap)))))
+        field-bytes (x .tag) (bodyOfStep x) (either known (λ q. omega arith) (λ q. omega arith)) (omega (arith, step-long x, length-few (x .tag)))
+        (append-bytes (le2 (x .from)) (le2 (x .to) ++ le4 (x .cost) ++ tail) (le2-bytes (x .from) (omega (arith, forward)))
+        (append-bytes (le2 (x .to)) (le4 (x .cost) ++ tail) (le2-bytes (x .to) to-small) (append-bytes (le4 (x .cost)) tail (le4-bytes (x .cost) (omega (arith, cheap))) (small-tail (eqb (x .tag) grouped)))))
+      where
+        tail : List ℕ
+        tail = pick (eqb (x .tag) grouped) (le2 (x .group)) []
+
+        small-tail : (b : Bool) → AllBytes (pick b (le2 (x .group)) [])
+        small-tail true = le2-bytes (x .group) (omega (arith, few))
+        small-tail false = tt
 
   pub chart-all-bytes : AllBytes (chartBytes c)
   chart-all-bytes =
@@ -120,15 +214,20 @@ module _ (c : Chart) (v : Valid (graph c)) (small : Small c) where
       append-bytes (headBytes (c .stages) (c .start) (c .end)) (each stepBytes (c .steps)) (field-bytes 1 (bodyOfHead (c .stages) (c .start) (c .end)) (omega arith) (omega arith) body)
       (each-bytes stepBytes (c .steps) step-bytes)
 
-  pub chart-read-back : readChart (chartBytes c) ≡ record { number = 0; place = 0; chart = roundedChart c }
+  short : length (chartBytes c) ≤ 32768
+  short =
+      let h : 3 + stepLength kind ≤ 13 = omega (arith, length-few kind) in
+      omega (arith, chart-long c kind of-kind, mul-le-mul-right (length (c .steps)) h, v .few)
+
+  pub chart-read-back : readChart (chartBytes c) ≡ record { number = 0; place = 0; chart = chartBack c }
   unfolding readChart onField only pick
   chart-read-back =
       let b = bodyOfHead (c .stages) (c .start) (c .end) in
       let head : Whole 0 3 9 ≡ firstField (chartBytes c) (only 1 6)
-      = first-short (chartBytes c) 1 6 (omega (arith, chart-long c, v .few)) _ (fieldAt-written [] b (each stepBytes (c .steps)) 1 (only 1 6) refl refl refl) in
+      = first-short (chartBytes c) 1 6 short _ (fieldAt-written [] b (each stepBytes (c .steps)) 1 (only 1 6) refl refl refl) in
       let good : headFault b ≡ 0 = head-passes b (omega (arith, v .some-stages)) (omega (arith, v .few-stages)) (omega (arith, v .start-inside)) (omega (arith, v .end-inside)) in
-      let steps : scanSteps (chartBytes c) (c .stages) 9 ≡ stopped (map roundedStep (c .steps)) 0 0
-      = scan-written (stepGrammar (c .stages)) 2 bodyOfStep roundedStep (c .steps) step-reads (chartBytes c) (headBytes (c .stages) (c .start) (c .end)) refl in
+      let steps : scanSteps (chartBytes c) (c .stages) 9 ≡ stopped (stepsBack 0 (c .steps)) 0 0
+      = scan-written (stepGrammar (c .stages)) (λ y. y .tag) bodyOfStep (stepsBack 0) (c .steps) step-reads (chartBytes c) (headBytes (c .stages) (c .start) (c .end)) refl refl in
       rw (← head, good, le2-back (c .stages), le2-back (c .start), le2-back (c .end), steps)
 
 -- ---- diagrams
@@ -196,9 +295,9 @@ module _ (steps : ℕ) (d : Diagram) (p : Sound steps d) where
         go true v = ap (padding before) (same-node x) ∙ no-padding (v refl)
         go false v = refl
 
-    node-reads : (mode : Bool) → (mode ≡ true → Unpadded d) → Reads (nodeGrammar mode steps) 18 bodyOfNode (λ y. y) before x
+    node-reads : (mode : Bool) → (mode ≡ true → Unpadded d) → Reads (nodeGrammar mode steps) (λ y. 18) bodyOfNode (λ l. l) before x
     unfolding only pick
-    node-reads mode u = record { other = refl; known = refl; given = refl; fits = refl; passes = passes-by mode u; same = same-node x }
+    node-reads mode u = record { other = refl; known = refl; given = refl; fits = refl; passes = passes-by mode u; same = ap (λ (y : InnerNode). before ++ y ∷ []) (same-node x) }
 
     node-bytes : steps ≤ 1024 → AllBytes (nodeBytes x)
     node-bytes few =
@@ -217,6 +316,5 @@ module _ (steps : ℕ) (d : Diagram) (p : Sound steps d) where
       let head : Whole 0 3 5 ≡ firstField (diagramBytes d) (only 17 2)
       = first-short (diagramBytes d) 17 2 (omega (arith, diagram-long d, p .few)) _ (fieldAt-written [] (le2 (d .root)) (each nodeBytes (d .nodes)) 17 (only 17 2) refl refl refl) in
       let nodes : scanNodes mode (diagramBytes d) steps 5 ≡ stopped (d .nodes) 0 0
-      = scan-written (nodeGrammar mode steps) 18 bodyOfNode (λ x. x) (d .nodes) (λ before x rest split. rw (map-id before) (node-reads before x rest split mode u)) (diagramBytes d) (rootBytes (d .root)) refl
-      ∙ ap (λ (l : List InnerNode). stopped l 0 0) (map-id (d .nodes)) in
+      = scan-written (nodeGrammar mode steps) (λ x. 18) bodyOfNode (λ l. l) (d .nodes) (λ before x rest split. node-reads before x rest split mode u) (diagramBytes d) (rootBytes (d .root)) refl refl in
       rw (← head, le2-back (d .root), nodes, lt-leb (length (d .nodes) + 2) (d .root) (p .root-inside))

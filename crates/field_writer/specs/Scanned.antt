@@ -3,7 +3,7 @@
 use Prim.Native.Nat.{ℕ, pred, _+_, _-_, _≤_}
 use mathlib.Core.Path.{_≡_, refl, sym, _∙_, ap, ap₂}
 use mathlib.Core.Bool.{true, false}
-use mathlib.Core.List.{List, [], _∷_, _++_, map, append-assoc, append-nil, map-append}
+use mathlib.Core.List.{List, [], _∷_, _++_, append-assoc, append-nil}
 use native.Mathlib.Omega.{arith}
 use lib.ListN.{length, getD, take, length-append}
 use lib.Seq.{getD-append-seam, getD-append-add, drop-append-add, take-append-seam}
@@ -46,46 +46,45 @@ module _ (before body behind : List ℕ) (tag : ℕ) where
       let e : length before + 3 + length body - (length before + 3) ≡ length body = omega arith in
       ap₂ take e (drop-append-add before (field tag body ++ behind) 3) ∙ take-append-seam body behind
 
--- ---- fields to the file's end, each written for a member and read as what is made of it
+-- ---- fields to the file's end, each written for a member, and all read as what is made of the members
 
-module _ {A B : Type 0} (g : Grammar B) (tag : ℕ) (body : A → List ℕ) (made : A → B) where
-  -- after what was read before it, a member's body is that of a field with this tag, passes, and holds what is made of the member
-  pub record Reads (before : List B) (x : A) : Type 0 where
-    pub other : isRemark tag ≡ false
-    pub known : isForeign (g .kind before tag) ≡ false
-    pub given : isPassedOver (g .kind before tag) ≡ false
-    pub fits : lengthFits (g .kind before tag) (length (body x)) ≡ true
-    pub passes : g .fault before tag (body x) ≡ 0
-    pub same : g .holds before tag (body x) ≡ made x
+module _ {A B : Type 0} (g : Grammar B) (tag : A → ℕ) (body : A → List ℕ) (made : List A → List B) where
+  -- behind what is made of the members before it, a member's body is that of a field with its tag, passes, and holds what the member adds
+  pub record Reads (before : List A) (x : A) : Type 0 where
+    pub other : isRemark (tag x) ≡ false
+    pub known : isForeign (g .kind (made before) (tag x)) ≡ false
+    pub given : isPassedOver (g .kind (made before) (tag x)) ≡ false
+    pub fits : lengthFits (g .kind (made before) (tag x)) (length (body x)) ≡ true
+    pub passes : g .fault (made before) (tag x) (body x) ≡ 0
+    pub same : made before ++ g .holds (made before) (tag x) (body x) ∷ [] ≡ made (before ++ x ∷ [])
 
   abbrev fieldsOf : List A → List ℕ
-  fieldsOf xs = each (λ x. field tag (body x)) xs
+  fieldsOf xs = each (λ x. field (tag x) (body x)) xs
 
-  module _ (all : List A) (reads : (before : List A) (x : A) (rest : List A) → all ≡ before ++ x ∷ rest → Reads (map made before) x) (s : List ℕ) where
+  module _ (all : List A) (reads : (before : List A) (x : A) (rest : List A) → all ≡ before ++ x ∷ rest → Reads before x) (s : List ℕ) where
     -- from any member on
     rest-written : (rest before : List A) (front : List ℕ) (turns : ℕ) → all ≡ before ++ rest → s ≡ front ++ fieldsOf rest → length s ≤ length front + turns
-        → scan s g turns (length front) (map made before) ≡ stopped (map made all) 0 0
+        → scan s g turns (length front) (made before) ≡ stopped (made all) 0 0
     rest-written [] before front turns split e h =
         let l : length s ≤ length front = omega (arith, ap length (e ∙ append-nil front)) in
-        scan-absent s g turns (length front) (map made before) (field-absent s (length front) (orRemark (g .kind (map made before))) l)
-        ∙ ap (λ (l : List A). stopped (map made l) 0 0) (sym (split ∙ append-nil before))
+        scan-absent s g turns (length front) (made before) (field-absent s (length front) (orRemark (g .kind (made before))) l)
+        ∙ ap (λ (l : List A). stopped (made l) 0 0) (sym (split ∙ append-nil before))
     rest-written (x ∷ rest) before front turns split e h =
         let r = reads before x rest split in
         let n = length (body x) in
-        let past = map made before in
-        let kind = or-kind (g .kind past) tag (r .other) in
+        let past = made before in
+        let kind = or-kind (g .kind past) (tag x) (r .other) in
         let here : Whole (length front) (length front + 3) (length front + 3 + n) ≡ fieldAt s (length front) (orRemark (g .kind past))
-        = rw e (fieldAt-written front (body x) (fieldsOf rest) tag (orRemark (g .kind past)) (ap isForeign kind ∙ r .known)
+        = rw e (fieldAt-written front (body x) (fieldsOf rest) (tag x) (orRemark (g .kind past)) (ap isForeign kind ∙ r .known)
         (ap (λ (k : Kind). lengthFits k (length (body x))) kind ∙ r .fits) (ap isPassedOver kind ∙ r .given)) in
-        let got : part s (length front + 3) (length front + 3 + n) ≡ body x = rw e (part-written front (body x) (fieldsOf rest) tag) in
-        let tagged : getD s (length front) 0 ≡ tag = rw e (tag-written front (body x) (fieldsOf rest) tag) in
-        let next : length (front ++ field tag (body x)) ≡ length front + 3 + n = omega (arith, length-append front (field tag (body x))) in
+        let got : part s (length front + 3) (length front + 3 + n) ≡ body x = rw e (part-written front (body x) (fieldsOf rest) (tag x)) in
+        let tagged : getD s (length front) 0 ≡ tag x = rw e (tag-written front (body x) (fieldsOf rest) (tag x)) in
+        let next : length (front ++ field (tag x) (body x)) ≡ length front + 3 + n = omega (arith, length-append front (field (tag x) (body x))) in
         scan-step s g (length front) past (length front) (length front + 3) (length front + 3 + n) here turns h
         (ap₂ (λ (t : ℕ) (b : List ℕ). g .fault past t b) tagged got ∙ r .passes)
-        ∙ ap₂ (λ (k : ℕ) (y : B). scan s g (pred turns) k (past ++ y ∷ [])) (sym next) (ap₂ (λ (t : ℕ) (b : List ℕ). g .holds past t b) tagged got ∙ r .same)
-        ∙ ap (scan s g (pred turns) (length (front ++ field tag (body x)))) (sym (map-append made before (x ∷ [])))
-        ∙ rest-written rest (before ++ x ∷ []) (front ++ field tag (body x)) (pred turns) (split ∙ sym (append-assoc before (x ∷ []) rest))
-        (e ∙ sym (append-assoc front (field tag (body x)) (fieldsOf rest))) (omega (arith, next))
+        ∙ ap₂ (λ (k : ℕ) (l : List B). scan s g (pred turns) k l) (sym next) (ap₂ (λ (t : ℕ) (b : List ℕ). past ++ g .holds past t b ∷ []) tagged got ∙ r .same)
+        ∙ rest-written rest (before ++ x ∷ []) (front ++ field (tag x) (body x)) (pred turns) (split ∙ sym (append-assoc before (x ∷ []) rest))
+        (e ∙ sym (append-assoc front (field (tag x) (body x)) (fieldsOf rest))) (omega (arith, next))
 
-    pub scan-written : (front : List ℕ) → s ≡ front ++ fieldsOf all → scan s g (length s) (length front) [] ≡ stopped (map made all) 0 0
-    scan-written front e = rest-written all [] front (length s) refl e (omega arith)
+    pub scan-written : (front : List ℕ) → made [] ≡ [] → s ≡ front ++ fieldsOf all → scan s g (length s) (length front) [] ≡ stopped (made all) 0 0
+    scan-written front none e = ap (scan s g (length s) (length front)) (sym none) ∙ rest-written all [] front (length s) refl e (omega arith)

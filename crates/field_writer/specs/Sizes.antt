@@ -1,24 +1,52 @@
 -- How long the files are, and lists of numbers that are bytes.
 -- Assumes nothing.
-use Prim.Native.Nat.{ℕ, _+_, _*_, _/_, _%_, _<_}
-use mathlib.Core.Path.{_≡_, refl, sym, _∙_}
+use Prim.Native.Nat.{ℕ, suc, _+_, _*_, _/_, _%_, _≤_, _<_}
+use mathlib.Core.Path.{_≡_, refl, sym, _∙_, ap}
+use mathlib.Core.Bool.{Bool, true, false}
 use mathlib.Core.List.{List, [], _∷_, _++_, append-assoc}
+use mathlib.Core.Logic.{_⊎_}
 use native.Mathlib.Omega.{arith}
-use lib.ListN.{length, length-append}
-use Rattle.definitions.specs.Basics.{each}
-use Rattle.definitions.specs.Charts.{Chart}
-use Rattle.definitions.specs.Diagrams.{Diagram}
-use Rattle.definitions.specs.Bytes.{le2, le4, header, field, headBytes, stepBytes, chartBytes, rootBytes, nodeBytes, diagramBytes}
+use lib.Dec.{eqb}
+use lib.ListN.{length, getD, length-append}
+use Rattle.definitions.specs.Basics.{pick, each}
+use Rattle.definitions.specs.Charts.{Chart, ChartStep, noStep, plain, grouped, stepLength}
+use Rattle.definitions.specs.Diagrams.{Diagram, noNode}
+use Rattle.definitions.specs.Bytes.{le2, le4, header, field, bodyOfStep, headBytes, stepBytes, chartBytes, rootBytes, nodeBytes, diagramBytes}
 
-pub each-long : {A : Type 0} (f : A → List ℕ) (n : ℕ) → ((x : A) → length (f x) ≡ n) → (xs : List A) → length (each f xs) ≡ n * length xs
-each-long f n h [] = omega arith
-each-long f n h (x ∷ xs) = omega (arith, length-append (f x) (each f xs), h x, each-long f n h xs)
+pub each-long : {A : Type 0} (f : A → List ℕ) (n : ℕ) (d : A) (xs : List A) → ((e : ℕ) → e < length xs → length (f (getD xs e d)) ≡ n) → length (each f xs) ≡ n * length xs
+each-long f n d [] h = omega arith
+each-long f n d (x ∷ xs) h = omega (arith, length-append (f x) (each f xs), h 0 (omega arith), each-long f n d xs (λ e i. h (suc e) (omega arith)))
 
-pub chart-long : (c : Chart) → length (chartBytes c) ≡ 9 + 11 * length (c .steps)
-chart-long c = omega (arith, length-append (headBytes (c .stages) (c .start) (c .end)) (each stepBytes (c .steps)), each-long stepBytes 11 (λ x. refl) (c .steps))
+-- a chart whose steps are all of one kind
+pub record OfKind (c : Chart) (kind : ℕ) : Type 0 where
+  pub known : (kind ≡ plain) ⊎ (kind ≡ grouped)
+  pub alike : (e : ℕ) → e < length (c .steps) → getD (c .steps) e noStep .tag ≡ kind
+
+pub step-long : (x : ChartStep) → length (bodyOfStep x) ≡ stepLength (x .tag)
+unfolding pick
+step-long x = omega (arith, go (eqb (x .tag) grouped))
+  where
+    go : (b : Bool) → 8 + length (pick b (le2 (x .group)) []) ≡ pick b 10 8
+    go true = refl
+    go false = refl
+
+pub length-few : (tag : ℕ) → stepLength tag ≤ 10
+unfolding pick
+length-few tag = go (eqb tag grouped)
+  where
+    go : (b : Bool) → pick b 10 8 ≤ 10
+    go true = omega arith
+    go false = omega arith
+
+pub chart-long : (c : Chart) (kind : ℕ) → OfKind c kind → length (chartBytes c) ≡ 9 + (3 + stepLength kind) * length (c .steps)
+chart-long c kind k =
+    omega (arith, length-append (headBytes (c .stages) (c .start) (c .end)) (each stepBytes (c .steps)), each-long stepBytes (3 + stepLength kind) noStep (c .steps) long)
+  where
+    long : (e : ℕ) → e < length (c .steps) → length (stepBytes (getD (c .steps) e noStep)) ≡ 3 + stepLength kind
+    long e h = omega (arith, step-long (getD (c .steps) e noStep), ap stepLength (k .alike e h))
 
 pub diagram-long : (d : Diagram) → length (diagramBytes d) ≡ 5 + 9 * length (d .nodes)
-diagram-long d = omega (arith, length-append (rootBytes (d .root)) (each nodeBytes (d .nodes)), each-long nodeBytes 9 (λ x. refl) (d .nodes))
+diagram-long d = omega (arith, length-append (rootBytes (d .root)) (each nodeBytes (d .nodes)), each-long nodeBytes 9 noNode (d .nodes) (λ e h. refl))
 
 -- ---- bytes
 

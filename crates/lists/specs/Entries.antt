@@ -11,7 +11,7 @@ use lib.Dec.{ltb}
 use lib.ListN.{length, getD, take}
 use lib.Seq.{take-length}
 use borrow.Author.Tests.{lt-ltb, le-ltb}
-use Rattle.definitions.specs.Charts.{Chart, headed, readChart}
+use Rattle.definitions.specs.Charts.{Chart, headed, readChart, groupCount}
 use Rattle.definitions.specs.Diagrams.{Diagram, strict, readDiagram}
 use Rattle.definitions.specs.Ways.{wayCost}
 use Rattle.definitions.specs.Plans.{graph, automaton, Legal, cheapest, estimate}
@@ -110,41 +110,42 @@ module _ (c : Chart) (d : Diagram) (x x′ : Cycle) where
 -- the chart and the diagram of files that are accepted
 record Files (chart rules : List ℕ) (c : Chart) (d : Diagram) : Type 0 where
   pub chart-passes : readChart chart .number ≡ 0
-  pub rules-pass : readDiagram strict rules (length (c .steps)) .number ≡ 0
+  pub rules-pass : readDiagram strict rules (groupCount c) .number ≡ 0
   pub chart-held : readChart chart .chart ≡ c
-  pub rules-held : readDiagram strict rules (length (c .steps)) .diagram ≡ d
+  pub rules-held : readDiagram strict rules (groupCount c) .diagram ≡ d
 
 files-of : (chart rules : List ℕ) (c : Chart) (d : Diagram) → readFiles strict chart rules ≡ ready c d → Files chart rules c d
 files-of chart rules c d e =
     either (same-or-not (readChart chart .number) 0)
-    (λ (z : readChart chart .number ≡ 0). either (same-or-not (readDiagram strict rules (length (readChart chart .chart .steps)) .number) 0)
-    (λ (y : readDiagram strict rules (length (readChart chart .chart .steps)) .number ≡ 0). held z y (sym (files-passed strict chart rules z y) ∙ e))
+    (λ (z : readChart chart .number ≡ 0). either (same-or-not (readDiagram strict rules (groupCount (readChart chart .chart)) .number) 0)
+    (λ (y : readDiagram strict rules (groupCount (readChart chart .chart)) .number ≡ 0). held z y (sym (files-passed strict chart rules z y) ∙ e))
     (λ n. absurd (refused-not-ready _ _ _ c d (sym (rules-refused strict chart rules z n) ∙ e))))
     (λ n. absurd (refused-not-ready _ _ _ c d (sym (chart-refused strict chart rules n) ∙ e)))
   where
-    held : readChart chart .number ≡ 0 → readDiagram strict rules (length (readChart chart .chart .steps)) .number ≡ 0
-        → ready (readChart chart .chart) (readDiagram strict rules (length (readChart chart .chart .steps)) .diagram) ≡ ready c d → Files chart rules c d
+    held : readChart chart .number ≡ 0 → readDiagram strict rules (groupCount (readChart chart .chart)) .number ≡ 0
+        → ready (readChart chart .chart) (readDiagram strict rules (groupCount (readChart chart .chart)) .diagram) ≡ ready c d → Files chart rules c d
     held z y q =
         let same = ready-left _ _ c d q in
         record {
           chart-passes = z;
-          rules-pass = subst (λ (i : Chart). readDiagram strict rules (length (i .steps)) .number ≡ 0) same y;
+          rules-pass = subst (λ (i : Chart). readDiagram strict rules (groupCount i) .number ≡ 0) same y;
           chart-held = same;
-          rules-held = subst (λ (i : Chart). readDiagram strict rules (length (i .steps)) .diagram ≡ d) same (ready-right _ _ c d q);
+          rules-held = subst (λ (i : Chart). readDiagram strict rules (groupCount i) .diagram ≡ d) same (ready-right _ _ c d q);
         }
 
 -- with another start and end in the chart's head the files are accepted too, and are that chart and the same diagram
 pub headed-files : (chart rules : List ℕ) (c : Chart) (d : Diagram) (start end : ℕ) → readFiles strict chart rules ≡ ready c d → start < c .stages → end < c .stages
     → readFiles strict (withHead chart start end) rules ≡ ready (headed c start end) d
+unfolding groupCount
 headed-files chart rules c d start end e i j =
     let f = files-of chart rules c d e in
     let at : readChart (withHead chart start end) ≡ _ = headed-reads chart start end (f .chart-passes) (subst (λ (k : Chart). start < k .stages) (sym (f .chart-held)) i)
     (subst (λ (k : Chart). end < k .stages) (sym (f .chart-held)) j) in
     let held : readChart (withHead chart start end) .chart ≡ headed c start end = ap (λ k. k .chart) at ∙ ap (λ (k : Chart). headed k start end) (f .chart-held) in
-    let steps : length (readChart (withHead chart start end) .chart .steps) ≡ length (c .steps) = ap (λ (k : Chart). length (k .steps)) held in
+    let groups : groupCount (readChart (withHead chart start end) .chart) ≡ groupCount c = ap groupCount held in
     files-passed strict (withHead chart start end) rules (ap (λ k. k .number) at ∙ f .chart-passes)
-    (ap (λ (n : ℕ). readDiagram strict rules n .number) steps ∙ f .rules-pass)
-    ∙ ap₂ (λ (k : Chart) (l : Diagram). ready k l) held (ap (λ (n : ℕ). readDiagram strict rules n .diagram) steps ∙ f .rules-held)
+    (ap (λ (n : ℕ). readDiagram strict rules n .number) groups ∙ f .rules-pass)
+    ∙ ap₂ (λ (k : Chart) (l : Diagram). ready k l) held (ap (λ (n : ℕ). readDiagram strict rules n .diagram) groups ∙ f .rules-held)
 
 -- ---- the call
 

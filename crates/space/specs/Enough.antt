@@ -6,9 +6,8 @@ use mathlib.Core.Bool.{true}
 use mathlib.Core.List.{List, [], _∷_}
 use native.Mathlib.Nat.{mul-le-mul-right}
 use native.Mathlib.Omega.{arith}
-use lib.ListN.{length}
 use borrow.Author.Tests.{le-leb}
-use Rattle.definitions.specs.Charts.{Chart, readChart}
+use Rattle.definitions.specs.Charts.{Chart, readChart, groupCount}
 use Rattle.definitions.specs.Diagrams.{Diagram, size, strict, readDiagram}
 use Rattle.definitions.specs.Plans.{graph}
 use Rattle.definitions.specs.Answers.{readFiles, load, workNeed, planNeed, spaceFits}
@@ -23,13 +22,13 @@ module _ (s t : List ℕ) where
   C = readChart s .chart
 
   abbrev D : Diagram
-  D = readDiagram strict t (length (C .steps)) .diagram
+  D = readDiagram strict t (groupCount C) .diagram
 
   -- 256 stages × 512 nodes and 255 steps
-  most : readChart s .number ≡ 0 → readDiagram strict t (length (C .steps)) .number ≡ 0 → spaceFits C D (131072 ∷ []) 255 ≡ true
+  most : readChart s .number ≡ 0 → readDiagram strict t (groupCount C) .number ≡ 0 → spaceFits C D (131072 ∷ []) 255 ≡ true
   most c d =
       let v : Valid (graph C) = chart-accepted s c .0 in
-      let w : Sound (length (C .steps)) D = diagram-accepted strict t (length (C .steps)) d in
+      let w : Sound (groupCount C) D = diagram-accepted strict t (groupCount C) d in
       let m = mul-le-mul-right (size D) (v .few-stages) in
       simp (le-leb (workNeed C D) 131072 (omega (arith, m, w .few)), le-leb (planNeed C) 255 (omega (arith, v .few-stages)))
 
@@ -37,7 +36,7 @@ module _ (s t : List ℕ) where
   pub load-most : load s t (131072 ∷ []) 255 ≡ readFiles strict s t
   load-most =
       either (same-or-not (readChart s .number) 0)
-      (λ c. either (same-or-not (readDiagram strict t (length (C .steps)) .number) 0)
+      (λ c. either (same-or-not (readDiagram strict t (groupCount C) .number) 0)
       (λ d. all-ready s t (131072 ∷ []) 255 c d (most c d) ∙ sym (files-passed strict s t c d))
       (λ d. rules-refuse s t (131072 ∷ []) 255 c d ∙ sym (rules-refused strict s t c d)))
       (λ c. chart-refuses s t (131072 ∷ []) 255 c ∙ sym (chart-refused strict s t c))

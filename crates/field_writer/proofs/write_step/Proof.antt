@@ -1,5 +1,6 @@
 -- `field_writer::write_step` meets its contract.
 use Rattle.buffer.specs.Appends.{append-both}
+use Rattle.definitions.specs.Basics.{pick}
 use borrow.Author.Needs.{needs}
 use Rattle.field_writer.proofs.write_step.Statement.{statement}
 use Rattle.field_writer.proofs.write_step.Tie as tie
@@ -18,6 +19,7 @@ same-length : tie.Need-same-length
 same-length c = search needs
 
 returns : tie.Need-returns
+unfolding pick
 returns c =
     let first : tie.After-write-start = search in
     let second : tie.After-write-u32 = search in
