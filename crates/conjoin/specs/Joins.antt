@@ -10,7 +10,7 @@ use borrow.Author.Tests.{lt-ltb, le-ltb}
 use Rattle.definitions.specs.Answers.{LoadTwo, readyTwo, refusedTwo, loadTwo, refusal, Filed}
 use Rattle.definitions.specs.Basics.{NONE}
 use Rattle.definitions.specs.Bytes.{diagramBytes}
-use Rattle.definitions.specs.Charts.{Chart}
+use Rattle.definitions.specs.Charts.{Chart, groupCount}
 use Rattle.definitions.specs.Diagrams.{InnerNode, Diagram, size}
 use Rattle.definitions.specs.Promises.{writtenAnswer, writtenBuffer, ConjoinPromise, ConjoinCall, conjoinSlices}
 use Rattle.definitions.specs.Reductions.{postorder, numbered, nodesOf, diagramOf, conjunction}
@@ -31,14 +31,14 @@ use Rattle.diagram_writer.specs.Files.{drawn}
 use Rattle.conjoin.specs.Loads.{Loaded, LoadsTwo}
 use Rattle.conjoin.specs.declared.load.LoadedTwo.{LoadedTwo}
 
--- what the walk asks: two diagrams over a chart of so many steps stand in tables, and there is a work entry for each pair of their nodes
+-- what the walk asks: two diagrams over a chart of so many groups stand in tables, and there is a work entry for each pair of their nodes
 pub record Joinable (work left right : List ℕ) (width pairs first second : ℕ) : Type 0 where
-  pub steps : ℕ
+  pub groups : ℕ
   pub d : Diagram
   pub e : Diagram
   pub inside : Inside d e left right width work
-  pub sound-first : Sound steps d
-  pub sound-second : Sound steps e
+  pub sound-first : Sound groups d
+  pub sound-second : Sound groups e
   pub root-first : first ≡ d .root
   pub root-second : second ≡ e .root
   pub needs : pairs ≡ size d * size e
@@ -46,8 +46,8 @@ pub record Joinable (work left right : List ℕ) (width pairs first second : ℕ
 -- what comes of it
 pub record Joins {work left right : List ℕ} {width pairs first second : ℕ} (x : Joinable work left right width pairs first second) (file work′ file′ : List ℕ) (r : Answer)
     : Type 0 where
-  pub answer : r ≡ writtenAnswer (conjunction (x .steps) (x .d) (x .e)) (length file)
-  pub buffer : file′ ≡ writtenBuffer (conjunction (x .steps) (x .d) (x .e)) file
+  pub answer : r ≡ writtenAnswer (conjunction (x .groups) (x .d) (x .e)) (length file)
+  pub buffer : file′ ≡ writtenBuffer (conjunction (x .groups) (x .d) (x .e)) file
   pub long : length work′ ≡ length work
   pub rest : drop (size (x .d) * size (x .e)) work′ ≡ drop (size (x .d) * size (x .e)) work
 
@@ -107,7 +107,7 @@ module _ {work left right : List ℕ} {width pairs first second : ℕ} (x : Join
 
     module _ (w₂ : List ℕ) (t₂ : UniqueTable) (root : ℕ) (walked : Walked walk-ready w₂ t₂ root) where
       abbrev made : Diagram
-      made = conjunction (x .steps) (x .d) (x .e)
+      made = conjunction (x .groups) (x .d) (x .e)
 
       long₂ : length w₂ ≡ length work
       long₂ = walked .long ∙ long₁
@@ -123,7 +123,7 @@ module _ {work left right : List ℕ} {width pairs first second : ℕ} (x : Join
       made-is : made ≡ diagramOf (pairTree (x .d) (x .e) first second)
       unfolding joined pairTree
       made-is =
-          conjunction-joined (x .steps) (x .d) (x .e) (x .sound-first) (x .sound-second)
+          conjunction-joined (x .groups) (x .d) (x .e) (x .sound-first) (x .sound-second)
           ∙ ap₂ (λ (m n : ℕ). diagramOf (meet (tree (x .d) m) (tree (x .e) n))) (sym (x .root-first)) (sym (x .root-second))
 
       made-long : length (made .nodes) ≡ length (postorder (pairTree (x .d) (x .e) first second) [])
@@ -164,7 +164,7 @@ module _ {work left right : List ℕ} {width pairs first second : ℕ} (x : Join
 abbrev asked : (c : Chart) (d e : Diagram) (work left right : List ℕ) (got : LoadedTwo) → Loaded c d e (length work) left right got
     → Joinable work left right (got .width) (got .pairs) (got .first) (got .second)
 asked c d e work left right got l = record {
-  steps = length (c .steps);
+  groups = groupCount c;
   d = d;
   e = e;
   inside = record { first = l .operand-first; second = l .operand-second; wide = l .wide; room = l .room };

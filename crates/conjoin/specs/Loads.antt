@@ -6,15 +6,16 @@ use mathlib.Core.Bool.{Bool}
 use mathlib.Core.List.{List}
 use native.Mathlib.Nat.{mul-le-mul-right}
 use native.Mathlib.Omega.{arith}
-use lib.ListN.{length, getD}
+use lib.ListN.{getD}
 use mir.Syntax.{w64}
 use mir.Val.{Fits}
-use Rattle.definitions.specs.Charts.{Chart, readChart}
+use Rattle.definitions.specs.Charts.{Chart, readChart, groupCount}
 use Rattle.definitions.specs.Charts as charts
 use Rattle.definitions.specs.Diagrams.{Diagram, size, strict, readDiagram}
 use Rattle.definitions.specs.Diagrams as diagrams
 use Rattle.definitions.specs.Answers.{LoadTwo, readyTwo, refusedTwo, pairNeed, loadTwo}
 use Rattle.theory.specs.Limits.{Sound}
+use Rattle.theory.specs.Variables.{groups-few}
 use Rattle.diagram_fields.specs.Words.{nodesIn, stepOf, step-at, lo-at, hi-at, MARK}
 use Rattle.chart.specs.Accepted.{chart-accepted}
 use Rattle.chart.specs.Tables.{chartAnswer}
@@ -41,15 +42,15 @@ pub record Loaded (c : Chart) (d e : Diagram) (work : ℕ) (left right : List �
   pub room : pairNeed d e ≤ work
   pub operand-first : Operand d left
   pub operand-second : Operand e right
-  pub sound-first : Sound (length (c .steps)) d
-  pub sound-second : Sound (length (c .steps)) e
+  pub sound-first : Sound (groupCount c) d
+  pub sound-second : Sound (groupCount c) e
 
 -- by the outcome of the checks
 abbrev pub LoadsTwo : LoadTwo → ℕ → List ℕ → List ℕ → LoadedTwo → Type 0
 LoadsTwo (refusedTwo number file place) work left right r = (r ≡ refusedAs number file place) × (number ≡ 0 → ⊥)
 LoadsTwo (readyTwo c d e) work left right r = Loaded c d e work left right r
 
--- ---- a diagram file over a chart of so many steps, read into a table
+-- ---- a diagram file over a chart of so many groups, read into a table
 
 module _ (mode : Bool) (s : List ℕ) (n : ℕ) (words words′ : List ℕ) (y : DiagramRead) (reads : Reads mode s n words words′ y) where
   pub number-is : y .number ≡ readDiagram mode s n .number
@@ -113,46 +114,46 @@ module _ (chart rules more : List ℕ) (work : ℕ) (x : ChartRead) (answer : x 
   chart-place : x .place ≡ readChart chart .place
   chart-place = ap (λ (z : ChartRead). z .place) answer
 
-  steps-is : x .steps ≡ length (readChart chart .chart .steps)
-  steps-is = ap (λ (z : ChartRead). z .steps) answer
+  groups-is : x .groups ≡ groupCount (readChart chart .chart)
+  groups-is = ap (λ (z : ChartRead). z .groups) answer
 
   pub chart-out : (left right : List ℕ) → (x .number ≡ 0 → ⊥) → (r : LoadedTwo) → r ≡ refusedAs (x .number) 1 (x .place) → LoadsTwo (loadTwo chart rules more work) work left right r
   chart-out left right h r e =
       rw (chart-refuses-two chart rules more work (λ z. h (chart-number ∙ z))) (e ∙ ap₂ (λ (i j : ℕ). refusedAs i 1 j) chart-number chart-place, λ z. h (chart-number ∙ z))
 
-  pub few-steps : x .number ≡ 0 → x .steps ≤ 1024
-  few-steps cx = omega (arith, steps-is, chart-accepted chart (sym chart-number ∙ cx) .0 .few)
+  pub few-groups : x .number ≡ 0 → x .groups ≤ 1024
+  few-groups cx = omega (arith, groups-is, groups-few (readChart chart .chart) (chart-accepted chart (sym chart-number ∙ cx) .0))
 
-  module _ (cx : x .number ≡ 0) (words₁ : List ℕ) (left′ : List ℕ) (y : DiagramRead) (ry : Reads strict rules (x .steps) words₁ left′ y) where
+  module _ (cx : x .number ≡ 0) (words₁ : List ℕ) (left′ : List ℕ) (y : DiagramRead) (ry : Reads strict rules (x .groups) words₁ left′ y) where
     chart-passed : readChart chart .number ≡ 0
     chart-passed = sym chart-number ∙ cx
 
-    first-is : readDiagram strict rules (x .steps) ≡ rulesRead chart rules
-    first-is = ap (readDiagram strict rules) steps-is
+    first-is : readDiagram strict rules (x .groups) ≡ rulesRead chart rules
+    first-is = ap (readDiagram strict rules) groups-is
 
     first-number : y .number ≡ rulesRead chart rules .number
-    first-number = number-is strict rules (x .steps) words₁ left′ y ry ∙ ap (λ (z : diagrams.DiagramRead). z .number) first-is
+    first-number = number-is strict rules (x .groups) words₁ left′ y ry ∙ ap (λ (z : diagrams.DiagramRead). z .number) first-is
 
     first-place : y .place ≡ rulesRead chart rules .place
-    first-place = place-is strict rules (x .steps) words₁ left′ y ry ∙ ap (λ (z : diagrams.DiagramRead). z .place) first-is
+    first-place = place-is strict rules (x .groups) words₁ left′ y ry ∙ ap (λ (z : diagrams.DiagramRead). z .place) first-is
 
     pub rules-out : (right : List ℕ) → (y .number ≡ 0 → ⊥) → (r : LoadedTwo) → r ≡ refusedAs (y .number) 2 (y .place) → LoadsTwo (loadTwo chart rules more work) work left′ right r
     rules-out right h r e =
         rw (rules-refuse-two chart rules more work chart-passed (λ z. h (first-number ∙ z)))
         (e ∙ ap₂ (λ (i j : ℕ). refusedAs i 2 j) first-number first-place, λ z. h (first-number ∙ z))
 
-    module _ (cy : y .number ≡ 0) (words₂ : List ℕ) (right′ : List ℕ) (z : DiagramRead) (rz : Reads strict more (x .steps) words₂ right′ z) where
+    module _ (cy : y .number ≡ 0) (words₂ : List ℕ) (right′ : List ℕ) (z : DiagramRead) (rz : Reads strict more (x .groups) words₂ right′ z) where
       first-passed : rulesRead chart rules .number ≡ 0
       first-passed = sym first-number ∙ cy
 
-      second-is : readDiagram strict more (x .steps) ≡ rulesRead chart more
-      second-is = ap (readDiagram strict more) steps-is
+      second-is : readDiagram strict more (x .groups) ≡ rulesRead chart more
+      second-is = ap (readDiagram strict more) groups-is
 
       second-number : z .number ≡ rulesRead chart more .number
-      second-number = number-is strict more (x .steps) words₂ right′ z rz ∙ ap (λ (z : diagrams.DiagramRead). z .number) second-is
+      second-number = number-is strict more (x .groups) words₂ right′ z rz ∙ ap (λ (z : diagrams.DiagramRead). z .number) second-is
 
       second-place : z .place ≡ rulesRead chart more .place
-      second-place = place-is strict more (x .steps) words₂ right′ z rz ∙ ap (λ (z : diagrams.DiagramRead). z .place) second-is
+      second-place = place-is strict more (x .groups) words₂ right′ z rz ∙ ap (λ (z : diagrams.DiagramRead). z .place) second-is
 
       pub more-out : (z .number ≡ 0 → ⊥) → (r : LoadedTwo) → r ≡ refusedAs (z .number) 3 (z .place) → LoadsTwo (loadTwo chart rules more work) work left′ right′ r
       more-out h r e =
@@ -164,19 +165,19 @@ module _ (chart rules more : List ℕ) (work : ℕ) (x : ChartRead) (answer : x 
         second-passed = sym second-number ∙ cz
 
         pub first-few : y .nodes ≤ 510
-        first-few = few-nodes strict rules (x .steps) words₁ left′ y ry cy
+        first-few = few-nodes strict rules (x .groups) words₁ left′ y ry cy
 
         pub second-few : z .nodes ≤ 510
-        second-few = few-nodes strict more (x .steps) words₂ right′ z rz cz
+        second-few = few-nodes strict more (x .groups) words₂ right′ z rz cz
 
         pub pairs-fit : Fits w64 ((y .nodes + 2) * (z .nodes + 2))
         pairs-fit = record { fits = omega (arith, pairs-bound (y .nodes) (z .nodes) first-few second-few) }
 
         first-size : y .nodes + 2 ≡ size (rulesRead chart rules .diagram)
-        first-size = size-is strict rules (x .steps) words₁ left′ y ry ∙ ap (λ (w : diagrams.DiagramRead). size (w .diagram)) first-is
+        first-size = size-is strict rules (x .groups) words₁ left′ y ry ∙ ap (λ (w : diagrams.DiagramRead). size (w .diagram)) first-is
 
         second-size : z .nodes + 2 ≡ size (rulesRead chart more .diagram)
-        second-size = size-is strict more (x .steps) words₂ right′ z rz ∙ ap (λ (w : diagrams.DiagramRead). size (w .diagram)) second-is
+        second-size = size-is strict more (x .groups) words₂ right′ z rz ∙ ap (λ (w : diagrams.DiagramRead). size (w .diagram)) second-is
 
         need-is : (y .nodes + 2) * (z .nodes + 2) ≡ pairNeed (rulesRead chart rules .diagram) (rulesRead chart more .diagram)
         need-is = ap₂ (λ (i j : ℕ). i * j) first-size second-size
@@ -190,13 +191,13 @@ module _ (chart rules more : List ℕ) (work : ℕ) (x : ChartRead) (answer : x 
         all-pass h =
             rw (ready-two chart rules more work chart-passed first-passed second-passed (omega (arith, need-is))) (record {
               passed = refl;
-              root-first = root-is strict rules (x .steps) words₁ left′ y ry ∙ ap (λ (w : diagrams.DiagramRead). w .diagram .root) first-is;
-              root-second = root-is strict more (x .steps) words₂ right′ z rz ∙ ap (λ (w : diagrams.DiagramRead). w .diagram .root) second-is;
+              root-first = root-is strict rules (x .groups) words₁ left′ y ry ∙ ap (λ (w : diagrams.DiagramRead). w .diagram .root) first-is;
+              root-second = root-is strict more (x .groups) words₂ right′ z rz ∙ ap (λ (w : diagrams.DiagramRead). w .diagram .root) second-is;
               wide = second-size;
               needs = need-is;
               room = omega (arith, need-is);
-              operand-first = subst (λ (w : diagrams.DiagramRead). Operand (w .diagram) left′) first-is (operand-is strict rules (x .steps) words₁ left′ y ry cy (few-steps cx));
-              operand-second = subst (λ (w : diagrams.DiagramRead). Operand (w .diagram) right′) second-is (operand-is strict more (x .steps) words₂ right′ z rz cz (few-steps cx));
-              sound-first = diagram-accepted strict rules (length (readChart chart .chart .steps)) first-passed;
-              sound-second = diagram-accepted strict more (length (readChart chart .chart .steps)) second-passed;
+              operand-first = subst (λ (w : diagrams.DiagramRead). Operand (w .diagram) left′) first-is (operand-is strict rules (x .groups) words₁ left′ y ry cy (few-groups cx));
+              operand-second = subst (λ (w : diagrams.DiagramRead). Operand (w .diagram) right′) second-is (operand-is strict more (x .groups) words₂ right′ z rz cz (few-groups cx));
+              sound-first = diagram-accepted strict rules (groupCount (readChart chart .chart)) first-passed;
+              sound-second = diagram-accepted strict more (groupCount (readChart chart .chart)) second-passed;
             })

@@ -37,7 +37,7 @@ fn refused(number: u32, file: u32, place: usize) -> LoadedTwo
     }
 }
 
-// Reads the chart: of its steps only the number is used.
+// Reads the chart: of its steps only the number of their groups is used.
 pub fn check_chart(chart: &[u8]) -> ChartRead
     ensures { λ r. ⌜ r ≡ chartAnswer (readChart (now (chart .entry))) ⌝ }
 {
@@ -64,11 +64,11 @@ pub fn load_two(
     if c.number != 0 {
         return refused(c.number as u32, 1, c.place);
     }
-    let d = read_diagram(rules, c.steps, true, left);
+    let d = read_diagram(rules, c.groups, true, left);
     if d.number != 0 {
         return refused(d.number as u32, 2, d.place);
     }
-    let e = read_diagram(more, c.steps, true, right);
+    let e = read_diagram(more, c.groups, true, right);
     if e.number != 0 {
         return refused(e.number as u32, 3, e.place);
     }

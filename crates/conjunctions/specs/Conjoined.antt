@@ -6,7 +6,7 @@ use mathlib.Core.List.{List}
 use native.Mathlib.Omega.{arith}
 use lib.ListN.{length, drop}
 use borrow.Author.Tests.{lt-ltb, le-ltb}
-use Rattle.definitions.specs.Charts.{readChart}
+use Rattle.definitions.specs.Charts.{readChart, groupCount}
 use Rattle.definitions.specs.Diagrams.{Diagram, size}
 use Rattle.definitions.specs.Answers.{LoadTwo, refusedTwo, loadTwo, Filed}
 use Rattle.definitions.specs.Bytes.{diagramBytes}
@@ -31,7 +31,7 @@ module _ (chart rules more : List ℕ) where
   need = size (rulesRead chart rules .diagram) * size (rulesRead chart more .diagram)
 
   abbrev pub made : Diagram
-  made = conjunction (length (readChart chart .chart .steps)) (rulesRead chart rules .diagram) (rulesRead chart more .diagram)
+  made = conjunction (groupCount (readChart chart .chart)) (rulesRead chart rules .diagram) (rulesRead chart more .diagram)
 
   -- by the slices before and after the call, and its answer
   pub record Conjoined (before after : ConjoinSlices) (r : Answer) : Type 0 where

@@ -7,7 +7,7 @@ use mathlib.Core.Bool.{Bool, _&&_}
 use mathlib.Core.List.{List, map}
 use lib.ListN.{length}
 use Rattle.definitions.specs.Basics.{has}
-use Rattle.definitions.specs.Charts.{Chart}
+use Rattle.definitions.specs.Charts.{Chart, groupCount}
 use Rattle.definitions.specs.Diagrams.{Diagram, size, readDiagram}
 use Rattle.definitions.specs.Ways.{wayCost}
 use Rattle.definitions.specs.Plans.{graph, variable, saysYes, Legal, cheapest}
@@ -79,12 +79,12 @@ module _ (c : Chart) (d e : Diagram) where
 
   -- the conjunction over the chart's steps
   abbrev pub joint : Diagram
-  joint = conjunction (length (c .steps)) d e
+  joint = conjunction (groupCount c) d e
 
-  module _ (p : Sound (length (c .steps)) d) (q : Sound (length (c .steps)) e) where
+  module _ (p : Sound (groupCount c) d) (q : Sound (groupCount c) e) where
     says-both : (w : List ℕ) → saysYes c joint w ≡ (saysYes c d w && saysYes c e w)
     says-both w =
-        says-accepts c joint w ∙ conjunction-accepts (length (c .steps)) d e p q (has (map (variable c) w))
+        says-accepts c joint w ∙ conjunction-accepts (groupCount c) d e p q (has (map (variable c) w))
         ∙ ap₂ (λ (a b : Bool). a && b) (sym (says-accepts c d w)) (sym (says-accepts c e w))
 
     -- the plans that it allows are those that both allow

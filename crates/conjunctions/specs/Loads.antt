@@ -6,7 +6,7 @@ use mathlib.Core.Bool.{not}
 use mathlib.Core.List.{List}
 use lib.ListN.{length}
 use borrow.Author.Tests.{le-leb, lt-leb, eq-eqb, ne-eqb}
-use Rattle.definitions.specs.Charts.{readChart}
+use Rattle.definitions.specs.Charts.{readChart, groupCount}
 use Rattle.definitions.specs.Diagrams.{strict, DiagramRead, readDiagram}
 use Rattle.definitions.specs.Answers.{Load, LoadTwo, readyTwo, refusedTwo, pairNeed, withMore, withPairSpace, loadTwo}
 use Rattle.theory.specs.Basics.{pick-true, pick-false}
@@ -14,7 +14,7 @@ use Rattle.checks.specs.Outcome.{chart-refused, rules-refused, files-passed}
 
 -- a diagram file, read strictly for the chart of the chart file
 abbrev pub rulesRead : List ℕ → List ℕ → DiagramRead
-rulesRead chart rules = readDiagram strict rules (length (readChart chart .chart .steps))
+rulesRead chart rules = readDiagram strict rules (groupCount (readChart chart .chart))
 
 module _ (chart rules more : List ℕ) (work : ℕ) where
   abbrev rest : Load → LoadTwo

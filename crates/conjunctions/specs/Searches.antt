@@ -7,7 +7,7 @@ use mathlib.Core.List.{List}
 use mathlib.Core.Option.{Option, none, some}
 use native.Mathlib.Omega.{arith}
 use lib.ListN.{length, take}
-use Rattle.definitions.specs.Charts.{Chart, readChart}
+use Rattle.definitions.specs.Charts.{Chart, readChart, groupCount}
 use Rattle.definitions.specs.Diagrams.{Diagram, strict, DiagramRead}
 use Rattle.definitions.specs.Ways.{wayCost}
 use Rattle.definitions.specs.Plans.{graph, Legal, cheapest}
@@ -41,7 +41,7 @@ pub record Answered (c : Chart) (d e : Diagram) (plan′ : List ℕ) (r : Answer
   pub eight : r .number ≡ 8 → (w : List ℕ) → Legal c d w → Legal c e w → ⊥
   pub else-short : (r .number ≡ 0 → ⊥) → (r .number ≡ 8 → ⊥) → r .number ≡ 7
 
-module _ (c : Chart) (d e : Diagram) (p : Sound (length (c .steps)) d) (q : Sound (length (c .steps)) e) (v : Valid (graph c)) where
+module _ (c : Chart) (d e : Diagram) (p : Sound (groupCount c) d) (q : Sound (groupCount c) e) (v : Valid (graph c)) where
   module _ (k : ℕ) (plan plan′ : List ℕ) (r : Answer) where
     by-best : (best : Option ℕ) → IsLeast (AllowedCost c d e) best → Outcome best c (joint c d e) k plan plan′ r → Answered c d e plan′ r
     by-best none l o =
@@ -114,7 +114,7 @@ module _ (chart rules more : List ℕ) (before after : ConjoinSlices) (r : Answe
   written-is = taken-is (diagramBytes (made chart rules more)) (before .file) (after .file) r (facts .written)
 
   written-read : rulesRead chart writtenFile ≡ record { number = 0; place = 0; diagram = made chart rules more }
-  written-read = ap (rulesRead chart) written-is ∙ conjunction-read (length (c .steps)) d e (facts .few) strict
+  written-read = ap (rulesRead chart) written-is ∙ conjunction-read (groupCount c) d e (facts .few) strict
 
   -- the checks of every search accept it, with the same chart
   pub written-ready : readFiles strict chart writtenFile ≡ ready c (made chart rules more)
@@ -122,11 +122,11 @@ module _ (chart rules more : List ℕ) (before after : ConjoinSlices) (r : Answe
       files-passed strict chart writtenFile (facts .files .chart-passes) (ap (λ (x : DiagramRead). x .number) written-read)
       ∙ ap (λ (x : DiagramRead). ready c (x .diagram)) written-read
 
-  sound-rules : Sound (length (c .steps)) d
-  sound-rules = diagram-accepted strict rules (length (c .steps)) (facts .files .rules-pass)
+  sound-rules : Sound (groupCount c) d
+  sound-rules = diagram-accepted strict rules (groupCount c) (facts .files .rules-pass)
 
-  sound-more : Sound (length (c .steps)) e
-  sound-more = diagram-accepted strict more (length (c .steps)) (facts .files .more-passes)
+  sound-more : Sound (groupCount c) e
+  sound-more = diagram-accepted strict more (groupCount c) (facts .files .more-passes)
 
   valid : Valid (graph c)
   valid = chart-accepted chart (facts .files .chart-passes) .0

@@ -10,7 +10,7 @@ use mir.Val.{Fits}
 use borrow.Author.Tests.{le-ltb}
 use Rattle.definitions.specs.Answers.{Load, readFiles, refusal, Filed}
 use Rattle.definitions.specs.Bytes.{diagramBytes}
-use Rattle.definitions.specs.Charts.{readChart}
+use Rattle.definitions.specs.Charts.{readChart, groupCount}
 use Rattle.definitions.specs.Diagrams.{Diagram, size, lenient, readDiagram}
 use Rattle.definitions.specs.Diagrams as diagrams
 use Rattle.definitions.specs.Promises.{writtenAnswer, writtenBuffer, ReducePromise, ReduceCall}
@@ -26,7 +26,7 @@ use Rattle.diagram.specs.declared.reader.DiagramRead.{DiagramRead}
 use Rattle.checks.specs.Outcome.{chart-refused, rules-refused, files-passed}
 use Rattle.apply.specs.Operands.{Operand}
 use Rattle.conjoin.specs.Joins.{Joinable, Joins}
-use Rattle.conjoin.specs.Loads.{number-is, place-is, root-is, size-is, sound-is, few-nodes as nodes-few, operand-is, few-steps}
+use Rattle.conjoin.specs.Loads.{number-is, place-is, root-is, size-is, sound-is, few-nodes as nodes-few, operand-is, few-groups}
 use Rattle.reductions.specs.Reductions.{always, always-sound, reduction-small, reduction-joined}
 use Rattle.reductions.specs.Reduces.{rulesHeld}
 
@@ -47,8 +47,8 @@ module _ (chart rules : List ℕ) (x : ChartRead) (answer : x ≡ chartAnswer (r
   chart-place : x .place ≡ readChart chart .place
   chart-place = ap (λ (z : ChartRead). z .place) answer
 
-  steps-is : x .steps ≡ length (readChart chart .chart .steps)
-  steps-is = ap (λ (z : ChartRead). z .steps) answer
+  groups-is : x .groups ≡ groupCount (readChart chart .chart)
+  groups-is = ap (λ (z : ChartRead). z .groups) answer
 
   by : (file file′ : List ℕ) (r : Answer) (o : Load) → readFiles lenient chart rules ≡ o → ReducePromise o file file′ r → ReduceCall chart rules file file′ r
   by file file′ r o e = subst (λ (z : Load). ReducePromise z file file′ r) (sym e)
@@ -57,18 +57,18 @@ module _ (chart rules : List ℕ) (x : ChartRead) (answer : x ≡ chartAnswer (r
   chart-out h file r e =
       by file file r _ (chart-refused lenient chart rules (λ z. h (chart-number ∙ z))) (e ∙ ap₂ (λ (i j : ℕ). refusal i 1 j 0) chart-number chart-place, refl)
 
-  module _ (cx : x .number ≡ 0) (words words′ : List ℕ) (y : DiagramRead) (reads : Reads lenient rules (x .steps) words words′ y) where
+  module _ (cx : x .number ≡ 0) (words words′ : List ℕ) (y : DiagramRead) (reads : Reads lenient rules (x .groups) words words′ y) where
     chart-passed : readChart chart .number ≡ 0
     chart-passed = sym chart-number ∙ cx
 
-    held-is : readDiagram lenient rules (x .steps) ≡ rulesHeld chart rules
-    held-is = ap (readDiagram lenient rules) steps-is
+    held-is : readDiagram lenient rules (x .groups) ≡ rulesHeld chart rules
+    held-is = ap (readDiagram lenient rules) groups-is
 
     rules-number : y .number ≡ rulesHeld chart rules .number
-    rules-number = number-is lenient rules (x .steps) words words′ y reads ∙ ap (λ (z : diagrams.DiagramRead). z .number) held-is
+    rules-number = number-is lenient rules (x .groups) words words′ y reads ∙ ap (λ (z : diagrams.DiagramRead). z .number) held-is
 
     rules-place : y .place ≡ rulesHeld chart rules .place
-    rules-place = place-is lenient rules (x .steps) words words′ y reads ∙ ap (λ (z : diagrams.DiagramRead). z .place) held-is
+    rules-place = place-is lenient rules (x .groups) words words′ y reads ∙ ap (λ (z : diagrams.DiagramRead). z .place) held-is
 
     pub rules-out : (y .number ≡ 0 → ⊥) → (file : List ℕ) (r : Answer) → r ≡ refusal (y .number) 2 (y .place) 0 → ReduceCall chart rules file file r
     rules-out h file r e =
@@ -79,10 +79,10 @@ module _ (chart rules : List ℕ) (x : ChartRead) (answer : x ≡ chartAnswer (r
       d = rulesHeld chart rules .diagram
 
       abbrev n : ℕ
-      n = length (readChart chart .chart .steps)
+      n = groupCount (readChart chart .chart)
 
       few : y .nodes ≤ 510
-      few = nodes-few lenient rules (x .steps) words words′ y reads cy
+      few = nodes-few lenient rules (x .groups) words words′ y reads cy
 
       pub nodes-fit : Fits w64 (y .nodes + 2)
       nodes-fit = record { fits = omega (arith, few) }
@@ -91,26 +91,26 @@ module _ (chart rules : List ℕ) (x : ChartRead) (answer : x ≡ chartAnswer (r
       pairs-fit = record { fits = omega (arith, few) }
 
       sound : Sound n d
-      sound = subst (λ (z : ℕ). Sound z (readDiagram lenient rules z .diagram)) steps-is (sound-is lenient rules (x .steps) words words′ y reads cy)
+      sound = subst (λ (z : ℕ). Sound z (readDiagram lenient rules z .diagram)) groups-is (sound-is lenient rules (x .groups) words words′ y reads cy)
 
       -- what the walk asks
       pub asked : (w : ℕ) → w ≡ wordOf leaf → (work : List ℕ) → length work ≡ 1024 → Joinable work words′ (replicate 512 w) 2 ((y .nodes + 2) * 2) (y .root) 1
       asked w leaf-is work long = record {
-        steps = n;
+        groups = n;
         d = d;
         e = always;
         inside = record {
           first = subst (λ (z : diagrams.DiagramRead). Operand (z .diagram) words′) held-is
-              (operand-is lenient rules (x .steps) words words′ y reads cy (few-steps chart rules rules 0 x answer cx));
+              (operand-is lenient rules (x .groups) words words′ y reads cy (few-groups chart rules rules 0 x answer cx));
           second = always-in w leaf-is;
           wide = refl;
           room = omega (arith, long, sound .few);
         };
         sound-first = sound;
         sound-second = always-sound n;
-        root-first = root-is lenient rules (x .steps) words words′ y reads ∙ ap (λ (z : diagrams.DiagramRead). z .diagram .root) held-is;
+        root-first = root-is lenient rules (x .groups) words words′ y reads ∙ ap (λ (z : diagrams.DiagramRead). z .diagram .root) held-is;
         root-second = refl;
-        needs = omega (arith, size-is lenient rules (x .steps) words words′ y reads, ap (λ (z : diagrams.DiagramRead). size (z .diagram)) held-is);
+        needs = omega (arith, size-is lenient rules (x .groups) words words′ y reads, ap (λ (z : diagrams.DiagramRead). size (z .diagram)) held-is);
       }
 
       -- what comes of it: a reduction never has too many nodes

@@ -20,7 +20,7 @@ pub fn reduce(chart: &[u8], rules: &[u8], file: &mut [u8]) -> Answer
         return refusal(c.number as u32, 1, c.place, 0);
     }
     let mut nodes = [0u32; 512];
-    let d = read_diagram(rules, c.steps, false, &mut nodes);
+    let d = read_diagram(rules, c.groups, false, &mut nodes);
     if d.number != 0 {
         return refusal(d.number as u32, 2, d.place, 0);
     }

@@ -8,7 +8,7 @@ use mathlib.Core.List.{List, [], _∷_, map}
 use native.Mathlib.Omega.{arith}
 use lib.ListN.{length, getD}
 use Rattle.definitions.specs.Basics.{upto}
-use Rattle.definitions.specs.Charts.{Chart, readChart}
+use Rattle.definitions.specs.Charts.{Chart, readChart, groupCount}
 use Rattle.definitions.specs.Diagrams.{DiagramRead, Diagram, size, strict, advance}
 use Rattle.definitions.specs.Pairs.{Automaton, stands, reached, pair, stageOf, nodeOf, reachedPairs}
 use Rattle.definitions.specs.Plans.{graph, automaton, variable}
@@ -56,7 +56,7 @@ module _ (n : ℕ) (d : Diagram) (p : Sound n d) (x : Unpadded d) where
       let inside : position (tree d m) trees < size d = omega (arith, there .1) in
       trees-apart d (p .ordered) (x .unlike) (x .forked) (position (tree d m) trees) m inside h (sym (tree-at (position (tree d m) trees) inside) ∙ there .0)
 
-module _ (c : Chart) (v : Valid (graph c)) (d e : Diagram) (p : Sound (length (c .steps)) d) (q : Sound (length (c .steps)) e) (x : Unpadded d) (y : Unpadded e)
+module _ (c : Chart) (v : Valid (graph c)) (d e : Diagram) (p : Sound (groupCount c) d) (q : Sound (groupCount c) e) (x : Unpadded d) (y : Unpadded e)
     (a : (s : ℕ → Bool) → accepts d s ≡ accepts e s) where
   abbrev A : Automaton
   A = automaton c d
@@ -103,7 +103,7 @@ module _ (c : Chart) (v : Valid (graph c)) (d e : Diagram) (p : Sound (length (c
         found .0,
         found .1,
         ap (λ (u : ℕ). pair A (stageOf B u) (node-of d (tree e (nodeOf B u)))) (found .2) ∙ ap₂ (λ (i j : ℕ). pair A i (node-of d (tree e j))) at-stage at-node
-            ∙ ap (λ (u : Tree). pair A s (node-of d u)) (sym same-tree) ∙ ap (pair A s) (node-is (length (c .steps)) d p x n n-in) ∙ pair-of A t,
+            ∙ ap (λ (u : Tree). pair A s (node-of d u)) (sym same-tree) ∙ ap (pair A s) (node-is (groupCount c) d p x n n-in) ∙ pair-of A t,
       )
 
   no-more : length (reachedPairs (graph c) A) ≤ length (reachedPairs (graph c) B)
@@ -112,10 +112,10 @@ module _ (c : Chart) (v : Valid (graph c)) (d e : Diagram) (p : Sound (length (c
       (λ i h. let r = pairs-only c d v i (getD (reachedPairs (graph c) A) i 0) (h, refl) in from-other (getD (reachedPairs (graph c) A) i 0) (r .0) (r .1))
       (λ i j hi hj z. pairs-once c d v i j (getD (reachedPairs (graph c) A) j 0) (hi, z) (hj, refl))
 
-pub counts-same : (c : Chart) → Valid (graph c) → (d e : Diagram) → Sound (length (c .steps)) d → Sound (length (c .steps)) e → Unpadded d → Unpadded e
-    → SameSets (length (c .steps)) d e → length (reachedPairs (graph c) (automaton c d)) ≡ length (reachedPairs (graph c) (automaton c e))
+pub counts-same : (c : Chart) → Valid (graph c) → (d e : Diagram) → Sound (groupCount c) d → Sound (groupCount c) e → Unpadded d → Unpadded e
+    → SameSets (groupCount c) d e → length (reachedPairs (graph c) (automaton c d)) ≡ length (reachedPairs (graph c) (automaton c e))
 counts-same c v d e p q x y a =
-    let all = sets-all (length (c .steps)) d e p q a in
+    let all = sets-all (groupCount c) d e p q a in
     omega (arith, no-more c v d e p q x y all, no-more c v e d q p y x (λ s. sym (all s)))
 
 -- ---- two files over one chart
@@ -123,9 +123,9 @@ counts-same c v d e p q x y a =
 -- The counts of two sweeps over one chart that no check refused, on files that say yes to the same sets of its steps, are equal
 pub sweeps-count : (chart rules more : List ℕ) (lent lent′ : SweepSlices) (r : Answer) (given given′ : SweepSlices) (s : Answer)
     → SweepCall chart rules lent lent′ r → SweepCall chart more given given′ s → Searched r → Searched s
-    → SameSets (length (readChart chart .chart .steps)) (rulesRead chart rules .diagram) (rulesRead chart more .diagram) → r .count ≡ s .count
+    → SameSets (groupCount (readChart chart .chart)) (rulesRead chart rules .diagram) (rulesRead chart more .diagram) → r .count ≡ s .count
 sweeps-count chart rules more lent lent′ r given given′ s promise other is-r is-s same =
-    let n = length (readChart chart .chart .steps) in
+    let n = groupCount (readChart chart .chart) in
     let x = searched-passes chart rules (sweepCall lent lent′ r) (sweep-promised chart rules lent lent′ r promise) is-r in
     let y = searched-passes chart more (sweepCall given given′ s) (sweep-promised chart more given given′ s other) is-s in
     let first = x .2 .files in

@@ -8,7 +8,7 @@ use native.Mathlib.Omega.{arith}
 use lib.ListN.{length, drop}
 use Rattle.definitions.specs.Answers.{Load, ready, refused, readFiles, Filed}
 use Rattle.definitions.specs.Bytes.{diagramBytes}
-use Rattle.definitions.specs.Charts.{readChart}
+use Rattle.definitions.specs.Charts.{readChart, groupCount}
 use Rattle.definitions.specs.Diagrams.{Diagram, DiagramRead, lenient, readDiagram}
 use Rattle.definitions.specs.Promises.{ReducePromise, ReduceCall}
 use Rattle.definitions.specs.Reductions.{reduction}
@@ -25,7 +25,7 @@ use Rattle.reductions.specs.Written.{Written, filed-short, filed-written
 
 -- a diagram file, of which padding is taken, read for the chart of the chart file
 abbrev pub rulesHeld : List ℕ → List ℕ → DiagramRead
-rulesHeld chart rules = readDiagram lenient rules (length (readChart chart .chart .steps))
+rulesHeld chart rules = readDiagram lenient rules (groupCount (readChart chart .chart))
 
 module _ (chart rules : List ℕ) where
   -- both files are accepted, padding aside
@@ -35,7 +35,7 @@ module _ (chart rules : List ℕ) where
 
   -- the reduction, and its file
   abbrev pub made : Diagram
-  made = reduction (length (readChart chart .chart .steps)) (rulesHeld chart rules .diagram)
+  made = reduction (groupCount (readChart chart .chart)) (rulesHeld chart rules .diagram)
 
   abbrev pub bytes : List ℕ
   bytes = diagramBytes made
@@ -100,7 +100,7 @@ module _ (chart rules out out′ : List ℕ) (r : Answer) (promise : ReduceCall 
       let own = files-own lenient chart rules n f p e in
       (λ q. own .1 (sym (x .number) ∙ q), λ q. own .2 (sym (x .number) ∙ q), λ q. lenient-own chart rules n f p e (sym (x .number) ∙ q))
   other-numbers (ready c d) e =
-      either (filed-number (diagramBytes (reduction (length (c .steps)) d)) out out′ r (by e)) (λ z. (λ q. omega arith, λ q. omega arith, λ q. omega arith))
+      either (filed-number (diagramBytes (reduction (groupCount c) d)) out out′ r (by e)) (λ z. (λ q. omega arith, λ q. omega arith, λ q. omega arith))
       (λ z. (λ q. omega arith, λ q. omega arith, λ q. omega arith))
 
   pub never-eight : r .number ≡ 8 → ⊥
@@ -118,18 +118,18 @@ module _ (chart rules out out′ : List ℕ) (r : Answer) (promise : ReduceCall 
       either (same-or-not (readChart chart .number) 0)
       (λ c. either (same-or-not (rulesHeld chart rules .number) 0)
       (λ d. let f : Files chart rules = record { chart-passes = c; rules-pass = d } in
-      let sound = diagram-accepted lenient rules (length (readChart chart .chart .steps)) d in
+      let sound = diagram-accepted lenient rules (groupCount (readChart chart .chart)) d in
       omega (arith, q, filed-written (bytes chart rules) out out′ r (filed f) (omega (arith, diagram-long (made chart rules), reduction-small _ _ sound, sound .few)) .number))
       (λ b. files-own lenient chart rules _ _ _ (rules-refused lenient chart rules c b) .0 (sym (rules-bad c b .0 .number) ∙ q)))
       (λ b. files-own lenient chart rules _ _ _ (chart-refused lenient chart rules b) .0 (sym (chart-bad b .0 .number) ∙ q))
 
 -- Two files over one chart, padding aside accepted, have the same reduction, byte for byte, exactly if they say yes to the same sets of the chart's steps
 pub files-exactly : (chart rules more : List ℕ) → Files chart rules → Files chart more
-    → (bytes chart rules ≡ bytes chart more) ↔ SameSets (length (readChart chart .chart .steps)) (rulesHeld chart rules .diagram) (rulesHeld chart more .diagram)
+    → (bytes chart rules ≡ bytes chart more) ↔ SameSets (groupCount (readChart chart .chart)) (rulesHeld chart rules .diagram) (rulesHeld chart more .diagram)
 files-exactly chart rules more f g =
-    let n = length (readChart chart .chart .steps) in
+    let n = groupCount (readChart chart .chart) in
     reduction-exactly n (rulesHeld chart rules .diagram) (rulesHeld chart more .diagram) (diagram-accepted lenient rules n (f .rules-pass)) (diagram-accepted lenient more n (g .rules-pass))
 
 -- a file that is accepted strictly holds the same diagram when padding is taken
 pub held-strict : (chart rules : List ℕ) → rulesRead chart rules .number ≡ 0 → rulesHeld chart rules ≡ rulesRead chart rules
-held-strict chart rules = strict-lenient rules (length (readChart chart .chart .steps))
+held-strict chart rules = strict-lenient rules (groupCount (readChart chart .chart))

@@ -12,7 +12,7 @@ use lib.ListN.{length}
 use borrow.Author.Tests.{lt-ltb, le-ltb}
 use Rattle.definitions.specs.Basics.{has}
 use Rattle.definitions.specs.Bytes.{diagramBytes}
-use Rattle.definitions.specs.Charts.{Chart}
+use Rattle.definitions.specs.Charts.{Chart, groupCount}
 use Rattle.definitions.specs.Diagrams.{Diagram, size, readDiagram}
 use Rattle.definitions.specs.Plans.{graph, variable, saysYes, Legal, cheapest}
 use Rattle.definitions.specs.Reductions.{accepts, Reduced, Arrives, reduction, conjunction}
@@ -102,11 +102,11 @@ reduction-joined n d p =
 
 -- ---- two diagrams over one chart
 
--- they say yes to the same sets of its steps
+-- they say yes to the same sets of its groups
 abbrev pub SameSets : ℕ → Diagram → Diagram → Type 0
 SameSets n d e = (s : ℕ → Bool) → ((j : ℕ) → n ≤ j → s j ≡ false) → accepts d s ≡ accepts e s
 
--- a set without what is no step of the chart
+-- a set without what is no group of the chart
 unfoldable within : ℕ → (ℕ → Bool) → ℕ → Bool
 within n s j = ltb j n && s j
 
@@ -150,9 +150,9 @@ module _ (c : Chart) (d e : Diagram) (a : (s : ℕ → Bool) → accepts d s ≡
   unfolding cheapest
   same-cheapest = ap (leastWay (graph c) (c .start)) (λ i w. eqb (endOf (graph c) (c .start) w) (c .end) && says-same w i)
 
-module _ (c : Chart) (d : Diagram) (p : Sound (length (c .steps)) d) where
-  pub reduction-legal : (w : List ℕ) → Legal c (reduction (length (c .steps)) d) w ↔ Legal c d w
-  reduction-legal = same-legal c (reduction (length (c .steps)) d) d (reduction-accepts (length (c .steps)) d p)
+module _ (c : Chart) (d : Diagram) (p : Sound (groupCount c) d) where
+  pub reduction-legal : (w : List ℕ) → Legal c (reduction (groupCount c) d) w ↔ Legal c d w
+  reduction-legal = same-legal c (reduction (groupCount c) d) d (reduction-accepts (groupCount c) d p)
 
-  pub reduction-cheapest : cheapest c (reduction (length (c .steps)) d) ≡ cheapest c d
-  reduction-cheapest = same-cheapest c (reduction (length (c .steps)) d) d (reduction-accepts (length (c .steps)) d p)
+  pub reduction-cheapest : cheapest c (reduction (groupCount c) d) ≡ cheapest c d
+  reduction-cheapest = same-cheapest c (reduction (groupCount c) d) d (reduction-accepts (groupCount c) d p)

@@ -11,7 +11,7 @@ use native.Mathlib.Omega.{arith}
 use lib.ListN.{length, take}
 use Rattle.definitions.specs.Answers.{Load, ready, readFiles, spaceFits, refusal, Filed}
 use Rattle.definitions.specs.Bytes.{diagramBytes}
-use Rattle.definitions.specs.Charts.{Chart, readChart}
+use Rattle.definitions.specs.Charts.{Chart, readChart, groupCount}
 use Rattle.definitions.specs.Diagrams.{Diagram, DiagramRead, strict, lenient, readDiagram}
 use Rattle.definitions.specs.Plans.{graph, automaton, cheapest}
 use Rattle.definitions.specs.Pairs.{reachedPairs}
@@ -29,9 +29,9 @@ use Rattle.reductions.specs.Reduces.{rulesHeld, made, bytes, Files, Redu
 
 -- ---- a search's outcome under a reduction is one under the diagram itself
 
-module _ (c : Chart) (d : Diagram) (p : Sound (length (c .steps)) d) (k : ℕ) (plan plan′ : List ℕ) (r : Answer) where
+module _ (c : Chart) (d : Diagram) (p : Sound (groupCount c) d) (k : ℕ) (plan plan′ : List ℕ) (r : Answer) where
   abbrev reduced : Diagram
-  reduced = reduction (length (c .steps)) d
+  reduced = reduction (groupCount c) d
 
   by-best : (best : Option ℕ) → Outcome best c reduced k plan plan′ r → Outcome best c d k plan plan′ r
   by-best none o = o
@@ -80,20 +80,20 @@ module _ (chart rules out out′ : List ℕ) (r : Answer) (promise : ReduceCall 
   facts : Passed
   facts = all-passed (reduces chart rules out out′ r promise)
 
-  sound : Sound (length (c .steps)) d
-  sound = diagram-accepted lenient rules (length (c .steps)) (facts .files .rules-pass)
+  sound : Sound (groupCount c) d
+  sound = diagram-accepted lenient rules (groupCount c) (facts .files .rules-pass)
 
   -- it is the file of the reduction
   pub reduced-is : reducedFile ≡ bytes chart rules
   reduced-is = written-is (bytes chart rules) out out′ r (facts .written)
 
   -- whichever file of a call it is, it is read as the reduction, strictly or not
-  pub reduced-file : (mode : Bool) → readDiagram mode reducedFile (length (c .steps)) ≡ record { number = 0; place = 0; diagram = made chart rules }
-  reduced-file mode = ap (λ (b : List ℕ). readDiagram mode b (length (c .steps))) reduced-is ∙ reduction-read (length (c .steps)) d sound mode
+  pub reduced-file : (mode : Bool) → readDiagram mode reducedFile (groupCount c) ≡ record { number = 0; place = 0; diagram = made chart rules }
+  reduced-file mode = ap (λ (b : List ℕ). readDiagram mode b (groupCount c)) reduced-is ∙ reduction-read (groupCount c) d sound mode
 
   -- and that says yes to the sets to which the diagram of the given file says yes
   pub reduced-means : (set : ℕ → Bool) → accepts (made chart rules) set ≡ accepts d set
-  reduced-means = reduction-accepts (length (c .steps)) d sound
+  reduced-means = reduction-accepts (groupCount c) d sound
 
   -- so every call takes it, with the same chart
   pub reduced-ready : (mode : Bool) → readFiles mode chart reducedFile ≡ ready c (made chart rules)
@@ -104,7 +104,7 @@ module _ (chart rules out out′ : List ℕ) (r : Answer) (promise : ReduceCall 
   -- to reduce it again writes the same file
   pub reduced-again : (out₂ out₂′ : List ℕ) (s : Answer) → ReduceCall chart reducedFile out₂ out₂′ s → Filed reducedFile out₂ out₂′ s
   reduced-again out₂ out₂′ s again =
-      subst (λ (b : List ℕ). Filed b out₂ out₂′ s) (ap diagramBytes (reduction-twice (length (c .steps)) d sound) ∙ sym reduced-is)
+      subst (λ (b : List ℕ). Filed b out₂ out₂′ s) (ap diagramBytes (reduction-twice (groupCount c) d sound) ∙ sym reduced-is)
       (subst (λ (o : Load). ReducePromise o out₂ out₂′ s) (reduced-ready lenient) again)
 
   -- the lengths of the work slices and of the plan slice that a search is lent are too short for it

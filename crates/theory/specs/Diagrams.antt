@@ -95,6 +95,22 @@ module _ (d : Diagram) (o : Ordered d) where
   advance-above e n h g =
       descend-inner d o _ _ n h ∙ simp (le-ltb (inner d n .step) e (omega arith), ne-eqb (inner d n .step) e (λ q. omega arith))
 
+  -- an inner node to which a node is advanced asks for a later variable
+  pub advance-past : (e n : ℕ) → 2 ≤ advance d e n → e < inner d (advance d e n) .step
+  advance-past e =
+      induction d o (λ n. 2 ≤ advance d e n → e < inner d (advance d e n) .step) (λ n h g. absurd (omega (arith, advance-leaf e n h)))
+      (λ n h l r. node n h l (order (inner d n .step) e))
+    where
+      node : (n : ℕ) → 2 ≤ n → (2 ≤ advance d e (inner d n .lo) → e < inner d (advance d e (inner d n .lo)) .step) → Order (inner d n .step) e
+          → 2 ≤ advance d e n → e < inner d (advance d e n) .step
+      node n h l (less q) = rw (advance-below e n h q) l
+      node n h l (same q) = rw (advance-at e n h q) (λ g. omega (arith, o .hi-later n h g))
+      node n h l (more q) = rw (advance-above e n h q) (λ g. q)
+
+  -- so a second advance by the same variable changes nothing: two steps of one group on one way advance once
+  pub advance-once : (e n : ℕ) → advance d e (advance d e n) ≡ advance d e n
+  advance-once e n = either (lt-or-le (advance d e n) 2) (advance-leaf e (advance d e n)) (λ g. advance-above e (advance d e n) g (advance-past e n g))
+
   -- advancing never raises the number
   pub advance-le : (e n : ℕ) → advance d e n ≤ n
   advance-le e =

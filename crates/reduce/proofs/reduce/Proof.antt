@@ -2,7 +2,7 @@
 
 use lib.ListN.{length-replicate}
 use Prim.Native.Nat.{ℕ}
-use Rattle.conjoin.specs.Loads.{few-steps}
+use Rattle.conjoin.specs.Loads.{few-groups}
 use Rattle.reduce.specs.Reducing.{chart-out, rules-out, nodes-fit, pairs-fit, asked, reduced}
 use borrow.Author.Needs.{needs}
 use Rattle.reduce.proofs.reduce.Statement.{statement}
@@ -35,7 +35,7 @@ read-diagram-requires c κs =
     let passed : tie.Else1 = search in
     let checked : tie.After-check-chart = search in
     let start : tie.Start = search in (
-      few-steps (start .args .chart .now) (start .args .rules .now) (start .args .rules .now) 0 _ (checked .check-chart .ensures) (passed .if1 .left),
+      few-groups (start .args .chart .now) (start .args .rules .now) (start .args .rules .now) 0 _ (checked .check-chart .ensures) (passed .if1 .left),
       record { long = length-replicate {A = ℕ} 512 0 },
     )
 

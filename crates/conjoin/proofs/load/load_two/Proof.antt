@@ -1,5 +1,5 @@
 -- `conjoin::load_two` meets its contract.
-use Rattle.conjoin.specs.Loads.{few-steps, chart-out, rules-out, more-out, space-out, all-pass, first-few, second-few, fits-add, pairs-fit}
+use Rattle.conjoin.specs.Loads.{few-groups, chart-out, rules-out, more-out, space-out, all-pass, first-few, second-few, fits-add, pairs-fit}
 use borrow.Author.Needs.{needs}
 use Rattle.conjoin.proofs.load.load_two.Statement.{statement}
 use Rattle.conjoin.proofs.load.load_two.Tie as tie
@@ -30,7 +30,7 @@ read-diagram-requires c κs =
     let chart-passed : tie.Else1 = search in
     let checked : tie.After-check-chart = search in
     let start : tie.Start = search in
-    (few-steps (start .args .chart .now) (start .args .rules .now) (start .args .more .now) (start .args .work) _ (checked .check-chart .ensures) (chart-passed .if1 .left), start .pre .0)
+    (few-groups (start .args .chart .now) (start .args .rules .now) (start .args .more .now) (start .args .work) _ (checked .check-chart .ensures) (chart-passed .if1 .left), start .pre .0)
 
 cast-refused-2 : tie.Need-cast-refused-2
 cast-refused-2 c = search needs
@@ -52,7 +52,7 @@ read-diagram-requires-2 c κs =
     let chart-passed : tie.Else1 = search in
     let checked : tie.After-check-chart = search in
     let start : tie.Start = search in
-    (few-steps (start .args .chart .now) (start .args .rules .now) (start .args .more .now) (start .args .work) _ (checked .check-chart .ensures) (chart-passed .if1 .left), start .pre .1)
+    (few-groups (start .args .chart .now) (start .args .rules .now) (start .args .more .now) (start .args .work) _ (checked .check-chart .ensures) (chart-passed .if1 .left), start .pre .1)
 
 cast-refused-3 : tie.Need-cast-refused-3
 cast-refused-3 c = search needs
