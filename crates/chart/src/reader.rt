@@ -124,13 +124,14 @@ fn take_found(
     requires { ⌜ Due (now file) read ⌝ }
     ensures { λ r. ⌜ Takes (now (file .entry)) stages read (now (steps .entry)) (now (steps .exit)) r ⌝ }
 {
+    let count = read.steps;
     match found {
         Field::Absent => stopped(read, 0, 0),
         Field::Faulty { number, place } => stopped(read, number, place),
         Field::Passed { end } => StepsRead {
             number: 0,
             place: end,
-            steps: read.steps,
+            steps: count,
             last: read.last,
             group: read.group,
             tag: read.tag,
