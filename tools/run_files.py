@@ -367,8 +367,8 @@ def bad_group_rules(fields, line):
 ONE_RAISE = in_groups(0, 0, 2, 3, 4, 5)
 ONE_RAISE_LINES = ["cost 350", "step 0", "step 2", "step 4", "step 5", "settled 5 reached 5"]
 #
-# All plans allowed, by a node that only the first or only the last step sees, or none: the plan is 0, 3, 5 at 150. Stages 0 to 4 are reached at 0, 50,
-# 250, 100, 150, each at one node; the sum is 350 at stage 2, else 150, if no node's estimate is above that of its stage. So 4 of 5 are settled.
+# Rules that allow every plan: the cheapest is 0, 3, 5 at 150. Stages 0 to 4 are reached at 0, 50, 250, 100, 150, each at one node, and no node's
+# estimate is above that of its stage: the sum is 350 at stage 2, else 150. So 4 of 5 are settled.
 # One group for all that must be there: node 2 goes to 1 by the first step, and costs 50. In group 1,023 that the last step alone has:
 # node 2 stands up to stage 3 and costs 50 too. A group without a step that must not be there: node 2 costs nothing (lo), and the
 # first step of a higher group passes it.
