@@ -194,8 +194,9 @@ typedef char planner_cycle_count_at_16[offsetof(planner_cycle, count) == 16 ? 1 
 /*
  * A list of starts and ends on one chart. For each entry of `list` the guided search runs as if the chart's head had that
  * start and end; its number, cost and count go into the entry. The files are read and their tables filled once for all
- * entries. The list may be empty, but the pointer to it is not null. An entry whose start or end is no stage of the chart gets 4, cost 0 and count 0, and the
- * others are answered all the same. The head's own start and end are checked, and used by no entry.
+ * entries. The list may be empty, but the pointer to it is not null. An entry whose start or end is no stage of the chart
+ * gets 4, cost 0 and count 0, and the others are answered all the same. The head's own start and end are checked, and used
+ * by no entry.
  *
  * Lent, with the least length; a shorter slice gives 7:
  *   keys, via, heap, pos, stack, log   space.work
