@@ -37,7 +37,8 @@ extern "C" {
 enum {
     PLANNER_ACCEPTED = 0,
     PLANNER_CUT = 1,     /* the file ends inside a field */
-    PLANNER_TAG = 2,     /* empty file, a tag that is not of this file, the head not first or there again */
+    PLANNER_TAG = 2,     /* empty file, a tag that is not of this file, the head not first or there again, a step of another
+                            kind than the first */
     PLANNER_LENGTH = 3,  /* the field's length is not that of its tag */
     PLANNER_HEAD = 4,    /* the chart's head breaks a limit; of an entry of a list: start or end is no stage */
     PLANNER_STEP = 5,    /* there is a 1,025th step; a step leaves a stage below that of the step before */
@@ -48,7 +49,8 @@ enum {
     PLANNER_STAGES = 10, /* a step does not lead to a higher stage of the chart */
     PLANNER_COST = 11,   /* a step's cost, as the file has it, is beyond 1,000,000 */
     PLANNER_LARGE = 12,  /* the reduced diagram has more than 510 inner nodes */
-    PLANNER_PADDED = 13  /* an inner node has lo equal to hi, or is a double: step, lo and hi of an earlier one */
+    PLANNER_PADDED = 13, /* an inner node has lo equal to hi, or is a double: group, lo and hi of an earlier one */
+    PLANNER_GROUP = 14   /* a step's group is above 1,023, or below that of the step before */
 };
 
 /* Marks of a file. Where no file is at fault, file and place are 0. */
@@ -83,6 +85,10 @@ enum {
  * planner_sweep 16,136, planner_guided 16,952, planner_cycles 16,840, planner_both 17,528, planner_conjoin 21,128,
  * planner_reduce 21,000, planner_space_needed 12,776, planner_refused_field 88. */
 #define PLANNER_STACK 32768
+
+/* What a chart's steps and a diagram's nodes have in common are groups. A step of tag 03 names its group; one of tag 02 is a
+ * group alone, and its own number is that of the group. A node of a diagram asks for a group, which is there if at least one
+ * of its steps is taken. A plan's entries are numbers of steps, in every chart. */
 
 /*
  * An answer. Accepted: number, file and place are 0. Refused: cost and length are 0, and so is count except under 8.
@@ -188,8 +194,9 @@ typedef char planner_cycle_count_at_16[offsetof(planner_cycle, count) == 16 ? 1 
 /*
  * A list of starts and ends on one chart. For each entry of `list` the guided search runs as if the chart's head had that
  * start and end; its number, cost and count go into the entry. The files are read and their tables filled once for all
- * entries. The list may be empty, but the pointer to it is not null. An entry whose start or end is no stage of the chart gets 4, cost 0 and count 0, and the
- * others are answered all the same. The head's own start and end are checked, and used by no entry.
+ * entries. The list may be empty, but the pointer to it is not null. An entry whose start or end is no stage of the chart
+ * gets 4, cost 0 and count 0, and the others are answered all the same. The head's own start and end are checked, and used
+ * by no entry.
  *
  * Lent, with the least length; a shorter slice gives 7:
  *   keys, via, heap, pos, stack, log   space.work
@@ -237,9 +244,10 @@ uint32_t planner_both(const uint8_t *chart, size_t chart_len,
 
 /*
  * The conjunction of two diagrams over one chart, `rules` (file 2) and `more` (file 3): a reduced diagram that says yes
- * exactly to the sets of steps to which both say yes. Its file is written to the front of `file`: the head and the inner
- * nodes, none with lo equal to hi, no two alike, each arrived at from the root, and each behind its children, those of lo
- * first. A plan under that file is one that both files allow, and none that both allow is cheaper.
+ * exactly to the sets of groups to which both say yes, groups without steps included. Its file is written to the front of
+ * `file`: the head and the inner nodes, none with lo equal to hi, no two alike, each arrived at from the root, and each
+ * behind its children, those of lo first. A plan under that file is one that both files allow, and none that both allow
+ * is cheaper.
  *
  * Lent, with the least length; a shorter slice gives 7:
  *   work   N of rules x N of more, where N is the number of inner nodes plus 2; PLANNER_MOST_PAIRS is always enough
@@ -263,11 +271,11 @@ uint32_t planner_conjoin(const uint8_t *chart, size_t chart_len,
                          planner_answer *answer);
 
 /*
- * The reduction of a diagram: a reduced diagram that says yes to the same sets of steps. Its file is written to the front
+ * The reduction of a diagram: a reduced diagram that says yes to the same sets of groups. Its file is written to the front
  * of `file`: the head and the inner nodes, none with lo equal to hi, no two alike, each arrived at from the root, and
  * each behind its children, those of lo first. Every call takes that file, and a plan is legal under it exactly if it is
  * under `rules`. Two files over one chart have the same reduction, byte for byte, exactly if they say yes to the same
- * sets of the chart's steps; a file that this call wrote comes back as it is.
+ * sets of the chart's groups, those without steps included; a file that this call wrote comes back as it is.
  *
  * This call takes padded files, whose nodes get 13 from the others. All other rules for a chart and a diagram hold here
  * too; 8, 12 and 13 never come.

@@ -39,50 +39,61 @@ def head(stages, start, end):
     return field(0x01, number(stages) + number(start) + number(end))
 
 
-def step(source, target, value):
-    return field(0x02, number(source) + number(target) + number(value, 4))
+def step(source, target, value, group=None):
+    """A step; one that names a group is of the other kind."""
+    body = number(source) + number(target) + number(value, 4)
+    return field(0x02, body) if group is None else field(0x03, body + number(group))
 
 
 def root(reference):
     return field(0x11, number(reference))
 
 
-def node(at_step, lo, hi):
-    return field(0x12, number(at_step) + number(lo) + number(hi))
+def node(group, lo, hi):
+    return field(0x12, number(group) + number(lo) + number(hi))
 
 
 def remark(size=0, tag=REMARK):
     return field(tag, bytes(size))
 
 
-HEAD = len(head(1, 0, 0))  # a chart's steps stand at places 9, 20, 31 .., a diagram's nodes at 5, 14, 23 ..
+HEAD = len(head(1, 0, 0))  # a chart's steps stand at places 9, 20, 31 .., those that name groups at 9, 22, 35 .., a diagram's nodes at 5, 14, 23 ..
 
 
 class Chart(NamedTuple):
     stages: int
     start: int
     end: int
-    steps: tuple = ()  # (from, to, value in the file)
+    steps: tuple = ()  # (from, to, value in the file), each with its group behind it where the steps name groups
 
     def file(self):
         return head(self.stages, self.start, self.end) + b"".join(step(*s) for s in self.steps)
 
     def rounded(self):
         """The same chart with the costs of its steps for their values."""
-        return self._replace(steps=tuple((source, target, -(-value // TICK) * TICK) for source, target, value in self.steps))
+        return self._replace(steps=tuple((source, target, -(-value // TICK) * TICK, *group) for source, target, value, *group in self.steps))
+
+    def groups(self):
+        """The group of each step: the one that it names, or its own number."""
+        return [group[0] if group else e for e, (_, _, _, *group) in enumerate(self.steps)]
+
+    def group_count(self):
+        """How many groups a diagram may name: those up to the highest."""
+        return max(self.groups(), default=-1) + 1
 
 
 class Diagram(NamedTuple):
     root: int
-    nodes: tuple = ()  # (step, lo, hi), numbered from 2
+    nodes: tuple = ()  # (group, lo, hi), numbered from 2
 
     def file(self):
         return root(self.root) + b"".join(node(*n) for n in self.nodes)
 
 
-def taken(diagram):
-    """Whether all nodes may have their children, none has lo equal to hi, and no two are alike."""
+def taken(chart, diagram):
+    """Whether all nodes name a group of the chart and may have their children, none has lo equal to hi, and no two are alike."""
     fits = all(c < own and (c < 2 or diagram.nodes[c - 2][0] > n[0]) for own, n in enumerate(diagram.nodes, 2) for c in n[1:])
+    fits = fits and all(n[0] < chart.group_count() for n in diagram.nodes)
     return fits and all(lo != hi for _, lo, hi in diagram.nodes) and len(set(diagram.nodes)) == len(diagram.nodes)
 
 
@@ -114,6 +125,7 @@ class Planned:
     def __init__(self, chart, diagram):
         self.chart, self.diagram = chart.rounded(), diagram
         self.size = len(diagram.nodes) + 2
+        self.groups = chart.groups()
         self.leaving = [[e for e, s in enumerate(chart.steps) if s[0] == stage] for stage in range(chart.stages)]
 
     def ways(self):
@@ -131,18 +143,19 @@ class Planned:
         return self.diagram.nodes[n - 2]
 
     def legal(self, stage, way):
-        """The way ends at the end stage, and the diagram says yes to the set of its steps."""
-        n, chosen = self.diagram.root, set(way)
+        """The way ends at the end stage, and the diagram says yes to the set of its steps' groups."""
+        n, present = self.diagram.root, {self.groups[e] for e in way}
         while n >= 2:
-            at_step, lo, hi = self.inner(n)
-            n = hi if at_step in chosen else lo
+            group, lo, hi = self.inner(n)
+            n = hi if group in present else lo
         return stage == self.chart.end and n == 1
 
     @cache
     def advance(self, n, e):
-        while n >= 2 and self.inner(n)[0] < e:
+        group = self.groups[e]
+        while n >= 2 and self.inner(n)[0] < group:
             n = self.inner(n)[1]
-        return self.inner(n)[2] if n >= 2 and self.inner(n)[0] == e else n
+        return self.inner(n)[2] if n >= 2 and self.inner(n)[0] == group else n
 
     def finish(self, n):
         while n >= 2:
@@ -167,14 +180,18 @@ class Planned:
         found = [more + cost for more, cost in onward if more is not None] + [0] * (stage == self.chart.end)
         return min(found, default=None)
 
+    def group_costs(self, group):
+        """What the steps of a group cost."""
+        return [s[2] for s, own in zip(self.chart.steps, self.groups) if own == group]
+
     @cache
     def diagram_estimate(self, n):
         if n < 2:
             return None if n == 0 else 0
-        at_step, lo, hi = self.inner(n)
+        group, lo, hi = self.inner(n)
         low, high = self.diagram_estimate(lo), self.diagram_estimate(hi)
         found = [] if low is None else [low]
-        found += [] if high is None else [high + self.chart.steps[at_step][2]]
+        found += [] if high is None else [high + cost for cost in self.group_costs(group)]
         return min(found, default=None)
 
     def reached(self):
@@ -331,6 +348,48 @@ EITHER_TURNED = Diagram(4, ((2, 0, 1), (3, 0, 1), (0, 3, 2)))
 EITHER_AND_MORE = Diagram(5, ((5, 1, 0), (2, 0, 1), (3, 0, 1), (0, 4, 3)))
 EITHER_LINES = ["cost 200", "step 1", "step 3", "step 5", "settled 4 reached 7"]
 
+
+def in_groups(*groups):
+    """The example's chart with its steps in these groups."""
+    return EXAMPLE_CHART._replace(steps=tuple((*s, group) for s, group in zip(EXAMPLE_CHART.steps, groups)))
+
+
+def bad_group_rules(fields, line):
+    return ONE_RAISE.file(), root(2) + fields, line
+
+
+# Groups, worked by hand. Chart estimates of the example's stages: 150, 100, 100, 50, 0 (steps cost 50, 100, 200, 50, 50, 50).
+#
+# Both raises in group 0, settling in group 2, group 1 without a step; the example's rule then says that group 0 needs group 2. Both ways
+# into stage 1 are of group 0, to node 2 (hi of node 3), at 50 by step 0. From there step 3 (group 3) passes node 2 along lo, to 0, and step 2
+# (group 2) goes to hi, 1. So the way is 0, 2, 4, 5 and the reached pairs are (0, 3), (1, 2), (2, 1), (3, 1), (4, 1) at 0, 50, 250, 300, 350.
+# Node 2 has the estimate 200, node 3 the lesser of 0 (lo) and 50 + 200: the sums are 150, 250, 350, 350, 350, and all five are settled.
+ONE_RAISE = in_groups(0, 0, 2, 3, 4, 5)
+ONE_RAISE_LINES = ["cost 350", "step 0", "step 2", "step 4", "step 5", "settled 5 reached 5"]
+#
+# Rules that allow every plan: the cheapest is 0, 3, 5 at 150. Stages 0 to 4 are reached at 0, 50, 250, 100, 150, each at one node, and no node's
+# estimate is above that of its stage: the sum is 350 at stage 2, else 150. So 4 of 5 are settled.
+# One group for all that must be there: node 2 goes to 1 by the first step, and costs 50. In group 1,023 that the last step alone has:
+# node 2 stands up to stage 3 and costs 50 too. A group without a step that must not be there: node 2 costs nothing (lo), and the
+# first step of a higher group passes it.
+# Two groups, both of which must be there, with steps 0, 1, 2 and 3, 4, 5: step 2 behind step 0 is the second of group 0 and stays at node 2,
+# which tests group 1. Node 2 costs 50, node 3 none or 50 + 50.
+ALLOWED_LINES = ["cost 150", "step 0", "step 3", "step 5", "settled 4 reached 5"]
+#
+# From 0 to 2: through 1 for 50 and then 50, 300 or 100 (value 60), or straight for 200; groups 0, 1, 3, 4, 4. Group 0 needs group 4, or group 2,
+# which has no step. So 0, 2 is not legal (at node 2, which finishes at 0), and 0, 3 is, at 350. Reached: (0, 4), (1, 3), (2, 1), (2, 2), the last at 100.
+# Without step 4 group 4 costs 300, and so do node 2 and, by its lo alone, node 3: the sum of (1, 3) is 350, above the 200 of step 1,
+# and (0, 4), (2, 1) are settled. (With the hi of group 2 the sum would be 100, and three would be.)
+# With step 4 the group costs 100, the sum of (1, 3) is 150, and 0, 4 costs 150: (0, 4), (1, 3), (2, 1) are settled; (2, 2) has 100 + 100.
+SHARED_STEPS = ((0, 1, 50, 0), (0, 2, 200, 1), (1, 2, 50, 3), (1, 2, 300, 4), (1, 2, 60, 4))
+SHARED_RULES = Diagram(4, ((4, 0, 1), (2, 2, 1), (0, 1, 3)))
+#
+# 1,024 steps from 0 to 1, each cheaper than the one before by about 50. Of one group, which must be there: (0, 2) and (1, 1), and the last step is
+# the cheapest, 977 × 50 - 23, which costs 48,850. Of a group each, and the last must not be there: the last but one, 978 × 50 - 22, costs
+# 48,900, and stays at node 2; the last leads to 0.
+FALLING_VALUES = tuple(TICK * (2000 - e) - e % TICK for e in range(1024))
+GROUPED_0 = step(0, 1, 40, 0)
+
 # each case: what it shows, the chart, the diagram, and the line of a refusal, or the lines where they are free. A file is a Chart or a Diagram, perhaps Noted, bytes, None (missing) or "folder"
 CASES = [
     ("the example's chart", EXAMPLE_CHART, EXAMPLE_RULES),
@@ -455,6 +514,50 @@ CASES = [
     ("its reduction", EXAMPLE_CHART, EITHER),
     ("the same in another order", EXAMPLE_CHART, EITHER_TURNED),
     ("the same with a node past the root", EXAMPLE_CHART, EITHER_AND_MORE),
+    ("each step in a group of its own", in_groups(0, 1, 2, 3, 4, 5), EXAMPLE_RULES),
+    ("each step in a group of its own, another rule", in_groups(0, 1, 2, 3, 4, 5), EITHER),
+    ("both raises in one group", ONE_RAISE, EXAMPLE_RULES),
+    ("both raises in one group, larger gaps", in_groups(3, 3, 500, 501, 501, 1023), Diagram(3, ((500, 0, 1), (3, 1, 2)))),
+    ("both raises in one group, remarks behind all fields", Noted(ONE_RAISE, LIKE_STEP + remark(1, 0x83)), Noted(EXAMPLE_RULES, LIKE_NODE)),
+    ("all in group 0, which must be there", in_groups(*[0] * 6), Diagram(2, ((0, 0, 1),))),
+    ("all in group 0, which must not be there", in_groups(*[0] * 6), Diagram(2, ((0, 1, 0),))),
+    ("all in group 1,023, which must be there", in_groups(*[1023] * 6), Diagram(2, ((1023, 0, 1),))),
+    ("two groups, both of which must be there", in_groups(0, 0, 0, 1, 1, 1), Diagram(3, ((1, 0, 1), (0, 0, 2)))),
+    ("a node that names the highest group", in_groups(0, 1, 2, 3, 4, 1023), Diagram(2, ((1023, 0, 1),))),
+    ("a group without a step that must not be there", ONE_RAISE, Diagram(2, ((1, 1, 0),))),
+    ("a group without a step that must be there", ONE_RAISE, Diagram(2, ((1, 0, 1),))),
+    ("a group without a step, whose hi does not count", Chart(3, 0, 2, SHARED_STEPS[:4]), SHARED_RULES),
+    ("a group costs as much as its cheapest step", Chart(3, 0, 2, SHARED_STEPS), SHARED_RULES),
+    ("1,024 steps of one group", Chart(2, 0, 1, tuple((0, 1, v, 7) for v in FALLING_VALUES)), Diagram(2, ((7, 0, 1),))),
+    ("1,024 steps of a group each", Chart(2, 0, 1, tuple((0, 1, v, e) for e, v in enumerate(FALLING_VALUES))), Diagram(2, ((1023, 1, 0),))),
+    ("group 1,024", *bad_chart(step(0, 1, 40, 1024), "refused 14 file 1 place 9")),
+    ("group 65,535", *bad_chart(GROUPED_0 + step(0, 1, 90, 65535), "refused 14 file 1 place 22")),
+    ("a group below that of the step before", *bad_chart(step(0, 1, 40, 3) + step(0, 1, 90, 2), "refused 14 file 1 place 22")),
+    ("a step's value before its group", *bad_chart(step(0, 1, 40, 3) + step(0, 1, 1000001, 2), "refused 11 file 1 place 22")),
+    ("a step's value before a group that is too high", *bad_chart(step(0, 1, 1000001, 1024), "refused 11 file 1 place 9")),
+    ("a step's own stages before its group", *bad_chart(step(1, 1, 40, 1024), "refused 10 file 1 place 9")),
+    ("the step before it before its group", *bad_chart(step(1, 2, 40, 3) + step(0, 1, 40, 2), "refused 5 file 1 place 22")),
+    ("the 1,025th step before its group", *bad_chart(step(0, 1, 40, 9) * 1024 + step(0, 1, 40, 8), "refused 5 file 1 place 13321")),
+    ("the 1,024th step, its group", *bad_chart(step(0, 1, 40, 9) * 1023 + step(0, 1, 40, 8), "refused 14 file 1 place 13308")),
+    ("a group behind a remark", *bad_chart(step(0, 1, 40, 3) + remark(4) + step(0, 1, 90, 2), "refused 14 file 1 place 29")),
+    ("a step with a group behind one without", *bad_chart(STEP_0 + GROUPED_0, "refused 2 file 1 place 20")),
+    ("a step without a group behind one with", *bad_chart(GROUPED_0 + STEP_0, "refused 2 file 1 place 22")),
+    ("the other kind, cut", *bad_chart(STEP_0 + GROUPED_0[:-1], "refused 2 file 1 place 20")),
+    ("the other kind, of 10 bytes", *bad_chart(GROUPED_0 + field(0x02, bytes(10)), "refused 2 file 1 place 22")),
+    ("the other kind, its header cut", *bad_chart(GROUPED_0 + STEP_0[:2], "refused 1 file 1 place 22")),
+    ("the other kind, a remark before the first step", *bad_chart(remark(4) + GROUPED_0 + STEP_0, "refused 2 file 1 place 29")),
+    ("the other kind, where the first step is faulty", *bad_chart(step(0, 1, 40, 1024) + STEP_0, "refused 14 file 1 place 9")),
+    ("a step with a group, of 8 bytes", *bad_chart(field(0x03, bytes(8)), "refused 3 file 1 place 9")),
+    ("a step without a group, of 10 bytes", *bad_chart(field(0x02, bytes(10)), "refused 3 file 1 place 9")),
+    ("a later step with a group, of 8 bytes", *bad_chart(GROUPED_0 + field(0x03, bytes(8)), "refused 3 file 1 place 22")),
+    ("a step with a group is cut", *bad_chart(GROUPED_0[:-1], "refused 1 file 1 place 9")),
+    ("a node above the highest group", *bad_group_rules(node(6, 0, 1), "refused 6 file 2 place 5")),
+    ("a node above the only group, before padding", in_groups(*[0] * 6).file(), root(2) + node(1, 0, 0), "refused 6 file 2 place 5"),
+    ("a node above group 1,023", in_groups(*[1023] * 6).file(), root(2) + node(1024, 0, 1), "refused 6 file 2 place 5"),
+    ("a node in a chart without steps", ONE_STAGE.file(), root(2) + node(0, 0, 1), "refused 6 file 2 place 5"),
+    ("two alike nodes of a group without a step", *bad_group_rules(node(1, 0, 1) * 2, "refused 13 file 2 place 14")),
+    ("a hi of the same group", *bad_group_rules(node(1, 0, 1) + node(1, 0, 2), "refused 6 file 2 place 14")),
+    ("a group of the chart before an empty diagram", head(5, 0, 4) + step(0, 1, 40, 1024), b"", "refused 14 file 1 place 9"),
 ]
 
 # lines worked out by hand, by the case's title
@@ -479,6 +582,22 @@ STATED = {
     "its reduction": EITHER_LINES,
     "the same in another order": EITHER_LINES,
     "the same with a node past the root": EITHER_LINES,
+    "each step in a group of its own": EXAMPLE_LINES,
+    "each step in a group of its own, another rule": EITHER_LINES,
+    "both raises in one group": ONE_RAISE_LINES,
+    "both raises in one group, larger gaps": ONE_RAISE_LINES,
+    "both raises in one group, remarks behind all fields": ONE_RAISE_LINES,
+    "all in group 0, which must be there": ALLOWED_LINES,
+    "all in group 0, which must not be there": ["refused 8 file 0 place 0"],
+    "all in group 1,023, which must be there": ALLOWED_LINES,
+    "two groups, both of which must be there": ALLOWED_LINES,
+    "a node that names the highest group": ALLOWED_LINES,
+    "a group without a step that must not be there": ALLOWED_LINES,
+    "a group without a step that must be there": ["refused 8 file 0 place 0"],
+    "a group without a step, whose hi does not count": ["cost 200", "step 1", "settled 2 reached 4"],
+    "a group costs as much as its cheapest step": ["cost 150", "step 0", "step 4", "settled 3 reached 4"],
+    "1,024 steps of one group": ["cost 48850", "step 1023", "settled 2 reached 2"],
+    "1,024 steps of a group each": ["cost 48900", "step 1022", "settled 2 reached 2"],
 }
 
 
@@ -486,7 +605,7 @@ def expected(title, chart, rules, given=None):
     if isinstance(given, str):
         return [given]
     planned = Planned(getattr(chart, "plain", chart), getattr(rules, "plain", rules))
-    assert taken(planned.diagram), title
+    assert taken(planned.chart, planned.diagram), title
     if given:
         assert planned.allows(given), (title, given)
         return given

@@ -6,7 +6,7 @@
 
 crates/vectors/data/readers.txt says how a case is written. The answers are computed here from docs/REFERENCE.md alone: the readers
 field by field, the sweep's costs stage by stage, the guided search as it is told there, the conjunction of two diagrams pair by
-pair, the reduction of one node by node. Where all ways, or all sets of the steps that the diagrams ask for, can be enumerated
+pair, the reduction of one node by node. Where all ways, or all sets of the groups that the diagrams ask for, can be enumerated
 they are, and must give the same.
 A case in which REFERENCE leaves free what would be written is an error, and so is a case that is marked as free and is not.
 """
@@ -24,7 +24,7 @@ CRATE = ROOT / "crates/vectors"
 BUFFER = 32784  # the bytes of a file in the program
 SCRIPT = 65536  # the bytes of a script
 MOST_WAYS = 20000  # charts with more ways are not enumerated
-MOST_STEPS = 10  # the sets of more steps are not enumerated
+MOST_GROUPS = 10  # the sets of more groups are not enumerated
 SAMPLE = 50  # but so many of each kind are tried
 NONE = 4294967295
 sys.setrecursionlimit(10000)
@@ -45,42 +45,45 @@ def two(body, at):
     return int.from_bytes(body[at:at + 2], "little")
 
 
-def bodies(content, file, kinds):
-    """The fields of a file as (place, body), remarks left out; `kinds` has tag and length of the head and of every later field."""
+def bodies(content, file, head, later):
+    """The fields of a file as (place, body), remarks left out; `head` and `later` have the lengths by tag of the head and of every
+    later field, all of which must be of one tag."""
     if len(content) > LONGEST_FILE:
         raise Refused(9, file, LONGEST_FILE)
     if not content:
         raise Refused(2, file, 0)
     place = 0
     while place < len(content):
-        tag, length = kinds[place > 0]
+        lengths = later if place > 0 else head
         header = content[place:place + 3]
         if len(header) < 3:
             raise Refused(1, file, place)
         remark = place > 0 and header[0] >= REMARK
-        if header[0] != tag and not remark:
+        if header[0] not in lengths and not remark:
             raise Refused(2, file, place)
-        if remark:
-            length = two(header, 1)
-        if two(header, 1) != length:
+        length = two(header, 1)
+        if not remark and lengths[header[0]] != length:
             raise Refused(3, file, place)
         body = content[place + 3:place + 3 + length]
         if len(body) < length:
             raise Refused(1, file, place)
         if not remark:
             yield place, body
+            if place > 0:
+                later = {header[0]: length}
         place += 3 + length
 
 
 def read_chart(content):
     stages, start, end, steps = 0, 0, 0, []
-    for place, body in bodies(content, 1, ((0x01, 6), (0x02, 8))):
+    for place, body in bodies(content, 1, {0x01: 6}, {0x02: 8, 0x03: 10}):
         if place == 0:
             stages, start, end = two(body, 0), two(body, 2), two(body, 4)
             if not 1 <= stages <= 256 or start >= stages or end >= stages:
                 raise Refused(4, 1, 0)
             continue
         source, target, value = two(body, 0), two(body, 2), int.from_bytes(body[4:8], "little")
+        group = [two(body, 8)] if len(body) == 10 else []
         if len(steps) == 1024:
             raise Refused(5, 1, place)
         if not source < target < stages:
@@ -89,25 +92,27 @@ def read_chart(content):
             raise Refused(5, 1, place)
         if value > 1000000:
             raise Refused(11, 1, place)
-        steps.append((source, target, value))
+        if group and (group[0] > 1023 or steps and group[0] < steps[-1][3]):
+            raise Refused(14, 1, place)
+        steps.append((source, target, value, *group))
     return Chart(stages, start, end, tuple(steps))
 
 
-def read_diagram(content, steps, file=2, strict=True):
-    """The diagram of a file; where `strict` is not set padding is taken."""
+def read_diagram(content, groups, file=2, strict=True):
+    """The diagram of a file over so many groups; where `strict` is not set padding is taken."""
     root, nodes = 0, []
-    for place, body in bodies(content, file, ((0x11, 2), (0x12, 6))):
+    for place, body in bodies(content, file, {0x11: 2}, {0x12: 6}):
         if place == 0:
             root = two(body, 0)
             continue
-        at_step, children = two(body, 0), (two(body, 2), two(body, 4))
+        group, children = two(body, 0), (two(body, 2), two(body, 4))
         own = len(nodes) + 2
-        sound = all(c < own and (c < 2 or nodes[c - 2][0] > at_step) for c in children)
-        if len(nodes) == 510 or at_step >= steps or not sound:
+        sound = all(c < own and (c < 2 or nodes[c - 2][0] > group) for c in children)
+        if len(nodes) == 510 or group >= groups or not sound:
             raise Refused(6, file, place)
-        if strict and (children[0] == children[1] or (at_step, *children) in nodes):
+        if strict and (children[0] == children[1] or (group, *children) in nodes):
             raise Refused(13, file, place)
-        nodes.append((at_step, *children))
+        nodes.append((group, *children))
     if root >= len(nodes) + 2:
         raise Refused(6, file, 0)
     return Diagram(root, tuple(nodes))
@@ -150,7 +155,7 @@ class Searched(Planned):
     def way_count(self):
         counts = [0] * self.chart.stages
         counts[self.chart.start] = 1
-        for source, target, _ in self.chart.steps:
+        for source, target, *_ in self.chart.steps:
             counts[target] += counts[source]
         return sum(counts)
 
@@ -205,7 +210,7 @@ class Searched(Planned):
 def load(chart, rules, work, plan):
     """Both files, after all checks; `work` has the lengths of the work slices."""
     a = read_chart(chart)
-    b = read_diagram(rules, len(a.steps))
+    b = read_diagram(rules, a.group_count())
     if min(work) < a.stages * (len(b.nodes) + 2) or plan < a.stages - 1:
         raise Refused(7, 0, 0)
     return Searched(a, b)
@@ -272,8 +277,8 @@ SEARCHES = {"W": sweep, "G": guided}
 def says_yes(diagram, chosen):
     n = diagram.root
     while n >= 2:
-        at_step, lo, hi = diagram.nodes[n - 2]
-        n = hi if at_step in chosen else lo
+        group, lo, hi = diagram.nodes[n - 2]
+        n = hi if group in chosen else lo
     return n == 1
 
 
@@ -283,8 +288,8 @@ class Reduced:
     def __init__(self):
         self.numbers = {}
 
-    def node(self, at_step, lo, hi):
-        return lo if lo == hi else self.numbers.setdefault((at_step, lo, hi), len(self.numbers) + 2)
+    def node(self, group, lo, hi):
+        return lo if lo == hi else self.numbers.setdefault((group, lo, hi), len(self.numbers) + 2)
 
     def walked(self, root):
         """The diagram from a root, with the numbers in which a walk leaves its nodes, lo before hi."""
@@ -292,8 +297,8 @@ class Reduced:
 
         def leave(n):
             if n not in left:
-                at_step, lo, hi = made[n - 2]
-                nodes.append((at_step, leave(lo), leave(hi)))
+                group, lo, hi = made[n - 2]
+                nodes.append((group, leave(lo), leave(hi)))
                 left[n] = len(nodes) + 1
             return left[n]
 
@@ -304,8 +309,8 @@ def by_pairs(a, b):
     """The conjunction of two diagrams, from pair to pair of their nodes."""
     reduced = Reduced()
 
-    def child(diagram, n, at_step, side):
-        return diagram.nodes[n - 2][side] if n >= 2 and diagram.nodes[n - 2][0] == at_step else n
+    def child(diagram, n, group, side):
+        return diagram.nodes[n - 2][side] if n >= 2 and diagram.nodes[n - 2][0] == group else n
 
     @cache
     def joined(x, y):
@@ -321,41 +326,41 @@ def by_pairs(a, b):
 def by_nodes(d):
     """The reduction of a diagram, from node to node of its file."""
     reduced, numbers = Reduced(), [0, 1]
-    for at_step, lo, hi in d.nodes:
-        numbers.append(reduced.node(at_step, numbers[lo], numbers[hi]))
+    for group, lo, hi in d.nodes:
+        numbers.append(reduced.node(group, numbers[lo], numbers[hi]))
     return reduced.walked(numbers[d.root])
 
 
-def by_sets(steps, answers):
-    """The reduced diagram with these answers to all sets of these steps, in the order of `sets_of`: by halves without and with the first step."""
+def by_sets(groups, answers):
+    """The reduced diagram with these answers to all sets of these groups, in the order of `sets_of`: by halves without and with the first group."""
     reduced = Reduced()
 
     def split(k, part):
         if len(part) == 1:
             return int(part[0])
         middle = len(part) // 2
-        return reduced.node(steps[k], split(k + 1, part[:middle]), split(k + 1, part[middle:]))
+        return reduced.node(groups[k], split(k + 1, part[:middle]), split(k + 1, part[middle:]))
 
     return reduced.walked(split(0, answers))
 
 
-def sets_of(steps):
-    """All sets of the steps, those without the first step before those with it, and so on; some of them where they are many."""
-    if len(steps) <= MOST_STEPS:
-        choices = product((False, True), repeat=len(steps))
+def sets_of(groups):
+    """All sets of the groups, those without the first before those with it, and so on; some of them where they are many."""
+    if len(groups) <= MOST_GROUPS:
+        choices = product((False, True), repeat=len(groups))
     else:
         draw = random.Random(1)
-        choices = ([draw.random() < share for _ in steps] for share in (0, 0.5, 0.99, 1) for _ in range(SAMPLE))
-    return [{e for e, taken in zip(steps, choice) if taken} for choice in choices]
+        choices = ([draw.random() < share for _ in groups] for share in (0, 0.5, 0.99, 1) for _ in range(SAMPLE))
+    return [{k for k, taken in zip(groups, choice) if taken} for choice in choices]
 
 
 def compared(found, *diagrams):
     """What was found, a reduced diagram, after it is tried on sets: it must say yes exactly where all these diagrams do."""
-    steps = sorted({n[0] for d in diagrams for n in d.nodes})
-    sets = sets_of(steps)
+    groups = sorted({n[0] for d in diagrams for n in d.nodes})
+    sets = sets_of(groups)
     answers = [all(says_yes(d, chosen) for d in diagrams) for chosen in sets]
     assert [says_yes(found, chosen) for chosen in sets] == answers
-    assert len(steps) > MOST_STEPS or by_sets(steps, answers) == found
+    assert len(groups) > MOST_GROUPS or by_sets(groups, answers) == found
     return found
 
 
@@ -367,8 +372,8 @@ def fitting(content, room):
 
 def conjoined(chart, rules, more, work, room):
     """The file that is written, after all checks."""
-    steps = len(read_chart(chart).steps)
-    a, b = read_diagram(rules, steps), read_diagram(more, steps, 3)
+    groups = read_chart(chart).group_count()
+    a, b = read_diagram(rules, groups), read_diagram(more, groups, 3)
     if work < (len(a.nodes) + 2) * (len(b.nodes) + 2):
         raise Refused(7, 0, 0)
     found = compared(by_pairs(a, b), a, b)
@@ -379,7 +384,7 @@ def conjoined(chart, rules, more, work, room):
 
 def reduction(chart, rules, room):
     """The file that is written, after all checks."""
-    d = read_diagram(rules, len(read_chart(chart).steps), strict=False)
+    d = read_diagram(rules, read_chart(chart).group_count(), strict=False)
     found = compared(by_nodes(d), d)
     assert by_pairs(d, Diagram(1)) == found
     return fitting(found.file(), room)
@@ -467,7 +472,7 @@ class Player:
                 return f"stages {c.stages} start {c.start} end {c.end} steps {len(c.steps)}"
             if letter in "DL":
                 if numbers[0] > 1024:
-                    raise Faulty("no chart has so many steps")
+                    raise Faulty("no chart has so many groups")
                 d = read_diagram(file, numbers[0], strict=letter == "D")
                 return f"root {d.root} nodes {len(d.nodes)}"
         except Refused as r:

@@ -21,21 +21,8 @@
 
 #include <stdio.h>
 #include <stdlib.h>
-#include <string.h>
 
 const char *const program = "cycles-c";
-
-/* A stage number in decimal digits, of any size that an entry has room for; a text that is none ends the program. */
-static uint16_t read_stage(const char *text)
-{
-    size_t digits = strspn(text, "0123456789");
-    unsigned long number = strtoul(text, NULL, 10);
-    if (digits == 0 || text[digits] != '\0' || number > 65535) {
-        fprintf(stderr, "%s: no stage number from 0 to 65535: %s\n", program, text);
-        exit(2);
-    }
-    return (uint16_t)number;
-}
 
 static void print_cycle(const planner_cycle *cycle)
 {
@@ -89,8 +76,8 @@ int main(int argc, char **argv)
     count = ((size_t)argc - 3) / 2;
     list = allocate(count, sizeof *list);
     for (i = 0; i < count; i++) {
-        list[i].start = read_stage(argv[3 + 2 * i]);
-        list[i].end = read_stage(argv[4 + 2 * i]);
+        list[i].start = read_number("stage", argv[3 + 2 * i]);
+        list[i].end = read_number("stage", argv[4 + 2 * i]);
     }
     chart = read_file(argv[1]);
     rules = read_file(argv[2]);

@@ -23,6 +23,17 @@ void *allocate(size_t count, size_t size)
     return got_block(calloc(count > 0 ? count : 1, size));
 }
 
+uint16_t read_number(const char *what, const char *text)
+{
+    size_t digits = strspn(text, "0123456789");
+    unsigned long number = strtoul(text, NULL, 10);
+    if (digits == 0 || text[digits] != '\0' || number > 65535) {
+        fprintf(stderr, "%s: no %s number from 0 to 65535: %s\n", program, what, text);
+        exit(2);
+    }
+    return (uint16_t)number;
+}
+
 file read_file(const char *path)
 {
     size_t room = 65536;

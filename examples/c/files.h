@@ -17,6 +17,9 @@ typedef struct file {
 /* Zeroed memory, never null: where there is none, the program ends with status 2. */
 void *allocate(size_t count, size_t size);
 
+/* A number in decimal digits, of any size that two bytes have room for; a text that is none ends the program with status 2. */
+uint16_t read_number(const char *what, const char *text);
+
 /* A file that is missing counts as empty. */
 file read_file(const char *path);
 

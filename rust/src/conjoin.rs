@@ -6,7 +6,7 @@ use crate::work::front;
 use crate::{MOST_FILE, MOST_PAIRS};
 
 /// One diagram file for two over the same chart, `rules` (file 2) and `more` (file 3): it says yes
-/// exactly to the sets of steps to which both say yes. A plan under it is one that both allow, and
+/// exactly to the sets of groups to which both say yes. A plan under it is one that both allow, and
 /// none that both allow is cheaper. The diagram is reduced, so files that mean the same give the same
 /// bytes. To conjoin often, keep a [`ConjoinWork`].
 pub fn conjoin(chart: &[u8], rules: &[u8], more: &[u8]) -> Result<Vec<u8>, Refusal> {

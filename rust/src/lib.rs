@@ -110,6 +110,31 @@
 //! # Ok::<(), planner::Refusal>(())
 //! ```
 //!
+//! Steps that mean the same can be of one group, which a rule names once. Tag 03 marks such a step,
+//! with its group after the ns; the nodes of a diagram ask for groups, and a group is there if at least
+//! one of its steps is taken. Steps of tag 02, as above, are a group each, by their own number. A plan
+//! has numbers of steps, in every chart:
+//!
+//! ```
+//! // From 0 to 1 for 50 or 100 ns, both of group 0; from 1 to 2 for 200, group 1, or 50, group 2.
+//! let chart = [
+//!     0x01, 6, 0, 3, 0, 0, 0, 2, 0, //
+//!     0x03, 10, 0, 0, 0, 1, 0, 50, 0, 0, 0, 0, 0, //
+//!     0x03, 10, 0, 0, 0, 1, 0, 100, 0, 0, 0, 0, 0, //
+//!     0x03, 10, 0, 1, 0, 2, 0, 200, 0, 0, 0, 1, 0, //
+//!     0x03, 10, 0, 1, 0, 2, 0, 50, 0, 0, 0, 2, 0,
+//! ];
+//! // Who takes a step of group 0 takes one of group 1: node 2 asks for group 1, the root for group 0.
+//! let rules = [
+//!     0x11, 2, 0, 3, 0, //
+//!     0x12, 6, 0, 1, 0, 0, 0, 1, 0, //
+//!     0x12, 6, 0, 0, 0, 1, 0, 2, 0,
+//! ];
+//! let plan = planner::plan(&chart, &rules)?;
+//! assert_eq!((plan.cost, &plan.steps[..]), (250, &[0, 2][..]));
+//! # Ok::<(), planner::Refusal>(())
+//! ```
+//!
 //! The module [`lent`] has the calls as they are, on slices that the caller lends.
 
 mod conjoin;

@@ -6,9 +6,9 @@ use crate::work::front;
 use crate::MOST_FILE;
 
 /// The reduced file of a diagram, also of a padded one, which every other call refuses with
-/// [`Refusal::Padded`]. It says yes to the same sets of steps, so a plan is legal under it exactly if
+/// [`Refusal::Padded`]. It says yes to the same sets of groups, so a plan is legal under it exactly if
 /// it is under `rules`. Files over one chart have the same reduction, byte for byte, exactly if they
-/// say yes to the same sets of its steps. Never [`Refusal::Padded`], never [`Refusal::Space`].
+/// say yes to the same sets of its groups. Never [`Refusal::Padded`], never [`Refusal::Space`].
 pub fn reduce(chart: &[u8], rules: &[u8]) -> Result<Vec<u8>, Refusal> {
     let mut file = [0; MOST_FILE];
     let mut answer = Answer::default();

@@ -34,7 +34,8 @@ impl File {
 pub enum Refusal {
     /// 1: the file ends inside a field.
     Cut { file: File, place: usize },
-    /// 2: the file is empty, a tag isn't of this file, the head isn't first or comes again.
+    /// 2: the file is empty, a tag isn't of this file, the head isn't first or comes again, a step is of
+    /// another kind than the first.
     Tag { file: File, place: usize },
     /// 3: the length isn't that of the tag.
     Length { file: File, place: usize },
@@ -57,9 +58,11 @@ pub enum Refusal {
     Cost { file: File, place: usize },
     /// 12: the reduced diagram has more than 510 inner nodes.
     Large,
-    /// 13: an inner node has lo equal to hi, or step, lo and hi of an earlier one.
+    /// 13: an inner node has lo equal to hi, or group, lo and hi of an earlier one.
     /// [`reduce`](crate::reduce) makes of such a file one that is taken.
     Padded { file: File, place: usize },
+    /// 14: a step's group is above 1,023, or below that of the step before.
+    Group { file: File, place: usize },
     /// A number that this crate has no name for, or one of a file with a mark that it has no name
     /// for: the linked library is newer. The three entries are the answer's own.
     Other { number: usize, file: usize, place: usize },
@@ -84,6 +87,7 @@ impl Refusal {
             (11, Some(file)) => Refusal::Cost { file, place },
             (12, _) => Refusal::Large,
             (13, Some(file)) => Refusal::Padded { file, place },
+            (14, Some(file)) => Refusal::Group { file, place },
             _ => Refusal::Other { number, file: mark, place },
         })
     }
@@ -110,6 +114,7 @@ impl Refusal {
             Refusal::Cost { .. } => 11,
             Refusal::Large => 12,
             Refusal::Padded { .. } => 13,
+            Refusal::Group { .. } => 14,
             Refusal::Other { number, .. } => number,
         }
     }
@@ -126,7 +131,8 @@ impl Refusal {
             | Refusal::Long { file, place }
             | Refusal::Stages { file, place }
             | Refusal::Cost { file, place }
-            | Refusal::Padded { file, place } => Some((file, place)),
+            | Refusal::Padded { file, place }
+            | Refusal::Group { file, place } => Some((file, place)),
             Refusal::Other { file, place, .. } => File::of(file).map(|file| (file, place)),
             Refusal::Space | Refusal::NoPlan { .. } | Refusal::Large => None,
         }

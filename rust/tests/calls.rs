@@ -1,5 +1,5 @@
 //! The wrapper's calls on the shipped example: plans, lists of starts and ends, conjunctions,
-//! reductions, refusals, lent slices, kept work space.
+//! reductions, steps in groups, refusals, lent slices, kept work space.
 
 use planner::lent::UNREACHED;
 use planner::lent::{self, Answer, ConjoinSlices, CycleSlices, GuidedSlices, Space, SweepSlices};
@@ -18,7 +18,20 @@ fn chart_file(head: [u16; 3], steps: &[(u16, u16, u32)]) -> Vec<u8> {
     file
 }
 
-/// A diagram file: root, then step, lo and hi of each node.
+/// A chart file whose steps name groups: stage count, start, end, then from, to, value and group of
+/// each step.
+fn grouped_file(head: [u16; 3], steps: &[(u16, u16, u32, u16)]) -> Vec<u8> {
+    let mut file = chart_file(head, &[]);
+    for (from, to, value, group) in steps {
+        file.extend([0x03, 10, 0]);
+        file.extend([*from, *to].iter().flat_map(|value| value.to_le_bytes()));
+        file.extend(value.to_le_bytes());
+        file.extend(group.to_le_bytes());
+    }
+    file
+}
+
+/// A diagram file: root, then group, lo and hi of each node.
 fn rules_file(root: u16, nodes: &[[u16; 3]]) -> Vec<u8> {
     let mut file = vec![0x11, 2, 0];
     file.extend(root.to_le_bytes());
@@ -31,6 +44,16 @@ fn rules_file(root: u16, nodes: &[[u16; 3]]) -> Vec<u8> {
 
 const STEPS: [(u16, u16, u32); 6] =
     [(0, 1, 40), (0, 1, 90), (1, 2, 200), (1, 3, 30), (2, 3, 20), (3, 4, 50)];
+
+/// The example's steps in these groups.
+fn in_groups(groups: [u16; 6]) -> Vec<u8> {
+    let steps: Vec<_> = STEPS
+        .iter()
+        .zip(groups)
+        .map(|((from, to, value), group)| (*from, *to, *value, group))
+        .collect();
+    grouped_file([5, 0, 4], &steps)
+}
 
 fn example() -> (Vec<u8>, Vec<u8>) {
     (chart_file([5, 0, 4], &STEPS), rules_file(3, &[[2, 0, 1], [0, 1, 2]]))
@@ -74,7 +97,7 @@ fn the_header_has_the_same_numbers() {
     assert_eq!(number("PLANNER_MOST_FILE "), Some(MOST_FILE));
     let (first, later) = (
         ["CUT", "TAG", "LENGTH", "HEAD", "STEP", "NODE", "SPACE"],
-        ["NO_PLAN", "LONG", "STAGES", "COST", "LARGE", "PADDED"],
+        ["NO_PLAN", "LONG", "STAGES", "COST", "LARGE", "PADDED", "GROUP"],
     );
     let header = header.replace(',', " ");
     for (number, cause) in (1..).zip(first.into_iter().chain(later)) {
@@ -98,10 +121,11 @@ fn every_refusal() {
     let [bad_head, falling, no_stage, dear] = spoiled_charts();
     let bad_node = rules_file(2, &[[6, 0, 1]]);
     let padded = rules_file(4, &[[2, 0, 1], [1, 2, 2], [0, 1, 3]]);
+    let group_falls = in_groups([0, 0, 2, 1, 4, 5]);
     type Case<'a> = (&'a [u8], &'a [u8], Refusal, &'a [u8]);
     let no = rules_file(0, &[]);
     let long = noted(&rules, LONGEST_FILE + 1);
-    let cases: [Case; 12] = [
+    let cases: [Case; 13] = [
         (&chart[..19], &rules, Refusal::Cut { file: File::Chart, place: 9 }, &chart[9..19]),
         (&[], &rules, Refusal::Tag { file: File::Chart, place: 0 }, &[]),
         (&chart, &rules[5..], Refusal::Tag { file: File::Rules, place: 0 }, &rules[5..14]),
@@ -114,17 +138,24 @@ fn every_refusal() {
         (&no_stage, &rules, Refusal::Stages { file: File::Chart, place: 9 }, &no_stage[9..]),
         (&dear, &rules, Refusal::Cost { file: File::Chart, place: 9 }, &dear[9..]),
         (&chart, &padded, Refusal::Padded { file: File::Rules, place: 14 }, &padded[14..23]),
+        (
+            &group_falls,
+            &rules,
+            Refusal::Group { file: File::Chart, place: 48 },
+            &group_falls[48..61],
+        ),
     ];
     for (chart, rules, refusal, field) in cases {
         assert_eq!(plan(chart, rules), Err(refusal));
         assert_eq!(refusal.field(chart, rules), field);
     }
     let numbers = cases.map(|case| case.2.number());
-    assert_eq!(numbers, [1, 2, 2, 3, 4, 5, 6, 8, 9, 10, 11, 13]);
+    assert_eq!(numbers, [1, 2, 2, 3, 4, 5, 6, 8, 9, 10, 11, 13, 14]);
     assert_eq!(cases[5].2.to_string(), "refused 5 file 1 place 20");
     assert_eq!(cases[7].2.to_string(), "refused 8 file 0 place 0");
     assert_eq!(cases[8].2.to_string(), "refused 9 file 2 place 32768");
     assert_eq!(cases[11].2.to_string(), "refused 13 file 2 place 14");
+    assert_eq!(cases[12].2.to_string(), "refused 14 file 1 place 48");
 }
 
 /// A file with a remark at its end that makes it so many bytes long.
@@ -170,6 +201,7 @@ fn names(refusal: Refusal) -> (&'static str, &'static str) {
         Refusal::Cost { .. } => "cost",
         Refusal::Large => "large",
         Refusal::Padded { .. } => "padded",
+        Refusal::Group { .. } => "group",
         Refusal::Other { .. } => "other",
         _ => "newer",
     };
@@ -187,7 +219,8 @@ fn names(refusal: Refusal) -> (&'static str, &'static str) {
 fn each_number_has_its_own_refusal() {
     let (first, later) =
         (["cut", "tag", "length", "head", "step", "node"], ["long", "stages", "cost"]);
-    for (number, name) in (1..).zip(first).chain((9..).zip(later)).chain([(13, "padded")]) {
+    let last = [(13, "padded"), (14, "group")];
+    for (number, name) in (1..).zip(first).chain((9..).zip(later)).chain(last) {
         for (file, file_name) in [(1, "chart"), (2, "rules"), (3, "more rules")] {
             let refusal = refusal_of(number, file, 14).expect("a refusal");
             assert_eq!(refusal.number(), number);
@@ -204,7 +237,7 @@ fn each_number_has_its_own_refusal() {
         assert_eq!((refusal.number(), names(refusal)), (number, (name, "none")));
         assert_eq!(refusal.to_string(), format!("refused {number} file 0 place 0"));
     }
-    for number in [9, 10, 11, 13] {
+    for number in [9, 10, 11, 13, 14] {
         assert_eq!(refusal_of(number, 0, 0).map(names), Some(("other", "none")));
     }
 }
@@ -212,7 +245,7 @@ fn each_number_has_its_own_refusal() {
 #[test]
 fn a_number_without_a_name_is_kept() {
     let (chart, rules) = example();
-    for number in [14, 15, 255, usize::MAX] {
+    for number in [15, 16, 255, usize::MAX] {
         let refusal = refusal_of(number, 2, 14).expect("a refusal");
         assert_eq!(refusal, Refusal::Other { number, file: 2, place: 14 });
         assert_eq!(refusal.number(), number);
@@ -226,7 +259,7 @@ fn a_number_without_a_name_is_kept() {
 fn a_file_without_a_name_is_kept() {
     let (chart, rules) = example();
     for (number, file, place) in
-        [(6, 4, 5), (4, 0, 0), (1, usize::MAX, 9), (13, 0, 0), (13, 4, 5), (14, 0, 0), (14, 4, 5)]
+        [(6, 4, 5), (4, 0, 0), (1, usize::MAX, 9), (13, 4, 5), (14, 0, 0), (14, 4, 5), (15, 0, 0)]
     {
         let refusal = refusal_of(number, file, place).expect("a refusal");
         assert_eq!(refusal, Refusal::Other { number, file, place });
@@ -254,7 +287,7 @@ fn the_refused_field_is_a_part_of_the_callers_file() {
 fn a_field_of_the_third_file_is_never_taken_from_another() {
     let (chart, rules) = example();
     let more = not_taken(&[1]);
-    for number in [1, 6, 13, 14] {
+    for number in [1, 6, 13, 14, 15] {
         let refusal = refusal_of(number, 3, 5).expect("a refusal");
         assert!(std::ptr::eq(refusal.field_of_three(&chart, &rules, &more), &more[5..]));
         assert!(std::ptr::eq(refusal.field(&chart, &rules), &chart[..0]));
@@ -379,6 +412,9 @@ fn refused_charts() -> Vec<(Vec<u8>, usize, usize)> {
         (no_stage, 10, 9),
         (dear, 11, 9),
     ]
+    .into_iter()
+    .chain(refused_groups())
+    .collect()
 }
 
 /// Diagrams that no call takes on the example's chart, the number and the place that each gets, and the
@@ -980,6 +1016,236 @@ fn a_list_on_256_stages_without_a_plan_slice() {
     assert_eq!((answer, lent), (Answer::default(), list));
     let (answer, _, lent) = lent_cycles(files, [256 * 3 - 1; 6], &pairs);
     assert_eq!((answer, lent), (refused(7), asked(&pairs)));
+}
+
+/// Charts that are refused for what is new with groups, and the number and the place that each gets.
+/// The example's steps stand at 9, 20, 31 .. where they are plain, at 9, 22, 35 .. where they name
+/// groups.
+fn refused_groups() -> Vec<(Vec<u8>, usize, usize)> {
+    let (plain, grouped) = (chart_file([5, 0, 4], &STEPS), in_groups(ONE_RAISE));
+    let step = |from, to, value, group| grouped_file([5, 0, 4], &[(from, to, value, group)]);
+    let (first, other) = (&plain[9..20], &grouped[9..22]);
+    let many = grouped_file([5, 0, 4], &[(0, 1, 7, 9); 1024]);
+    vec![
+        // A group above 1,023, and one below that of the step before.
+        (step(0, 1, 40, 1024), 14, 9),
+        (step(0, 1, 40, u16::MAX), 14, 9),
+        (in_groups([0, 1, 2, 3, 4, 1024]), 14, 74),
+        (in_groups([1, 0, 2, 3, 4, 5]), 14, 22),
+        (in_groups([0, 1, 1023, 1022, 1023, 1023]), 14, 48),
+        // What else a step is refused for comes first.
+        (step(1, 1, 40, 1024), 10, 9),
+        (step(0, 5, 40, 1024), 10, 9),
+        (step(0, 1, 1_000_001, 1024), 11, 9),
+        (grouped_file([5, 0, 4], &[(1, 2, 7, 3), (0, 1, 7, 2)]), 5, 22),
+        ([&many[..], &step(0, 1, 7, 2)[9..]].concat(), 5, 9 + 1024 * 13),
+        // The kind of the first step is that of all: another one is told before its length and its
+        // end, but not where its header is cut.
+        ([&plain[..], other].concat(), 2, 75),
+        ([&plain[..], &other[..4]].concat(), 2, 75),
+        ([&plain[..], &[0x03, 8, 0], &first[3..]].concat(), 2, 75),
+        ([&grouped[..], first].concat(), 2, 87),
+        ([&grouped[..], &first[..4]].concat(), 2, 87),
+        ([&grouped[..], &[0x02, 10, 0], &other[3..]].concat(), 2, 87),
+        ([&plain[..], &other[..2]].concat(), 1, 75),
+        ([&grouped[..], &first[..2]].concat(), 1, 87),
+        // A remark is of neither kind.
+        ([&plain[..9], &[0x80, 0, 0], other, first].concat(), 2, 25),
+        // The length is that of the kind.
+        ([&plain[..9], &[0x03, 8, 0], &plain[12..]].concat(), 3, 9),
+        ([&plain[..9], &[0x02, 10, 0], &grouped[12..]].concat(), 3, 9),
+        ([&grouped[..], &[0x03, 8, 0], &first[3..]].concat(), 3, 87),
+        (grouped[..grouped.len() - 1].to_vec(), 1, 74),
+    ]
+}
+
+/// Groups of the example's steps: both raises of A13 are group 0, and group 1 has no step.
+const ONE_RAISE: [u16; 6] = [0, 0, 2, 3, 4, 5];
+
+#[test]
+fn every_refusal_of_groups() {
+    let (_, rules) = example();
+    for (chart, number, place) in refused_groups() {
+        for rules in [&rules[..], &[]] {
+            let refusal = plan(&chart, rules).unwrap_err();
+            assert_eq!(Some(refusal), refusal_of(number, 1, place));
+            assert_eq!(space_needed(&chart, rules), Err(refusal));
+            let length = chart.get(place + 1).map_or(0, |length| usize::from(*length)) + 3;
+            let end = chart.len().min(place + length);
+            assert_eq!(refusal.field(&chart, rules), &chart[place..end]);
+        }
+        let mut work = Work::with_entries(100, 4);
+        let answer = Answer { number, file: 1, place, ..Answer::default() };
+        assert_eq!((work.sweep(&chart, &rules), work.guided(&chart, &rules)), (answer, answer));
+    }
+}
+
+/// All that the calls tell of two files on the example's stages: space, both answers, the sweep's
+/// costs, both plans, the log, a list, the conjunction with another diagram and the reduction.
+type Told = (Space, [Answer; 2], Vec<u32>, [Vec<u16>; 2], Vec<u32>, Vec<Cycle>, [Vec<u8>; 2]);
+
+fn told(chart: &[u8], rules: &[u8], more: &[u8]) -> Told {
+    let space = space_needed(chart, rules).expect("sound files");
+    let mut work = Work::for_files(chart, rules).expect("sound files");
+    let (sweep, guided) = work.both(chart, rules);
+    assert_eq!((work.sweep(chart, rules), work.guided(chart, rules)), (sweep, guided));
+    let plans = [work.sweep_steps(&sweep), work.guided_steps(&guided)].map(<[u16]>::to_vec);
+    let log = work.settled(&guided).to_vec();
+    let mut list = asked(&all_pairs(6));
+    assert_eq!(work.cycles(chart, rules, &mut list), Ok(()));
+    assert_eq!(searched(&mut work, chart, rules, &list), list);
+    let files =
+        [conjoin(chart, rules, more), reduce(chart, rules)].map(|file| file.expect("sound files"));
+    (space, [sweep, guided], work.costs().to_vec(), plans, log, list, files)
+}
+
+#[test]
+fn each_step_in_a_group_of_its_own() {
+    let (chart, rules) = example();
+    let grouped = in_groups([0, 1, 2, 3, 4, 5]);
+    assert_eq!(grouped.len(), 9 + 6 * 13);
+    for rules in
+        [rules, rules_file(0, &[]), rules_file(1, &[]), not_taken(&[1]), not_taken(&[2, 3])]
+    {
+        for more in [rules_file(1, &[]), not_taken(&[1]), not_taken(&[0, 5])] {
+            assert_eq!(told(&grouped, &rules, &more), told(&chart, &rules, &more));
+        }
+    }
+    for (rules, number, place, field) in refused_diagrams() {
+        let refusal = plan(&grouped, &rules).unwrap_err();
+        assert_eq!(Some(refusal), refusal_of(number, 2, place));
+        assert_eq!(refusal.field(&grouped, &rules), field);
+    }
+    for (padded, place, reduced) in padded_diagrams() {
+        assert_eq!(plan(&grouped, &padded).err(), refusal_of(13, 2, place));
+        assert_eq!(reduce(&grouped, &padded), Ok(reduced));
+    }
+}
+
+#[test]
+fn both_raises_in_one_group() {
+    // The example's rule: what raises A13, group 0, needs settling, group 2. So step 1 does too.
+    let (chart, rules) = (in_groups(ONE_RAISE), example().1);
+    let more = not_taken(&[5]);
+    let (space, [sweep, guided], costs, plans, log, list, files) = told(&chart, &rules, &more);
+    assert_eq!(space, Space { work: 20, plan: 4, ..Space::default() });
+    let answer = Answer { cost: 350, length: 4, count: 5, ..Answer::default() };
+    assert_eq!((sweep, guided), (answer, answer));
+    assert_eq!(plans, [[0, 2, 4, 5]; 2]);
+    let mut expected = vec![UNREACHED; 20];
+    for (pair, cost) in [(3, 0), (6, 50), (9, 250), (13, 300), (17, 350)] {
+        expected[pair] = cost;
+    }
+    assert_eq!((costs, log), (expected, vec![3, 6, 9, 13, 17]));
+    // From 0 to 1 both steps are group 0, and neither has settling; two pairs have an estimate.
+    let found = list.iter().map(|cycle| (cycle.number, cycle.cost, cycle.count));
+    let outside = (4, 0, 0);
+    let no_way = (8, 0, 0);
+    let rows = [
+        [(0, 0, 1), (8, 0, 2), (0, 250, 3), (0, 300, 4), (0, 350, 5), outside],
+        [no_way, (0, 0, 1), (0, 200, 2), (0, 50, 2), (0, 100, 3), outside],
+        [no_way, no_way, (0, 0, 1), (0, 50, 2), (0, 100, 3), outside],
+        [no_way, no_way, no_way, (0, 0, 1), (0, 50, 2), outside],
+        [no_way, no_way, no_way, no_way, (0, 0, 1), outside],
+        [outside; 6],
+    ];
+    assert_eq!(found.collect::<Vec<_>>(), rows.concat());
+    let both = rules_file(4, &[[5, 1, 0], [2, 0, 2], [0, 2, 3]]);
+    assert_eq!(files, [both.clone(), rules]);
+    assert!(matches!(plan(&chart, &both), Err(Refusal::NoPlan { .. })));
+    // Remarks stand between steps of this kind too.
+    let noted_chart =
+        [&chart[..9], &[0x80, 1, 0, 3], &chart[9..22], &[0xff, 0, 0], &chart[22..]].concat();
+    assert_eq!(told(&noted_chart, &example().1, &more), told(&chart, &example().1, &more));
+}
+
+#[test]
+fn groups_without_steps() {
+    let chart = in_groups(ONE_RAISE);
+    let (yes, no) = (rules_file(1, &[]), rules_file(0, &[]));
+    // Group 1 is never there: a rule that forbids it allows all plans, one that asks for it none.
+    let (without, with) = (not_taken(&[1]), rules_file(2, &[[1, 0, 1]]));
+    let found = plan(&chart, &without).expect("a legal plan");
+    assert_eq!((found.cost, found.steps), (150, vec![0, 3, 5]));
+    // No estimate at the start, since hi does not count: nothing is settled.
+    assert_eq!(plan(&chart, &with), Err(Refusal::NoPlan { count: 0 }));
+    // They still make a difference to the sets of groups.
+    for file in [&without, &with] {
+        assert_eq!(reduce(&chart, file).as_ref(), Ok(file));
+        assert_eq!(conjoin(&chart, file, &yes).as_ref(), Ok(file));
+    }
+    assert_eq!(conjoin(&chart, &without, &with), Ok(no));
+    let both = conjoin(&chart, &example().1, &without).expect("sound files");
+    assert_eq!(both, rules_file(5, &[[1, 1, 0], [2, 0, 1], [1, 3, 0], [0, 2, 4]]));
+    assert_eq!(
+        plan(&chart, &both).map(|plan| (plan.cost, plan.steps)),
+        Ok((350, vec![0, 2, 4, 5]))
+    );
+}
+
+/// From stage 0 to stage 2: by way of stage 1 for 50 and then 50, 300 or 60 (which costs 100), or
+/// straight for 200. Groups are 0, 1, 3, 4 and 4.
+fn shared_group(steps: usize) -> Vec<u8> {
+    let all = [(0, 1, 50, 0), (0, 2, 200, 1), (1, 2, 50, 3), (1, 2, 300, 4), (1, 2, 60, 4)];
+    grouped_file([3, 0, 2], &all[..steps])
+}
+
+#[test]
+fn estimates_over_groups() {
+    // Group 0 needs group 4, or group 2, which has no step. N is 5.
+    let rules = rules_file(4, &[[4, 0, 1], [2, 2, 1], [0, 1, 3]]);
+    let settled = |steps| {
+        let mut work = Work::with_entries(15, 2);
+        let (sweep, guided) = work.both(&shared_group(steps), &rules);
+        assert_eq!(work.sweep_steps(&sweep), work.guided_steps(&guided));
+        let log = work.settled(&guided).to_vec();
+        (guided.cost, work.guided_steps(&guided).to_vec(), log, sweep.count)
+    };
+    // Without the last step group 4 costs 300, so the pair 8 has the sum 350. If the hi of group 2
+    // counted, it would be 100, and the pair would be settled.
+    assert_eq!(settled(4), (200, vec![1], vec![4, 11], 4));
+    // With it the group costs 100, the smaller one.
+    assert_eq!(settled(5), (150, vec![0, 4], vec![4, 8, 11], 4));
+}
+
+#[test]
+fn nodes_name_groups_up_to_the_highest() {
+    let node = |group| rules_file(2, &[[group, 1, 0]]);
+    for (groups, highest) in
+        [([0; 6], 0), ([7; 6], 7), (ONE_RAISE, 5), ([0, 0, 0, 0, 0, 1023], 1023), ([1023; 6], 1023)]
+    {
+        let chart = in_groups(groups);
+        for group in [0, 1, 5, 6, 7, 8, 1022, 1023, 1024, u16::MAX] {
+            let space = Space { work: 15, plan: 4, ..Space::default() };
+            let refusal = Refusal::Node { file: File::Rules, place: 5 };
+            let expected = if group <= highest { Ok(space) } else { Err(refusal) };
+            assert_eq!(space_needed(&chart, &node(group)), expected);
+            assert_eq!(reduce(&chart, &node(group)).err(), expected.err());
+            assert_eq!(conjoin(&chart, &node(group), &rules_file(1, &[])).err(), expected.err());
+        }
+    }
+    // Without steps there is no group, and no kind.
+    let empty = chart_file([1, 0, 0], &[]);
+    assert_eq!(plan(&empty, &node(0)).err(), refusal_of(6, 2, 5));
+    assert_eq!(plan(&empty, &rules_file(1, &[])).map(|plan| plan.cost), Ok(0));
+}
+
+#[test]
+fn one_group_for_all() {
+    let chart = in_groups([0; 6]);
+    // Some step is taken: all plans. No step is taken: none of them.
+    let found = plan(&chart, &rules_file(2, &[[0, 0, 1]])).expect("a legal plan");
+    assert_eq!((found.cost, found.steps), (150, vec![0, 3, 5]));
+    assert_eq!((found.settled, found.reached), (4, 5));
+    assert!(matches!(plan(&chart, &not_taken(&[0])), Err(Refusal::NoPlan { .. })));
+    // 1,024 steps of one group, and of a group each.
+    for (group, highest) in [(0, 0), (1, 1023)] {
+        let steps: Vec<_> =
+            (0..1024).map(|e| (0, 1, 1_000_000 - 50 * u32::from(e), e * group)).collect();
+        let chart = grouped_file([2, 0, 1], &steps);
+        let found = plan(&chart, &rules_file(2, &[[highest, 0, 1]])).expect("a legal plan");
+        assert_eq!((found.cost, found.steps), (948_850, vec![1023]));
+    }
 }
 
 #[test]

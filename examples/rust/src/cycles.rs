@@ -17,12 +17,12 @@
 
 mod files;
 
-use std::ffi::{OsStr, OsString};
+use std::ffi::OsString;
 use std::process::ExitCode;
 
 use planner::Cycle;
 
-use files::{finish, read_file, refuse, PROGRAM};
+use files::{finish, read_file, read_number, refuse, PROGRAM};
 
 fn main() -> ExitCode {
     let args: Vec<OsString> = std::env::args_os().skip(1).collect();
@@ -32,11 +32,10 @@ fn main() -> ExitCode {
     }
     let mut numbers = Vec::new();
     for text in stages {
-        let Some(number) = stage(text) else {
-            eprintln!("{PROGRAM}: no stage number from 0 to 65535: {}", text.to_string_lossy());
-            return ExitCode::from(2);
-        };
-        numbers.push(number);
+        match read_number("stage", text) {
+            Ok(number) => numbers.push(number),
+            Err(status) => return status,
+        }
     }
     let mut list: Vec<Cycle> = numbers.chunks(2).map(|pair| Cycle::new(pair[0], pair[1])).collect();
     let (chart, rules) = (read_file(chart), read_file(rules));
@@ -49,12 +48,6 @@ fn main() -> ExitCode {
 fn usage() -> ExitCode {
     eprintln!("usage: {PROGRAM} CHART RULES [START END]...");
     ExitCode::from(2)
-}
-
-/// A stage number in decimal digits, of any size that an entry has room for.
-fn stage(text: &OsStr) -> Option<u16> {
-    let digits = text.to_str().filter(|text| text.bytes().all(|byte| byte.is_ascii_digit()))?;
-    digits.parse().ok()
 }
 
 /// The line of an entry that is answered.

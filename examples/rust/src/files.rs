@@ -9,6 +9,17 @@ use planner::Refusal;
 /// The program's name, for its messages.
 pub const PROGRAM: &str = env!("CARGO_BIN_NAME");
 
+/// A number in decimal digits, of any size that two bytes have room for. The exit status where it is
+/// none: 2.
+#[allow(dead_code)] // cycles-rust and group-rust take numbers.
+pub fn read_number(what: &str, text: &OsStr) -> Result<u16, ExitCode> {
+    let digits = text.to_str().filter(|text| text.bytes().all(|byte| byte.is_ascii_digit()));
+    digits.and_then(|digits| digits.parse().ok()).ok_or_else(|| {
+        eprintln!("{PROGRAM}: no {what} number from 0 to 65535: {}", text.to_string_lossy());
+        ExitCode::from(2)
+    })
+}
+
 /// A file that is missing counts as empty.
 pub fn read_file(path: &OsStr) -> Vec<u8> {
     std::fs::read(path).unwrap_or_default()
