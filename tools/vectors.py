@@ -469,7 +469,7 @@ class Player:
         try:
             if letter == "C":
                 c = read_chart(file)
-                return f"stages {c.stages} start {c.start} end {c.end} steps {len(c.steps)}"
+                return f"stages {c.stages} start {c.start} end {c.end} steps {len(c.steps)} groups {c.group_count()}"
             if letter in "DL":
                 if numbers[0] > 1024:
                     raise Faulty("no chart has so many groups")

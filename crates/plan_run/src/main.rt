@@ -1,7 +1,7 @@
 // The program `plan` on many files: the folders 001, 002 .. of data/, which tools/run_files.py writes.
 
 // How many folders there are.
-const CASES: u8 = 129;
+const CASES: u8 = 173;
 
 // Plans for the files of one folder, after a line with its number.
 fn run_case(hundreds: u8, tens: u8, ones: u8) {

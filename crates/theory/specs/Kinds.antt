@@ -74,13 +74,16 @@ module _ (c c′ : Chart) (same : graph c ≡ graph c′) where
 
     same-outcome : (o : Option ℕ) (k : ℕ) (plan plan′ : List ℕ) (r : Answer) → Outcome o c d k plan plan′ r → Outcome o c′ d k plan plan′ r
     same-outcome none k plan plan′ r x = x
-    same-outcome (some m) k plan plan′ r x = (x .0, record {
-      fits = x .1 .fits;
-      legal = same-legal (take (r .length) plan′) (x .1 .legal);
-      costs = subst (λ (g : Graph). wayCost g (take (r .length) plan′) ≡ m) same (x .1 .costs);
-      long = x .1 .long;
-      rest = x .1 .rest;
-    })
+    same-outcome (some m) k plan plan′ r x = (
+      x .0,
+      record {
+        fits = x .1 .fits;
+        legal = same-legal (take (r .length) plan′) (x .1 .legal);
+        costs = subst (λ (g : Graph). wayCost g (take (r .length) plan′) ≡ m) same (x .1 .costs);
+        long = x .1 .long;
+        rest = x .1 .rest;
+      },
+    )
 
     same-scratch : (work work′ : List ℕ) → Scratch (ready c d) work work′ → Scratch (ready c′ d) work work′
     same-scratch work work′ x = rw (← same-need) x
@@ -134,13 +137,16 @@ module _ (c c′ : Chart) (same : graph c ≡ graph c′) (d : Diagram) where
   pub same-cycles : (before after : CycleSlices) (list list′ : List Cycle) (r : Answer) → CyclesPromise (ready c d) before after list list′ r
       → CyclesPromise (ready c′ d) before after list list′ r
   same-cycles before after list list′ r x = record {
-    listed = (x .listed .0, record {
-      long = x .listed .1 .long;
-      each = λ i h.
-          let y = getD list i noCycle in
-          let y′ = getD list′ i noCycle in
-          subst (λ (b : Bool). CycledIf b c′ d y y′) (on y) (same-cycled (onChart c y) y y′ (x .listed .1 .each i h));
-    });
+    listed = (
+      x .listed .0,
+      record {
+        long = x .listed .1 .long;
+        each = λ i h.
+            let y = getD list i noCycle in
+            let y′ = getD list′ i noCycle in
+            subst (λ (b : Bool). CycledIf b c′ d y y′) (on y) (same-cycled (onChart c y) y y′ (x .listed .1 .each i h));
+      },
+    );
     keys = same-scratch c c′ same d _ _ (x .keys);
     via = same-scratch c c′ same d _ _ (x .via);
     heap = same-scratch c c′ same d _ _ (x .heap);

@@ -16,10 +16,10 @@ use script_files::write::times;
 // The longest work slice: a few entries more than any files need.
 const MOST: usize = 262152;
 
-// How many nodes a diagram over so many steps has, 0 and 1 included.
-fn references(file: &[u8], steps: usize) -> u64 {
+// How many nodes a diagram over so many groups has, 0 and 1 included.
+fn references(file: &[u8], groups: usize) -> u64 {
     let mut table = [0u32; 512];
-    let r = diagram::read_diagram(file, within(steps), true, &mut table);
+    let r = diagram::read_diagram(file, within(groups), true, &mut table);
     (r.nodes % 512) as u64 + 2
 }
 
@@ -27,7 +27,7 @@ fn references(file: &[u8], steps: usize) -> u64 {
 fn pairs<'a>(chart: &'a [u8], rules: &'a [u8], more: &'a [u8]) -> usize {
     let mut table = [[0u32; 1024]; 2];
     let r = chart::read_chart(chart, &mut table);
-    times(references(rules, r.steps), references(more, r.steps)) as usize
+    times(references(rules, r.groups), references(more, r.groups)) as usize
 }
 
 // How many entries of the work slice are the call's own: none where it is refused before it begins. 7 is the buffer's where

@@ -27,6 +27,7 @@ fn chart_answer(r: ChartRead) {
     named(b" start ", r.start as u64);
     named(b" end ", r.end as u64);
     named(b" steps ", r.steps as u64);
+    named(b" groups ", r.groups as u64);
 }
 
 fn diagram_answer(r: DiagramRead) {
@@ -44,20 +45,20 @@ pub fn show_chart(file: &[u8]) {
     chart_answer(chart::read_chart(file, &mut table));
 }
 
-// So many steps, or as many as a chart can have.
-pub fn within(steps: usize) -> usize
+// So many groups, or as many as a chart can have.
+pub fn within(groups: usize) -> usize
     ensures { λ r. ⌜ r ≤ 1024 ⌝ }
 {
-    if 1024 <= steps {
+    if 1024 <= groups {
         return 1024;
     }
-    steps
+    groups
 }
 
-// A diagram file over a chart of so many steps, where padding is refused (strict) or taken.
-pub fn show_diagram(file: &[u8], steps: usize, strict: bool) {
+// A diagram file over a chart of so many groups, where padding is refused (strict) or taken.
+pub fn show_diagram(file: &[u8], groups: usize, strict: bool) {
     let mut table = [0u32; 512];
-    diagram_answer(diagram::read_diagram(file, within(steps), strict, &mut table));
+    diagram_answer(diagram::read_diagram(file, within(groups), strict, &mut table));
 }
 
 // The refused field of a file mark and a place: how many bytes, and each in hexadecimal.

@@ -86,9 +86,10 @@ loop-again : tie.Need-loop-again Inv-loop μ-loop
 loop-again c =
     let judged : tie.After-cheaper Inv-loop μ-loop = search in
     let named : tie.After-group-at Inv-loop μ-loop = search in
-    let head = head-of (turn-of named) in
-    (pricing-more (stepsIn (start-of head .args .steps .now)) _ _ (within (turn-of named)) _ (head .loop .inv .0) _ _ (named .group-at .ensures) (inside named) (judged .cheaper .ensures),
-      omega (arith, within (turn-of named)))
+    let head = head-of (turn-of named) in (
+      pricing-more (stepsIn (start-of head .args .steps .now)) _ _ (within (turn-of named)) _ (head .loop .inv .0) _ _ (named .group-at .ensures) (inside named) (judged .cheaper .ensures),
+      omega (arith, within (turn-of named)),
+    )
 
 returns : tie.Need-returns Inv-loop μ-loop
 returns c =

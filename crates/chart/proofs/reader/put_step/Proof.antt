@@ -61,9 +61,10 @@ returns c =
     let judged : tie.After-step-fault = search in
     let start : tie.Start = search in
     let stops : tie.Then1 = search in
-    let ends : tie.After-stopped = search in
-    (take-bad _ _ (start .args .read) (start .args .steps .now) (start .pre) _ (measured .step-length .ensures) _ (judged .step-fault .ensures) (stops .if1 .taken) _ (ends .stopped .ensures),
-      over-kind (start .args .read) _ _ _ (ends .stopped .ensures))
+    let ends : tie.After-stopped = search in (
+      take-bad _ _ (start .args .read) (start .args .steps .now) (start .pre) _ (measured .step-length .ensures) _ (judged .step-fault .ensures) (stops .if1 .taken) _ (ends .stopped .ensures),
+      over-kind (start .args .read) _ _ _ (ends .stopped .ensures),
+    )
 
 step-of-requires : tie.Need-step-of-requires
 step-of-requires c κs =
@@ -101,9 +102,10 @@ returns-2 c =
     let q = read c in
     let p = passed q in
     let s = start-of p in
-    let m = length-of p in
-    (take-step _ _ (s .args .read) (s .args .steps .now) (s .pre) _ (m .step-length .ensures) _ (p .before .step-fault .ensures) (p .if1 .left) _ (q .step-of .ensures) _ (c .ends-of .ensures),
-      λ g. refl)
+    let m = length-of p in (
+      take-step _ _ (s .args .read) (s .args .steps .now) (s .pre) _ (m .step-length .ensures) _ (p .before .step-fault .ensures) (p .if1 .left) _ (q .step-of .ensures) _ (c .ends-of .ensures),
+      λ g. refl,
+    )
 
 pub put-step-spec : {M : Type 1} → statement M
 put-step-spec =

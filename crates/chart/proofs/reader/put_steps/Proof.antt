@@ -53,9 +53,10 @@ loop-again c =
     let judged : tie.After-goes-on Inv-loop μ-loop = search in
     let stored : tie.After-put-step Inv-loop μ-loop = search in
     let turn : tie.In-loop Inv-loop μ-loop = search in
-    let head : tie.At-loop Inv-loop μ-loop = search in
-    (run-next (head .loop .inv .0) (turn .loop-test .taken) (stored .put-step .ensures .0) (judged .goes-on .ensures),
-      λ e. stored .put-step .ensures .1 (goes-has _ _ _ _ _ _ (judged .goes-on .ensures) e .0) ∙ head .loop .inv .1 (turn .loop-test .taken))
+    let head : tie.At-loop Inv-loop μ-loop = search in (
+      run-next (head .loop .inv .0) (turn .loop-test .taken) (stored .put-step .ensures .0) (judged .goes-on .ensures),
+      λ e. stored .put-step .ensures .1 (goes-has _ _ _ _ _ _ (judged .goes-on .ensures) e .0) ∙ head .loop .inv .1 (turn .loop-test .taken),
+    )
 
 returns : tie.Need-returns Inv-loop μ-loop
 returns c =

@@ -27,9 +27,10 @@ take-found-requires-2 c κs =
     let measured : tie.After-step-length = search in
     let looked : tie.After-next-field = search in
     let r = start .args .read in
-    let table = start .args .steps .now in
-    (found-anew _ 0 r table _ (judged .due-kind .ensures) (anew .if1 .left) _ (measured .step-length .ensures) _ (looked .next-field .ensures),
-      due-anew _ 0 r table _ (judged .due-kind .ensures) (anew .if1 .left) _ (measured .step-length .ensures))
+    let table = start .args .steps .now in (
+      found-anew _ 0 r table _ (judged .due-kind .ensures) (anew .if1 .left) _ (measured .step-length .ensures) _ (looked .next-field .ensures),
+      due-anew _ 0 r table _ (judged .due-kind .ensures) (anew .if1 .left) _ (measured .step-length .ensures),
+    )
 
 returns-2 : tie.Need-returns-2
 returns-2 c =

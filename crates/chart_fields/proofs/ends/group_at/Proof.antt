@@ -15,7 +15,7 @@ group-of-requires : tie.Need-group-of-requires
 group-of-requires c κs = search needs
 
 returns : tie.Need-returns
-returns c = 
+returns c =
     let taken : tie.After-group-of = search in
     taken .group-of .ensures ∙ sym (groups-at _ _)
 

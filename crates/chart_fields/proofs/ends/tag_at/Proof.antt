@@ -15,7 +15,7 @@ tag-of-requires : tie.Need-tag-of-requires
 tag-of-requires c κs = search needs
 
 returns : tie.Need-returns
-returns c = 
+returns c =
     let taken : tie.After-tag-of = search in
     taken .tag-of .ensures ∙ sym (tags-at _ _)
 

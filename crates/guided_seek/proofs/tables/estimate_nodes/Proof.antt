@@ -14,7 +14,7 @@ fill-prices-requires : tie.Need-fill-prices-requires
 fill-prices-requires c κs = search needs
 
 fill-diagram-estimates-requires : tie.Need-fill-diagram-estimates-requires
-fill-diagram-estimates-requires c κs = 
+fill-diagram-estimates-requires c κs =
     let start : tie.Start = search in
     let filled : tie.After-fill-prices = search in
     (run-nodes (start .pre .1) _ (filled .fill-prices .ensures), start .pre .0)
@@ -26,14 +26,14 @@ index-1-fill-diagram-estimates : tie.Need-index-1-fill-diagram-estimates
 index-1-fill-diagram-estimates c = search needs
 
 fill-diagram-estimates-requires-2 : tie.Need-fill-diagram-estimates-requires-2
-fill-diagram-estimates-requires-2 c κs = 
+fill-diagram-estimates-requires-2 c κs =
     let start : tie.Start = search in
     let told : tie.After-tag-at = search in
     let single : tie.Else1 = search in
     (run-nodes (start .pre .1) _ (plain-costs (start .pre .1) _ (told .tag-at .ensures) (single .if1 .left)), start .pre .0)
 
 returns-2 : tie.Need-returns-2
-returns-2 c = 
+returns-2 c =
     let start : tie.Start = search in
     let told : tie.After-tag-at = search in
     let single : tie.Else1 = search in
