@@ -44,7 +44,8 @@ CONSTANTS = {
     128: "the keys of a block",
     512: "the nodes in a mark and in a node's entry",
     1024: "the steps in a mark",
-    65536: "the stages in the ends of a step",
+    4: "the kind in the word of a step",
+    256: "the stages in it",
 }
 # By what an index is multiplied: the bytes of an entry.
 SIZES = {2, 4, 8, 4096}
