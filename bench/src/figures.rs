@@ -274,7 +274,7 @@ pub fn remarks_passed(case: &Case, fault: Option<&Refusal>) -> usize {
 fn node_at_fault(case: &Case, fault: Option<&Refusal>) -> Option<NodeAtFault> {
     let fault = fault?;
     let file = case.diagrams().nth((fault.file as usize).checked_sub(2)?)?;
-    NodeAtFault::of(file, read_chart(&case.chart).ok()?.steps.len(), fault)
+    NodeAtFault::of(file, read_chart(&case.chart).ok()?.groups(), fault)
 }
 
 fn cheapest_goal(facts: &Facts) -> Option<usize> {

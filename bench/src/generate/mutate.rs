@@ -68,9 +68,9 @@ fn change_number(random: &mut Random, bytes: &mut [u8]) {
         return;
     }
     let at = HEADER + 2 * random.below((body.len() - HEADER) / 2);
-    if at == HEADER + 4 && body.len() == HEADER + 8 {
+    if at == HEADER + 4 && matches!(body.len() - HEADER, 8 | 10) {
         let costs = random.pick(&[&costs::SOUND[..], &costs::DEAR]);
-        body[at..].copy_from_slice(&random.pick(costs).to_le_bytes());
+        body[at..at + 4].copy_from_slice(&random.pick(costs).to_le_bytes());
         return;
     }
     let known = two_bytes(body, at);

@@ -38,23 +38,23 @@ enum Reader {
     Conjoin,
 }
 
-/// A diagram's file: its bytes, its mark, and the steps of the chart.
+/// A diagram's file: its bytes, its mark, and the groups of the chart.
 #[derive(Clone, Copy)]
 struct File<'a> {
     bytes: &'a [u8],
     mark: u32,
-    steps: usize,
+    groups: usize,
 }
 
 impl File<'_> {
     /// As it should be read.
     fn sound(self) -> Result<Diagram, Refusal> {
-        read_diagram_by(self.bytes, self.mark, self.steps, is_padding)
+        read_diagram_by(self.bytes, self.mark, self.groups, is_padding)
     }
 
     /// Without 13.
     fn taken(self) -> Result<Diagram, Refusal> {
-        read_diagram_by(self.bytes, self.mark, self.steps, |_, _| false)
+        read_diagram_by(self.bytes, self.mark, self.groups, |_, _| false)
     }
 
     fn refused(self, number: u32, place: usize) -> Result<Diagram, Refusal> {
@@ -65,7 +65,7 @@ impl File<'_> {
     fn sooner(self, number: u32, such: fn(&NodeFaults) -> bool) -> Result<Diagram, Refusal> {
         let read = self.sound();
         let Err(fault) = read else { return read };
-        let node = NodeAtFault::of(self.bytes, self.steps, &fault);
+        let node = NodeAtFault::of(self.bytes, self.groups, &fault);
         match node.filter(|node| node.number == number && such(&node.faults)) {
             Some(_) => self.refused(13, fault.place),
             None => read,
@@ -227,7 +227,7 @@ fn chain(node: &Node) -> u32 {
 fn at_twin(file: File) -> Result<Diagram, Refusal> {
     let read = file.sound();
     let Err(fault) = read else { return read };
-    let node = NodeAtFault::of(file.bytes, file.steps, &fault).filter(|node| node.number == 13);
+    let node = NodeAtFault::of(file.bytes, file.groups, &fault).filter(|node| node.number == 13);
     match node.and_then(|node| Some(node.before - node.faults.twin?)) {
         Some(twin) => file.refused(13, node_places(file.bytes)[twin]),
         None => read,
@@ -307,15 +307,15 @@ fn refused(fault: Refusal) -> Answer {
 impl Misreading {
     fn read(&self, file: File) -> Result<Diagram, Refusal> {
         match self.how {
-            How::Test(test) => read_diagram_by(file.bytes, file.mark, file.steps, test),
+            How::Test(test) => read_diagram_by(file.bytes, file.mark, file.groups, test),
             How::File(read) => read(file),
         }
     }
 
     fn read_both(&self, chart: &[u8], rules: &[u8]) -> Result<Problem, Refusal> {
         let chart = read_chart(chart)?;
-        let steps = chart.steps.len();
-        let diagram = self.read(File { bytes: rules, mark: DIAGRAM_FILE, steps })?;
+        let groups = chart.groups();
+        let diagram = self.read(File { bytes: rules, mark: DIAGRAM_FILE, groups })?;
         Ok(Problem { chart, diagram })
     }
 
@@ -368,8 +368,8 @@ impl Misreading {
     pub(super) fn conjoin(&self, files: Three, lent: &mut ConjoinSlices) -> Option<Answer> {
         let [chart, rules, more] = files;
         let read = self.read_both(chart, rules).and_then(|Problem { chart, diagram: first }| {
-            let steps = chart.steps.len();
-            let second = self.read(File { bytes: more, mark: MORE_FILE, steps })?;
+            let groups = chart.groups();
+            let second = self.read(File { bytes: more, mark: MORE_FILE, groups })?;
             Ok(Operands { chart, first, second })
         });
         let is_wrong = || read != read_three(chart, rules, more);

@@ -309,7 +309,8 @@ impl<'a> Search<'a> {
         let step = self.problem.chart.steps[number];
         for node in self.walked(step.from) {
             let before = cost[self.at(step.from, node)];
-            let next = advance(&self.problem.diagram, node as u16, number as u16);
+            let group = self.problem.chart.group(number as u16);
+            let next = advance(&self.problem.diagram, node as u16, group);
             if before == UNREACHED || next == 0 {
                 continue;
             }
@@ -404,7 +405,7 @@ impl<'a> Guided<'a> {
         let Problem { chart, diagram } = self.search.problem;
         let leaving = chart.steps.iter().enumerate().filter(|(_, step)| step.from == stage);
         for (number, step) in leaving {
-            let next = advance(diagram, node, number as u16);
+            let next = advance(diagram, node, chart.group(number as u16));
             self.open(step.to, next, cost + step.cost, Some((number, node.into())));
         }
     }

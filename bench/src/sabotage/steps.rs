@@ -4,9 +4,9 @@
 use super::{new, Sabotage, Spoil, Test};
 use crate::files::{
     read_both, read_chart, step_field, step_of, two_bytes, Refusal, Step, DIAGRAM_FILE,
-    FIRST_REMARK, HEADER, MAX_COST, MAX_STEPS, STEP,
+    FIRST_REMARK, HEADER, MAX_COST, MAX_STEPS,
 };
-use crate::generate::steps::{step_places, WHOLE};
+use crate::generate::steps::step_places;
 use crate::planner::Answer;
 use crate::steps::{StepAtFault, StepFaults};
 
@@ -98,7 +98,7 @@ pub(super) fn change(chart: &mut [u8], change: impl Fn(&mut Step, Around)) {
     let mut before = 0;
     for place in step_places(chart) {
         let stages = two_bytes(chart, HEADER);
-        let body = &mut chart[place + HEADER..place + WHOLE];
+        let body = &mut chart[place][HEADER..];
         let mut step = step_of(body);
         let from = step.from;
         change(&mut step, Around { stages, before });
@@ -173,7 +173,9 @@ fn judge_costs_after_rules(chart: &mut Vec<u8>, rules: &[u8]) {
 /// The values of steps count only where every field is whole, with the right tag and length.
 fn judge_values_last(chart: &mut Vec<u8>) {
     let mut changed = chart.clone();
-    change(&mut changed, |step, _| *step = Step { from: 0, to: 1, cost: 0 });
+    change(&mut changed, |step, _| {
+        *step = Step { group: step.group.map(|_| 0), ..Step::new(0, 1, 0) };
+    });
     if read_chart(&changed).is_err_and(|fault| fault.number < 4) {
         *chart = changed;
     }
@@ -185,16 +187,17 @@ fn make_whole(chart: &mut Vec<u8>, number: u32, such: Test) {
     let Err(fault) = read_chart(chart) else { return };
     let Refusal { number: found, place, .. } = fault;
     let step = StepAtFault::of(chart, &fault).filter(|step| found == number && such(&step.faults));
-    if step.is_some() {
-        chart.resize(chart.len().max(place + WHOLE), 0);
-        chart[place + 1..place + HEADER].copy_from_slice(&(STEP.length as u16).to_le_bytes());
+    if let Some(step) = step {
+        let length = step.step.layout().length;
+        chart.resize(chart.len().max(place + HEADER + length), 0);
+        chart[place + 1..place + HEADER].copy_from_slice(&(length as u16).to_le_bytes());
     }
 }
 
 /// Steps behind the 1,024th become remarks.
 fn pass_over_surplus(chart: &mut [u8]) {
     for place in step_places(chart).into_iter().skip(MAX_STEPS) {
-        chart[place] |= FIRST_REMARK;
+        chart[place.start] |= FIRST_REMARK;
     }
 }
 

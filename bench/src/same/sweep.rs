@@ -64,22 +64,24 @@ impl Rows<'_> {
         }
     }
 
-    /// Follows every step out of one pair. Steps rise, so the walk along lo is carried on.
+    /// Follows every step out of one pair. Groups never fall, so the walk along lo is carried
+    /// on.
     fn relax(&mut self, tables: &Tables, stage: usize, node: usize, cost: u32) {
         let mut at = node;
         for step in tables.leaving(stage) {
-            while tables.nodes[at].step() < step {
+            let ends = tables.ends(step);
+            while tables.nodes[at].step() < ends.group() {
                 at = tables.nodes[at].lo();
             }
             if at == 0 {
                 break;
             }
             let inner = tables.nodes[at];
-            let next = if inner.step() == step { inner.hi() } else { at };
+            let next = if inner.step() == ends.group() { inner.hi() } else { at };
             if next == 0 {
                 continue;
             }
-            let to = tables.to(step);
+            let to = ends.to();
             let row = tables.row(to);
             let known = self.cost[row + next];
             let found = cost + tables.cost[step];

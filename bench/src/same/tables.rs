@@ -16,11 +16,16 @@ const LONGEST: usize = 32_768;
 /// Bytes of each field, header and body: the chart's head and steps, the diagram's head and nodes.
 const HEAD: usize = 9;
 const STEP_FIELD: usize = 11;
+const GROUPED_FIELD: usize = 13;
 const RULES_HEAD: usize = 5;
 const NODE_FIELD: usize = 9;
 
-/// The stage that a step leaves takes sixteen bits; the one that it leads to stands above it.
-const STAGE_BITS: u32 = 16;
+/// The group of a step takes ten bits; the stage that it leaves stands above it and takes eight, the one
+/// that it leads to above that.
+const GROUP_BITS: u32 = 10;
+const STAGE_BITS: u32 = 8;
+/// The tag of a step with a group.
+const GROUPED: u8 = 0x03;
 
 /// The step of nodes 0 and 1: above every step, so that no walk goes past them.
 const NO_STEP: u16 = (1 << 14) - 1;
@@ -64,6 +69,29 @@ impl Inner {
     }
 }
 
+/// Group, from and to of a step in one number.
+#[derive(Clone, Copy, Default)]
+pub struct Ends(u32);
+
+impl Ends {
+    fn new(from: u16, to: u16, group: u16) -> Ends {
+        let stages = u32::from(to) << STAGE_BITS | u32::from(from);
+        Ends(stages << GROUP_BITS | u32::from(group))
+    }
+
+    pub fn group(self) -> usize {
+        (self.0 & ((1 << GROUP_BITS) - 1)) as usize
+    }
+
+    pub fn from(self) -> usize {
+        (self.0 >> GROUP_BITS & ((1 << STAGE_BITS) - 1)) as usize
+    }
+
+    pub fn to(self) -> usize {
+        (self.0 >> (GROUP_BITS + STAGE_BITS)) as usize
+    }
+}
+
 /// The nodes of a file in chains of the same hash, the last one at the head.
 struct Chains {
     heads: [u16; NODES],
@@ -98,8 +126,12 @@ pub struct Tables {
     pub start: usize,
     pub end: usize,
     steps: usize,
-    /// By step: the stage that it leaves, and above it the one that it leads to.
-    ends: [u32; STEPS],
+    /// Groups that nodes may name: all up to the highest.
+    groups: usize,
+    /// Whether the groups stand in the file; else each step is one alone.
+    is_grouped: bool,
+    /// By step: its group, the stage that it leaves, and the one that it leads to.
+    ends: [Ends; STEPS],
     pub cost: [u32; STEPS],
     /// By stage: its first leaving step; one entry more than there are stages.
     first: [u16; STAGES + 1],
@@ -118,7 +150,9 @@ impl Tables {
             start: 0,
             end: 0,
             steps: 0,
-            ends: [0; STEPS],
+            groups: 0,
+            is_grouped: false,
+            ends: [Ends::default(); STEPS],
             cost: [0; STEPS],
             first: [0; STAGES + 1],
             rows: [0; STAGES],
@@ -138,20 +172,66 @@ impl Tables {
         if stages == 0 || stages > STAGES || self.start >= stages || self.end >= stages {
             return Err(Answer::refused(4, 1, 0));
         }
-        let (mut steps, mut from) = (0, 0);
-        each_field::<STEP_FIELD>(&file[HEAD..], |field| {
-            from = self.read_step(field, steps, from)?;
-            steps += 1;
-            Ok(())
-        })
-        .map_err(|Fault { number, left }| Answer::refused(number, 1, file.len() - left))?;
+        self.read_steps(&file[HEAD..])
+            .map_err(|Fault { number, left }| Answer::refused(number, 1, file.len() - left))
+    }
+
+    /// Reads all steps; the first one tells of which kind all must be.
+    fn read_steps(&mut self, fields: &[u8]) -> Result<(), Fault> {
+        let fields = without_remarks(fields)?;
+        let (mut steps, mut from, mut group) = (0, 0, 0);
+        self.is_grouped = fields.first() == Some(&GROUPED);
+        if self.is_grouped {
+            each_field::<GROUPED_FIELD>(fields, |field| {
+                (from, group) = self.read_grouped(field, steps, from, group)?;
+                steps += 1;
+                Ok(())
+            })?;
+            self.groups = if steps == 0 { 0 } else { usize::from(group) + 1 };
+        } else {
+            each_field::<STEP_FIELD>(fields, |field| {
+                from = self.read_step(field, steps, from)?;
+                steps += 1;
+                Ok(())
+            })?;
+            self.groups = steps;
+        }
         self.steps = steps;
         Ok(())
     }
 
     /// Reads a step that leaves no stage before `least`, and gives the stage that it leaves.
     fn read_step(&mut self, field: &[u8], at: usize, least: u16) -> Result<u16, u32> {
-        let [f0, f1, t0, t1, c0, c1, c2, c3] = *body(field, 0x02)?;
+        let values = body(field, 0x02)?;
+        self.read_values(values, at, least, at as u16)
+    }
+
+    /// The same of a step that has a group, none before that of the step before; gives the group too.
+    fn read_grouped(
+        &mut self,
+        field: &[u8],
+        at: usize,
+        least: u16,
+        least_group: u16,
+    ) -> Result<(u16, u16), u32> {
+        let [values @ .., g0, g1]: &[u8; 10] = body(field, GROUPED)?;
+        let group = u16::from_le_bytes([*g0, *g1]);
+        let from = self.read_values(values, at, least, group)?;
+        if usize::from(group) >= STEPS || group < least_group {
+            return Err(14);
+        }
+        Ok((from, group))
+    }
+
+    /// Takes in the values of a step; the group is not judged.
+    fn read_values(
+        &mut self,
+        values: &[u8; 8],
+        at: usize,
+        least: u16,
+        group: u16,
+    ) -> Result<u16, u32> {
+        let [f0, f1, t0, t1, c0, c1, c2, c3] = *values;
         let (from, to) = (u16::from_le_bytes([f0, f1]), u16::from_le_bytes([t0, t1]));
         let cost = u32::from_le_bytes([c0, c1, c2, c3]);
         if at >= STEPS {
@@ -166,7 +246,7 @@ impl Tables {
         if cost > MAX_COST {
             return Err(11);
         }
-        self.ends[at] = u32::from(to) << STAGE_BITS | u32::from(from);
+        self.ends[at] = Ends::new(from, to, group);
         self.cost[at] = cost.next_multiple_of(TICK);
         Ok(from)
     }
@@ -174,7 +254,7 @@ impl Tables {
     /// First steps by stage, for the searches: steps stand in the order of their first stages.
     pub fn fill_first(&mut self) {
         for (at, ends) in self.ends[..self.steps].iter().enumerate() {
-            self.first[from_of(*ends) + 1] = at as u16 + 1;
+            self.first[ends.from() + 1] = at as u16 + 1;
         }
         let mut most = 0;
         for first in &mut self.first[1..=self.stages] {
@@ -185,7 +265,7 @@ impl Tables {
 
     /// Tables for another diagram over the same chart.
     pub fn with_chart_alone(&self) -> Tables {
-        Tables { stages: self.stages, steps: self.steps, ..Tables::new() }
+        Tables { groups: self.groups, ..Tables::new() }
     }
 
     /// Makes the diagram one that always says yes.
@@ -226,7 +306,7 @@ impl Tables {
         let [s0, s1, l0, l1, h0, h1] = *body(field, 0x12)?;
         let step = u16::from_le_bytes([s0, s1]);
         let (lo, hi) = (u16::from_le_bytes([l0, l1]), u16::from_le_bytes([h0, h1]));
-        if own >= NODES || usize::from(step) >= self.steps {
+        if own >= NODES || usize::from(step) >= self.groups {
             return Err(6);
         }
         // 0 and 1 have NO_STEP, so one comparison serves them and the inner nodes.
@@ -257,14 +337,14 @@ impl Tables {
         usize::from(self.first[stage])..usize::from(self.first[stage + 1])
     }
 
-    /// The stage that a step leads to.
-    pub fn to(&self, step: usize) -> usize {
-        to_of(self.ends[step])
+    /// The group of a step and the stage that it leads to.
+    pub fn ends(&self, step: usize) -> Ends {
+        self.ends[step]
     }
 
     /// The pair from which a via leads on.
     pub fn pair_before(&self, via: u32) -> usize {
-        self.row(from_of(self.ends[via_step(via)])) + via_node(via)
+        self.row(self.ends[via_step(via)].from()) + via_node(via)
     }
 
     /// Whether a node finishes at 1.
@@ -289,28 +369,37 @@ impl Tables {
         for stage in (self.start..self.end).rev() {
             let leaving = self.leaving(stage);
             let steps = self.ends[leaving.clone()].iter().zip(&self.cost[leaving]);
-            let costs = steps.map(|(ends, cost)| estimates[to_of(*ends)].saturating_add(*cost));
+            let costs = steps.map(|(ends, cost)| estimates[ends.to()].saturating_add(*cost));
             estimates[stage] = costs.min().unwrap_or(NONE);
         }
     }
 
     /// Fills in the diagram estimates, children before their nodes; handed in without any.
     pub fn estimate_nodes(&self, estimates: &mut [u32; BY_NODE]) {
+        let by_group;
+        let costs = if self.is_grouped {
+            by_group = self.group_costs();
+            &by_group
+        } else {
+            &self.cost
+        };
         estimates[1] = 0;
         for node in 2..self.references {
             let inner = self.nodes[node];
-            let taken = estimates[inner.hi()].saturating_add(self.cost[inner.step()]);
+            let taken = estimates[inner.hi()].saturating_add(costs[inner.step()]);
             estimates[node] = estimates[inner.lo()].min(taken);
         }
     }
-}
 
-fn from_of(ends: u32) -> usize {
-    (ends & ((1 << STAGE_BITS) - 1)) as usize
-}
-
-fn to_of(ends: u32) -> usize {
-    (ends >> STAGE_BITS) as usize
+    /// By group: the least cost of its steps; none where it has no step.
+    fn group_costs(&self) -> [u32; STEPS] {
+        let mut costs = [NONE; STEPS];
+        for (ends, cost) in self.ends[..self.steps].iter().zip(&self.cost) {
+            let least = &mut costs[ends.group()];
+            *least = (*least).min(*cost);
+        }
+        costs
+    }
 }
 
 fn number(low: u8, high: u8) -> usize {
@@ -370,13 +459,19 @@ fn fields_in_a_row<const FIELD: usize>(
 /// What follows the remarks at the front. Where none stands there the fault is the one found, where
 /// one is cut it is 1.
 fn behind_remarks(fields: &[u8], number: u32) -> Result<&[u8], Fault> {
+    let rest = without_remarks(fields)?;
+    if rest.len() == fields.len() {
+        return Err(Fault { number, left: rest.len() });
+    }
+    Ok(rest)
+}
+
+/// What follows the remarks at the front, if any stand there.
+fn without_remarks(fields: &[u8]) -> Result<&[u8], Fault> {
     let mut rest = fields;
     while let [0x80..=0xff, low, high, body @ ..] = rest {
         let length = usize::from(u16::from_le_bytes([*low, *high]));
         rest = body.get(length..).ok_or(Fault { number: 1, left: rest.len() })?;
-    }
-    if rest.len() == fields.len() {
-        return Err(Fault { number, left: rest.len() });
     }
     Ok(rest)
 }
