@@ -83,7 +83,7 @@ impl Cases {
         files.extend(steps::systematic());
         files.extend(groups::systematic());
         files.extend(long::systematic(&example_problem()));
-        let small = [(); 3].map(|()| small_problem(&mut random));
+        let small = [(); 2].map(|()| small_problem(&mut random));
         let grouped = [grouped_problem(), small_grouped(&mut random)];
         for problem in [example_problem()].iter().chain(&small).chain(&grouped) {
             files.extend(systematic(problem));
@@ -93,6 +93,9 @@ impl Cases {
         padding.extend(padded::systematic(&mut random).iter().map(written));
         let mut corners_of_conjunctions = operands::systematic(&mut random);
         corners_of_conjunctions.extend(operands::with_padding(&mut random));
+        corners_of_conjunctions.extend(groups::operands(&mut random));
+        let mut broken_conjunctions = three_files::broken(&example_problem());
+        broken_conjunctions.extend(three_files::broken(&grouped_problem()).into_iter().step_by(3));
         let corner = |shape: &corners::Shape| written(&shape(&mut random, Size::FULL));
         Cases {
             seed,
@@ -103,7 +106,7 @@ impl Cases {
             systematic: files,
             padding,
             conjunctions: corners_of_conjunctions.iter().map(three_files::written).collect(),
-            broken_conjunctions: three_files::broken(&example_problem()),
+            broken_conjunctions,
         }
     }
 
@@ -289,6 +292,8 @@ fn plain_files(random: &mut Random) -> (&'static str, Files) {
         500..=549 => ("ticks", written_alone(random, ticks::any)),
         550..=599 => ("padded", written(&padded::any(random))),
         600..=614 => ("damaged padded", damaged_padded(random)),
+        615..=644 => ("groups", written(&groups::any(random))),
+        645..=674 => ("broken groups", groups::broken(random)),
         _ => ("small", sized(random, 8, 14, 12)),
     }
 }

@@ -2,8 +2,8 @@
 //! is the one that is told or not.
 
 use crate::files::{
-    read_chart, step_of, Chart, Refusal, Step, CHART_FILE, GROUPED_STEP, HEADER, MAX_COST,
-    MAX_GROUP, MAX_STEPS, STEP_KINDS,
+    read_chart, step_of, two_bytes, Chart, Refusal, Step, CHART_FILE, GROUPED_STEP, HEADER,
+    MAX_COST, MAX_GROUP, MAX_STEPS, STEP_KINDS,
 };
 
 /// The members of `StepFaults::set`.
@@ -75,6 +75,10 @@ pub struct StepAtFault {
     /// The stage count of its chart.
     pub stages: u16,
     pub step: Step,
+    /// The length that its field claims.
+    pub claimed: usize,
+    /// The group of the step before, where there is one.
+    pub group_before: Option<u16>,
     pub faults: StepFaults,
 }
 
@@ -99,7 +103,14 @@ impl StepAtFault {
             step.group = before.steps.last().map_or(Some(0), |before| before.group);
         }
         let faults = StepFaults::of(&before, step);
-        Some(StepAtFault { number, stages: before.stages, step, faults })
+        Some(StepAtFault {
+            number,
+            stages: before.stages,
+            step,
+            claimed: two_bytes(chart, place + 1).into(),
+            group_before: before.steps.last().and_then(|before| before.group),
+            faults,
+        })
     }
 
     /// Whether it is refused for its values.

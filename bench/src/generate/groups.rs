@@ -1,23 +1,26 @@
 //! Charts whose steps have groups, as drawn and in corners, and diagrams over groups, those without steps
 //! too; groups at fault, and steps of the other kind.
 
+use std::ops::Range;
+
 use super::broken::{spoiled_fields, Fields, Files};
 use super::charts::{parallel, random_chart_without_groups};
-use super::costs::DEAR;
+use super::costs::{of_some_ticks, DEAR};
 use super::diagrams::{layers_of_width, random_diagram, scattered, Padding};
 use super::load::load;
-use super::rules::{AllOf, AtMost, ExactlyOne, Modulo, Needs};
-use super::shapes::{all_of, even, none_of, rule};
-use super::steps::{with_root, without_last_byte};
+use super::operands::most_pairs;
+use super::rules::{AllOf, AtMost, Both, ExactlyOne, Modulo, Needs};
+use super::shapes::{all_of, even, none_of, odd, rule};
+use super::steps::{step_places, with_root, without_last_byte};
 use super::Random;
 use crate::cases::example_problem;
 use crate::files::{
-    step_field, step_of, tagged, write_chart, write_diagram, Chart, Diagram, Node, Operands,
-    Problem, Step, GROUPED_STEP, HEADER, MAX_COST, MAX_GROUP, MAX_NODES, MAX_STEPS, STEP,
+    step_field, step_of, tagged, two_bytes, write_chart, write_diagram, Chart, Diagram, Node,
+    Operands, Problem, Step, GROUPED_STEP, HEADER, MAX_COST, MAX_GROUP, MAX_NODES, MAX_STEPS, STEP,
 };
 
 /// So many of a hundred random charts have groups.
-const SHARE: usize = 35;
+const SHARE: usize = 40;
 
 /// Groups beyond the limit. Some would pass by a part of their bytes, or with a sign.
 pub const HIGH: [u16; 8] =
@@ -190,8 +193,7 @@ pub fn systematic() -> Vec<Files> {
 fn groups_at_fault() -> Vec<Vec<u8>> {
     let of_values = |groups: &[u16], costs: &[u32]| {
         let mut steps = Vec::new();
-        for (from, to) in [(2, 3), (2, 4), (1, 3), (3, 3), (2, 2), (1, 1), (2, STAGES), (1, 65_535)]
-        {
+        for (from, to) in [(2, 3), (1, 3), (3, 3), (1, 1), (2, STAGES)] {
             for cost in costs {
                 steps.extend(groups.iter().map(|at| Step::new(from, to, *cost).of_group(*at)));
             }
@@ -581,4 +583,153 @@ fn large(random: &mut Random) -> Vec<Problem> {
         all.extend(diagrams.map(|diagram| Problem { chart: chart.clone(), diagram }));
     }
     all
+}
+
+/// Two diagrams over groups with steps and without: single tests, and, where one step alone has the highest
+/// group that there may be, results of 510 nodes and more over groups without steps.
+pub fn operands(random: &mut Random) -> Vec<Operands> {
+    let chart = chart_of(3, &[(0, 1, 90, 2), (0, 2, 40, 2), (1, 2, 60, 5)]);
+    let tests = [0, 2, 3, 5].into_iter().flat_map(|group| [(group, 0, 1), (group, 1, 0)]);
+    let mut diagrams: Vec<Diagram> = tests.map(|node| diagram_of(&[node])).collect();
+    diagrams.extend([Diagram::NO, Diagram::YES]);
+    let mut all = Vec::new();
+    for first in &diagrams {
+        let over = |second: &Diagram| (chart.clone(), first.clone(), second.clone());
+        all.extend(diagrams.iter().map(over));
+    }
+    let high = chart_of(2, &[(0, 1, 7, MAX_GROUP)]);
+    let Operands { first, second, .. } = most_pairs();
+    let rows = [(all_of(even(MAX_NODES)), all_of(odd(MAX_NODES))), (first, second)];
+    let last = |count: usize| MAX_STEPS - count..MAX_STEPS;
+    let sizes = [(255, 254), (255, 255), (256, 255)];
+    let chains = sizes.map(|(first, second)| (all_of(0..first), none_of(last(second))));
+    all.extend(rows.into_iter().chain(chains).map(|(a, b)| (high.clone(), a, b)));
+    for _ in 0..20 {
+        let chart = grouped(random, &parallel(12));
+        let first = random_diagram(random, &chart, 14);
+        let second = random_diagram(random, &chart, 14);
+        all.push((chart, first, second));
+    }
+    all.into_iter().map(|(chart, first, second)| Operands { chart, first, second }).collect()
+}
+
+/// Gives one step of a chart file another group, or makes it one of the other kind; says whether there is a
+/// step with a group.
+pub fn mutate(random: &mut Random, chart: &mut Vec<u8>) -> bool {
+    let places = step_places(chart);
+    let grouped = places.iter().filter(|place| chart[place.start] == GROUPED_STEP.tag);
+    let grouped: Vec<&Range<usize>> = grouped.collect();
+    if grouped.is_empty() {
+        return false;
+    }
+    let at = random.pick(&grouped).clone();
+    if random.percent(25) {
+        let other = other_kind(random, &chart[at.clone()]);
+        chart.splice(at, other);
+        return true;
+    }
+    let known = two_bytes(chart, at.end - 2);
+    let group = match random.below(4) {
+        0 => known.wrapping_add(1),
+        1 => known.wrapping_sub(1),
+        2 => random.pick(&[0, 255, 256, MAX_GROUP, MAX_GROUP + 1]),
+        _ => bad(random, known),
+    };
+    chart[at.end - 2..at.end].copy_from_slice(&group.to_le_bytes());
+    true
+}
+
+/// A problem in which the diagram estimate often decides: from each stage dear steps in one group and cheap
+/// ones in the next, and a rule that wants some of the dear groups.
+pub fn any(random: &mut Random) -> Problem {
+    let stages = random.between(3, 7);
+    let costs: [fn(&mut Random) -> u32; 2] =
+        [|random| random.between(100, 900) as u32, |random| of_some_ticks(random, 0, 4)];
+    let mut steps = Vec::new();
+    for from in 0..stages - 1 {
+        for (which, cost) in costs.iter().enumerate() {
+            for _ in 0..random.between(1, 3) {
+                let to = if random.percent(85) { from + 1 } else { stages - 1 };
+                let step = Step::new(from as u16, to as u16, cost(random));
+                steps.push(step.of_group((2 * from + which) as u16));
+            }
+        }
+    }
+    let chart = Chart { stages: stages as u16, start: 0, end: stages as u16 - 1, steps };
+    let dear: Vec<u16> = (0..stages as u16 - 1).map(|stage| 2 * stage).collect();
+    let count = random.between(1, dear.len());
+    let mut some = |count: usize| -> Vec<u16> {
+        random.subset(dear.len(), count).iter().map(|at| dear[usize::from(*at)]).collect()
+    };
+    let (wanted, other) = (some(count), some(1)[0]);
+    let diagram = match random.below(5) {
+        0 | 1 => rule(&AllOf(wanted)),
+        2 => rule(&ExactlyOne(wanted)),
+        3 => rule(&Both(Box::new(AllOf(vec![other])), Box::new(AtMost { most: 2, steps: wanted }))),
+        _ => random_diagram(random, &chart, 12),
+    };
+    let highest = chart.groups();
+    let names = random.pick(&[highest, highest + 2, 2 * highest, MAX_STEPS]);
+    let names = random.subset(names, highest);
+    let group = |at: usize| chart.steps[at].group.map(|group| names[usize::from(group)]);
+    Problem {
+        chart: chart.with_groups(group),
+        diagram: with_gaps(random, &renamed(&diagram, &names)),
+    }
+}
+
+/// A diagram in which the lo or the hi of some nodes has a test of a group between, where there is one; as
+/// often as not it has no steps. Without padding where there is none.
+fn with_gaps(random: &mut Random, diagram: &Diagram) -> Diagram {
+    let mut all = diagram.clone();
+    let Some(root) = diagram.inner(diagram.root).filter(|root| root.step > 0) else { return all };
+    if random.percent(50) {
+        return all;
+    }
+    let step = random.below(root.step.into()) as u16;
+    let constant = random.below(2) as u16;
+    let (lo, hi) = random.pick(&[(diagram.root, constant), (constant, diagram.root)]);
+    all.root = diagram.references() as u16;
+    all.nodes.push(Node { step, lo, hi });
+    all
+}
+
+/// A chart with one group at fault, one step of the other kind, or a diagram with a node that names a group
+/// near the highest.
+pub fn broken(random: &mut Random) -> Files {
+    let (stages, steps) = random.pick(&[(6, 6), (12, 20), (40, 120)]);
+    let chart = loop {
+        let chart = random_chart_without_groups(random, stages, steps);
+        if !chart.steps.is_empty() {
+            break grouped(random, &chart);
+        }
+    };
+    let mut diagram = random_diagram(random, &chart, 12);
+    let (highest, own) = (chart.groups() as u16, diagram.references() as u16);
+    let bytes = write_chart(&chart);
+    let places = step_places(&bytes);
+    let place = random.pick(&(0..places.len()).collect::<Vec<usize>>());
+    let at = places[place].clone();
+    let spoiled = |end: &[u8]| [&bytes[..at.start], end, &bytes[at.end..]].concat();
+    let bytes = match random.below(10) {
+        0..=4 => {
+            let before = place.checked_sub(1).map_or(0, |before| chart.group(before as u16));
+            let step = chart.steps[place].of_group(bad(random, before));
+            spoiled(&step_field(step))
+        }
+        5 | 6 => spoiled(&other_kind(random, &bytes[at.clone()])),
+        7 => {
+            let without = write_chart(&chart.with_groups(|_| None));
+            let at = random.pick(&step_places(&without).iter().collect::<Vec<_>>()).clone();
+            let other = other_kind(random, &without[at.clone()]);
+            [&without[..at.start], &other, &without[at.end..]].concat()
+        }
+        _ => {
+            let above = random.pick(&[0, 0, 0, 1, 2, 256]);
+            let step = highest.saturating_sub(random.below(2) as u16) + above;
+            diagram.nodes.push(Node { step, lo: own % 2, hi: 1 - own % 2 });
+            bytes
+        }
+    };
+    (bytes, write_diagram(&diagram))
 }

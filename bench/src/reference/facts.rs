@@ -65,8 +65,13 @@ impl Facts {
         let mut facts = Facts::blank(problem);
         facts.relax_steps();
         facts.relax_estimates();
-        facts.diagram_estimate = node_estimates(problem);
+        facts.diagram_estimate = node_estimates(problem, &problem.chart.group_costs());
         facts
+    }
+
+    /// The same with diagram estimates by other costs of groups.
+    pub fn with_group_costs(&self, costs: &[Option<u32>]) -> Facts {
+        Facts { diagram_estimate: node_estimates(&self.problem, costs), ..self.clone() }
     }
 
     fn blank(problem: &Problem) -> Facts {
@@ -234,13 +239,13 @@ fn cheapest_yes(problem: &Problem, reference: u16) -> Option<u32> {
     }
 }
 
-/// The diagram estimates in the order of the references: children come before their node.
-fn node_estimates(problem: &Problem) -> Vec<Option<u32>> {
-    let costs = problem.chart.group_costs();
+/// The diagram estimates by the cost of each group, in the order of the references: children come before
+/// their node.
+fn node_estimates(problem: &Problem, costs: &[Option<u32>]) -> Vec<Option<u32>> {
     let mut estimates = vec![None, Some(0)];
     for node in &problem.diagram.nodes {
         // A group without steps is never taken.
-        let cost = costs[usize::from(node.step)];
+        let cost = costs.get(usize::from(node.step)).copied().flatten();
         let taken = estimates[usize::from(node.hi)].zip(cost).map(|(rest, cost)| rest + cost);
         let found = smaller(estimates[usize::from(node.lo)], taken);
         estimates.push(found);
