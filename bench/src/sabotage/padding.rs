@@ -6,8 +6,8 @@ use super::rows::SOUND as PLAIN;
 use super::{new, Sabotage, Spoil};
 use crate::check::conjunction::walked;
 use crate::files::{
-    is_padding, read_both, read_chart, read_diagram_by, read_padded, read_three, Diagram, Node,
-    Operands, Problem, Refusal, DIAGRAM_FILE, HEADER, MORE_FILE, NODE,
+    is_padding, read_both, read_chart, read_diagram_by, read_padded, read_three, Chart, Diagram,
+    Node, Operands, Problem, Refusal, DIAGRAM_FILE, HEADER, MORE_FILE, NODE,
 };
 use crate::generate::mutate::fields;
 use crate::generate::nodes::{node_places, WHOLE};
@@ -38,17 +38,18 @@ enum Reader {
     Conjoin,
 }
 
-/// A diagram's file: its bytes, its mark, and the groups of the chart.
+/// A diagram's file: its bytes, its mark, the chart and how many groups that has.
 #[derive(Clone, Copy)]
-struct File<'a> {
-    bytes: &'a [u8],
-    mark: u32,
+pub(super) struct File<'a> {
+    pub bytes: &'a [u8],
+    pub mark: u32,
+    pub chart: &'a Chart,
     groups: usize,
 }
 
 impl File<'_> {
     /// As it should be read.
-    fn sound(self) -> Result<Diagram, Refusal> {
+    pub fn sound(self) -> Result<Diagram, Refusal> {
         read_diagram_by(self.bytes, self.mark, self.groups, is_padding)
     }
 
@@ -85,7 +86,10 @@ const fn test(name: &'static str, test: fn(&[Node], Node) -> bool) -> Sabotage {
     new(name, Spoil::Padding(Misreading { how: How::Test(test), only: None }))
 }
 
-const fn file(name: &'static str, read: fn(File) -> Result<Diagram, Refusal>) -> Sabotage {
+pub(super) const fn file(
+    name: &'static str,
+    read: fn(File) -> Result<Diagram, Refusal>,
+) -> Sabotage {
     new(name, Spoil::Padding(Misreading { how: How::File(read), only: None }))
 }
 
@@ -315,7 +319,8 @@ impl Misreading {
     fn read_both(&self, chart: &[u8], rules: &[u8]) -> Result<Problem, Refusal> {
         let chart = read_chart(chart)?;
         let groups = chart.groups();
-        let diagram = self.read(File { bytes: rules, mark: DIAGRAM_FILE, groups })?;
+        let diagram =
+            self.read(File { bytes: rules, mark: DIAGRAM_FILE, chart: &chart, groups })?;
         Ok(Problem { chart, diagram })
     }
 
@@ -369,7 +374,7 @@ impl Misreading {
         let [chart, rules, more] = files;
         let read = self.read_both(chart, rules).and_then(|Problem { chart, diagram: first }| {
             let groups = chart.groups();
-            let second = self.read(File { bytes: more, mark: MORE_FILE, groups })?;
+            let second = self.read(File { bytes: more, mark: MORE_FILE, chart: &chart, groups })?;
             Ok(Operands { chart, first, second })
         });
         let is_wrong = || read != read_three(chart, rules, more);

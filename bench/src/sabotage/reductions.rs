@@ -16,9 +16,9 @@ use crate::nodes::NodeAtFault;
 use crate::planner::Answer;
 
 /// A reduction with one choice that may be wrong. What counts as its work slice is the buffer.
-const SOUND: Conjoiner = Conjoiner { read: taken, need: |_| 0, ..CONJOINER };
+pub(super) const SOUND: Conjoiner = Conjoiner { read: taken, need: |_| 0, ..CONJOINER };
 
-const fn by(name: &'static str, reducer: Conjoiner) -> Sabotage {
+pub(super) const fn by(name: &'static str, reducer: Conjoiner) -> Sabotage {
     new(name, Spoil::Reducer(reducer))
 }
 
@@ -131,11 +131,11 @@ pub(super) static REDUCTIONS: [Sabotage; 52] = [
     }),
 ];
 
-fn operands(Problem { chart, diagram: first }: Problem) -> Operands {
+pub(super) fn operands(Problem { chart, diagram: first }: Problem) -> Operands {
     Operands { chart, first, second: Diagram::YES }
 }
 
-fn taken([chart, rules, _]: Three) -> Result<Operands, Refusal> {
+pub(super) fn taken([chart, rules, _]: Three) -> Result<Operands, Refusal> {
     read_padded(chart, rules).map(operands)
 }
 
