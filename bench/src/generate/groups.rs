@@ -17,6 +17,7 @@ use crate::cases::example_problem;
 use crate::files::{
     step_field, step_of, tagged, two_bytes, write_chart, write_diagram, Chart, Diagram, Node,
     Operands, Problem, Step, GROUPED_STEP, HEADER, MAX_COST, MAX_GROUP, MAX_NODES, MAX_STEPS, STEP,
+    TICK,
 };
 
 /// So many of a hundred random charts have groups.
@@ -480,7 +481,11 @@ fn cheapest_of_a_group() -> Vec<Problem> {
         [0, 1_000, 1],
         [MAX_COST, MAX_COST - 49, MAX_COST - 50],
     ];
+    all.extend(
+        [[900, 700, 400], [400, 700, 900], [700, 400, 900]].into_iter().flat_map(beside_a_group),
+    );
     for [first, second, third] in costs {
+        all.extend(beside_a_group([first, second, third]));
         // The three lead to three stages, and the group behind them is dear. What avoids the first group
         // costs about as much.
         let steps = [
@@ -511,6 +516,29 @@ fn cheapest_of_a_group() -> Vec<Problem> {
         }
     }
     all
+}
+
+/// A first step leads to a node that wants the second group, another one, which costs as much as one of its
+/// steps or a tick less or more, to "yes": whether the pair of that node is settled before the plan is found
+/// depends on what the group costs.
+fn beside_a_group(costs: [u32; 3]) -> Vec<Problem> {
+    let [first, second, third] = costs;
+    let about = |cost: u32| [cost.saturating_sub(TICK), cost, (cost + TICK).min(MAX_COST)];
+    let of_cost = |other: u32| {
+        let steps = [
+            (0, 1, 50, 0),
+            (0, 1, other, 1),
+            (1, 2, first, 2),
+            (1, 3, second, 2),
+            (1, 4, third, 2),
+            (1, 5, 50, 3),
+            (2, 5, 500, 4),
+            (3, 5, 500, 4),
+            (4, 5, 500, 4),
+        ];
+        Problem { chart: chart_of(6, &steps), diagram: diagram_of(&[(2, 0, 1), (1, 2, 1)]) }
+    };
+    costs.into_iter().flat_map(about).map(of_cost).collect()
 }
 
 /// The same chart with a stage in front that only the first step leaves, and no way from the start takes.
