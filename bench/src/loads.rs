@@ -142,8 +142,8 @@ pub fn groups() -> Vec<Load> {
     let every_fourth = (0..31).map(|at| 4 * at + 1).collect();
     let rest_5 = Modulo { divisor: 16, rest: 5, steps: every_fourth };
     let loads = [
-        Load::new("load 256 in 512 groups, 8 needs", &pairs, &needs),
-        Load::new("load 32 in 128 groups, modulo 16 of 31", &eights, &must_fit(&rest_5)),
+        Load::new("groups: 256 stages, 8 needs", &pairs, &needs),
+        Load::new("groups: 32 stages, modulo 16 of 31", &eights, &must_fit(&rest_5)),
     ];
     loads.map(|load| load.of(Group::Groups)).into()
 }

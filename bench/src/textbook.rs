@@ -235,14 +235,10 @@ fn stage_estimates(chart: &Chart) -> Vec<Option<u32>> {
 }
 
 fn node_estimates(chart: &Chart, diagram: &Diagram) -> Vec<Option<u32>> {
-    let mut costs: HashMap<u16, u32> = HashMap::new();
-    for (step, number) in chart.steps.iter().zip(0..) {
-        let least = costs.entry(step.group.unwrap_or(number)).or_insert(step.cost);
-        *least = step.cost.min(*least);
-    }
+    let costs = chart.group_costs();
     let mut estimates = vec![None, Some(0)];
     for node in &diagram.nodes {
-        let taken = costs.get(&node.step).and_then(|cost| {
+        let taken = costs[usize::from(node.step)].and_then(|cost| {
             let rest: u32 = estimates[usize::from(node.hi)]?;
             Some(rest + cost)
         });

@@ -69,19 +69,19 @@ impl Rows<'_> {
     fn relax(&mut self, tables: &Tables, stage: usize, node: usize, cost: u32) {
         let mut at = node;
         for step in tables.leaving(stage) {
-            let ends = tables.ends(step);
-            while tables.nodes[at].step() < ends.group() {
+            let group = tables.group(step);
+            while tables.nodes[at].step() < group {
                 at = tables.nodes[at].lo();
             }
             if at == 0 {
                 break;
             }
             let inner = tables.nodes[at];
-            let next = if inner.step() == ends.group() { inner.hi() } else { at };
+            let next = if inner.step() == group { inner.hi() } else { at };
             if next == 0 {
                 continue;
             }
-            let to = ends.to();
+            let to = tables.to(step);
             let row = tables.row(to);
             let known = self.cost[row + next];
             let found = cost + tables.cost[step];

@@ -20,10 +20,8 @@ const GROUPED_FIELD: usize = 13;
 const RULES_HEAD: usize = 5;
 const NODE_FIELD: usize = 9;
 
-/// The group of a step takes ten bits; the stage that it leaves stands above it and takes eight, the one
-/// that it leads to above that.
-const GROUP_BITS: u32 = 10;
-const STAGE_BITS: u32 = 8;
+/// The stage that a step leaves takes sixteen bits; the one that it leads to stands above it.
+const STAGE_BITS: u32 = 16;
 /// The tag of a step with a group.
 const GROUPED: u8 = 0x03;
 
@@ -69,29 +67,6 @@ impl Inner {
     }
 }
 
-/// Group, from and to of a step in one number.
-#[derive(Clone, Copy, Default)]
-pub struct Ends(u32);
-
-impl Ends {
-    fn new(from: u16, to: u16, group: u16) -> Ends {
-        let stages = u32::from(to) << STAGE_BITS | u32::from(from);
-        Ends(stages << GROUP_BITS | u32::from(group))
-    }
-
-    pub fn group(self) -> usize {
-        (self.0 & ((1 << GROUP_BITS) - 1)) as usize
-    }
-
-    pub fn from(self) -> usize {
-        (self.0 >> GROUP_BITS & ((1 << STAGE_BITS) - 1)) as usize
-    }
-
-    pub fn to(self) -> usize {
-        (self.0 >> (GROUP_BITS + STAGE_BITS)) as usize
-    }
-}
-
 /// The nodes of a file in chains of the same hash, the last one at the head.
 struct Chains {
     heads: [u16; NODES],
@@ -130,8 +105,10 @@ pub struct Tables {
     groups: usize,
     /// Whether the groups stand in the file; else each step is one alone.
     is_grouped: bool,
-    /// By step: its group, the stage that it leaves, and the one that it leads to.
-    ends: [Ends; STEPS],
+    /// By step: the stage that it leaves, and above it the one that it leads to.
+    ends: [u32; STEPS],
+    /// By step: its group. Where the file has none they are filled in for the searches alone.
+    group: [u16; STEPS],
     pub cost: [u32; STEPS],
     /// By stage: its first leaving step; one entry more than there are stages.
     first: [u16; STAGES + 1],
@@ -152,7 +129,8 @@ impl Tables {
             steps: 0,
             groups: 0,
             is_grouped: false,
-            ends: [Ends::default(); STEPS],
+            ends: [0; STEPS],
+            group: [0; STEPS],
             cost: [0; STEPS],
             first: [0; STAGES + 1],
             rows: [0; STAGES],
@@ -179,87 +157,92 @@ impl Tables {
     /// Reads all steps; the first one tells of which kind all must be.
     fn read_steps(&mut self, fields: &[u8]) -> Result<(), Fault> {
         let fields = without_remarks(fields)?;
-        let (mut steps, mut from, mut group) = (0, 0, 0);
         self.is_grouped = fields.first() == Some(&GROUPED);
-        if self.is_grouped {
-            each_field::<GROUPED_FIELD>(fields, |field| {
-                (from, group) = self.read_grouped(field, steps, from, group)?;
-                steps += 1;
-                Ok(())
-            })?;
-            self.groups = if steps == 0 { 0 } else { usize::from(group) + 1 };
-        } else {
-            each_field::<STEP_FIELD>(fields, |field| {
-                from = self.read_step(field, steps, from)?;
-                steps += 1;
-                Ok(())
-            })?;
-            self.groups = steps;
+        match self.is_grouped {
+            true => self.read_all_grouped(fields),
+            false => self.read_all_alone(fields),
         }
-        self.steps = steps;
+    }
+
+    /// Reads steps without groups.
+    fn read_all_alone(&mut self, fields: &[u8]) -> Result<(), Fault> {
+        let (mut steps, mut from) = (0, 0);
+        each_field::<STEP_FIELD>(fields, |field| {
+            (from, _) = self.read_step::<8>(field, 0x02, steps, (from, 0))?;
+            steps += 1;
+            Ok(())
+        })?;
+        (self.steps, self.groups) = (steps, steps);
         Ok(())
     }
 
-    /// Reads a step that leaves no stage before `least`, and gives the stage that it leaves.
-    fn read_step(&mut self, field: &[u8], at: usize, least: u16) -> Result<u16, u32> {
-        let values = body(field, 0x02)?;
-        self.read_values(values, at, least, at as u16)
+    /// Reads steps with groups.
+    fn read_all_grouped(&mut self, fields: &[u8]) -> Result<(), Fault> {
+        let (mut steps, mut least) = (0, (0, 0));
+        each_field::<GROUPED_FIELD>(fields, |field| {
+            least = self.read_step::<10>(field, GROUPED, steps, least)?;
+            steps += 1;
+            Ok(())
+        })?;
+        self.steps = steps;
+        self.groups = if steps == 0 { 0 } else { usize::from(least.1) + 1 };
+        Ok(())
     }
 
-    /// The same of a step that has a group, none before that of the step before; gives the group too.
-    fn read_grouped(
+    /// Reads a step whose from and group, where it has one, are not below those of the step before, and
+    /// gives both.
+    fn read_step<const LENGTH: usize>(
         &mut self,
         field: &[u8],
+        tag: u8,
         at: usize,
-        least: u16,
-        least_group: u16,
+        least: (u16, u16),
     ) -> Result<(u16, u16), u32> {
-        let [values @ .., g0, g1]: &[u8; 10] = body(field, GROUPED)?;
-        let group = u16::from_le_bytes([*g0, *g1]);
-        let from = self.read_values(values, at, least, group)?;
-        if usize::from(group) >= STEPS || group < least_group {
-            return Err(14);
-        }
-        Ok((from, group))
-    }
-
-    /// Takes in the values of a step; the group is not judged.
-    fn read_values(
-        &mut self,
-        values: &[u8; 8],
-        at: usize,
-        least: u16,
-        group: u16,
-    ) -> Result<u16, u32> {
-        let [f0, f1, t0, t1, c0, c1, c2, c3] = *values;
-        let (from, to) = (u16::from_le_bytes([f0, f1]), u16::from_le_bytes([t0, t1]));
-        let cost = u32::from_le_bytes([c0, c1, c2, c3]);
+        let body: &[u8; LENGTH] = body(field, tag)?;
+        let [f0, f1, t0, t1, c0, c1, c2, c3, rest @ ..] = &body[..] else { return Err(3) };
+        let (from, to) = (u16::from_le_bytes([*f0, *f1]), u16::from_le_bytes([*t0, *t1]));
+        let cost = u32::from_le_bytes([*c0, *c1, *c2, *c3]);
         if at >= STEPS {
             return Err(5);
         }
         if from >= to || usize::from(to) >= self.stages {
             return Err(10);
         }
-        if from < least {
+        if from < least.0 {
             return Err(5);
         }
         if cost > MAX_COST {
             return Err(11);
         }
-        self.ends[at] = Ends::new(from, to, group);
+        let mut group = 0;
+        if let [g0, g1] = rest {
+            group = u16::from_le_bytes([*g0, *g1]);
+            if usize::from(group) >= STEPS || group < least.1 {
+                return Err(14);
+            }
+            self.group[at] = group;
+        }
+        self.ends[at] = u32::from(to) << STAGE_BITS | u32::from(from);
         self.cost[at] = cost.next_multiple_of(TICK);
-        Ok(from)
+        Ok((from, group))
     }
 
     /// First steps by stage, for the searches: steps stand in the order of their first stages.
     pub fn fill_first(&mut self) {
         for (at, ends) in self.ends[..self.steps].iter().enumerate() {
-            self.first[ends.from() + 1] = at as u16 + 1;
+            self.first[from_of(*ends) + 1] = at as u16 + 1;
         }
         let mut most = 0;
         for first in &mut self.first[1..=self.stages] {
             most = most.max(*first);
             *first = most;
+        }
+    }
+
+    /// Each step is a group alone where the file has no groups.
+    pub fn fill_groups(&mut self) {
+        if !self.is_grouped {
+            self.group[..self.steps].iter_mut().zip(0..).for_each(|(group, at)| *group = at);
         }
     }
 
@@ -337,14 +320,19 @@ impl Tables {
         usize::from(self.first[stage])..usize::from(self.first[stage + 1])
     }
 
-    /// The group of a step and the stage that it leads to.
-    pub fn ends(&self, step: usize) -> Ends {
-        self.ends[step]
+    /// The stage that a step leads to.
+    pub fn to(&self, step: usize) -> usize {
+        to_of(self.ends[step])
+    }
+
+    /// The group of a step.
+    pub fn group(&self, step: usize) -> usize {
+        self.group[step].into()
     }
 
     /// The pair from which a via leads on.
     pub fn pair_before(&self, via: u32) -> usize {
-        self.row(self.ends[via_step(via)].from()) + via_node(via)
+        self.row(from_of(self.ends[via_step(via)])) + via_node(via)
     }
 
     /// Whether a node finishes at 1.
@@ -369,7 +357,7 @@ impl Tables {
         for stage in (self.start..self.end).rev() {
             let leaving = self.leaving(stage);
             let steps = self.ends[leaving.clone()].iter().zip(&self.cost[leaving]);
-            let costs = steps.map(|(ends, cost)| estimates[ends.to()].saturating_add(*cost));
+            let costs = steps.map(|(ends, cost)| estimates[to_of(*ends)].saturating_add(*cost));
             estimates[stage] = costs.min().unwrap_or(NONE);
         }
     }
@@ -394,12 +382,20 @@ impl Tables {
     /// By group: the least cost of its steps; none where it has no step.
     fn group_costs(&self) -> [u32; STEPS] {
         let mut costs = [NONE; STEPS];
-        for (ends, cost) in self.ends[..self.steps].iter().zip(&self.cost) {
-            let least = &mut costs[ends.group()];
+        for (group, cost) in self.group[..self.steps].iter().zip(&self.cost) {
+            let least = &mut costs[usize::from(*group)];
             *least = (*least).min(*cost);
         }
         costs
     }
+}
+
+fn from_of(ends: u32) -> usize {
+    (ends & ((1 << STAGE_BITS) - 1)) as usize
+}
+
+fn to_of(ends: u32) -> usize {
+    (ends >> STAGE_BITS) as usize
 }
 
 fn number(low: u8, high: u8) -> usize {
