@@ -103,7 +103,7 @@ pub fn spoil(random: &mut Random, chart: &mut Vec<u8>, surplus: usize) -> bool {
     if !is_surplus || random.percent(85) {
         spoil_values(random, chart, &places, at);
     }
-    if random.percent(12) {
+    if random.percent(if is_surplus { 30 } else { 12 }) {
         spoil_field(random, chart, places[at].clone());
     }
     true
