@@ -1,5 +1,5 @@
-//! The cases of the differential test: first the corners of the limits, among them those of rows and of
-//! ticks, then every systematic damage, then padding, then conjunctions in corners and of broken files,
+//! The cases of the differential test: first the corners of the limits, among them those of rows, of ticks
+//! and of groups, then every systematic damage, then padding, then conjunctions in corners and of broken files,
 //! then random ones. A case is fixed by the seed and its number.
 
 use std::ops::Range;
@@ -18,7 +18,7 @@ use crate::generate::long::{self, near_longest};
 use crate::generate::mutate::mutated;
 use crate::generate::remarks::{self, with_remarks};
 use crate::generate::three_files::{self, ThreeFiles};
-use crate::generate::{nodes, operands, padded, rows, steps, ticks, Random};
+use crate::generate::{groups, nodes, operands, padded, rows, steps, ticks, Random};
 
 /// Two or three files, and the seed from which the lent slices and their content are drawn. Every diagram
 /// of a case is reduced as well.
@@ -65,6 +65,8 @@ pub struct Cases {
     /// Each makes two cases: slices of just the length needed, and longer ones.
     rows: Vec<Files>,
     ticks: Vec<Files>,
+    /// Problems in which groups decide.
+    groups: Vec<Files>,
     systematic: Vec<Files>,
     /// Nodes that are padding, or nearly, and padded diagrams.
     padding: Vec<Files>,
@@ -79,9 +81,11 @@ impl Cases {
         let mut files = at_limits();
         files.extend(remarks::at_limits());
         files.extend(steps::systematic());
+        files.extend(groups::systematic());
         files.extend(long::systematic(&example_problem()));
-        let small = [(); 3].map(|()| small_problem(&mut random));
-        for problem in [example_problem()].iter().chain(&small) {
+        let small = [(); 2].map(|()| small_problem(&mut random));
+        let grouped = [grouped_problem(), small_grouped(&mut random)];
+        for problem in [example_problem()].iter().chain(&small).chain(&grouped) {
             files.extend(systematic(problem));
             files.extend(remarks::systematic(problem));
         }
@@ -89,25 +93,34 @@ impl Cases {
         padding.extend(padded::systematic(&mut random).iter().map(written));
         let mut corners_of_conjunctions = operands::systematic(&mut random);
         corners_of_conjunctions.extend(operands::with_padding(&mut random));
+        corners_of_conjunctions.extend(groups::operands(&mut random));
+        let mut broken_conjunctions = three_files::broken(&example_problem());
+        broken_conjunctions.extend(three_files::broken(&grouped_problem()).into_iter().step_by(3));
         let corner = |shape: &corners::Shape| written(&shape(&mut random, Size::FULL));
         Cases {
             seed,
             corners: corners::SHAPES.iter().map(corner).collect(),
             rows: rows::systematic().iter().map(written).collect(),
             ticks: ticks::systematic().iter().map(written).collect(),
+            groups: groups::corners(&mut random).iter().map(written).collect(),
             systematic: files,
             padding,
             conjunctions: corners_of_conjunctions.iter().map(three_files::written).collect(),
-            broken_conjunctions: three_files::broken(&example_problem()),
+            broken_conjunctions,
         }
     }
 
     /// How many cases are in the corners; they come first.
     pub fn corners(&self) -> usize {
+        self.first_of_groups() + self.groups.len()
+    }
+
+    /// The first of those in which groups decide; they end the corners.
+    pub fn first_of_groups(&self) -> usize {
         self.first_of_ticks() + self.ticks.len()
     }
 
-    /// The first of those in which rounding decides; they end the corners.
+    /// The first of those in which rounding decides.
     pub fn first_of_ticks(&self) -> usize {
         self.corners.len() + 2 * self.rows.len()
     }
@@ -149,6 +162,10 @@ impl Cases {
         if let Some(files) = self.ticks.get(in_ticks).cloned() {
             return Case::new("ticks", files, random.word() | 1);
         }
+        let in_groups = number - self.first_of_groups();
+        if let Some(files) = self.groups.get(in_groups).cloned() {
+            return Case::new("groups", files, random.word() | 1);
+        }
         if let Some(files) = self.systematic.get(number - self.corners()).cloned() {
             return Case::new("systematic damage", files, random.word());
         }
@@ -186,13 +203,29 @@ fn written(Problem { chart, diagram }: &Problem) -> Files {
     (write_chart(chart), write_diagram(diagram))
 }
 
+/// A problem without groups as it is drawn, or with each step as a group alone.
+fn written_alone(random: &mut Random, draw: fn(&mut Random) -> Problem) -> Files {
+    let problem = draw(random);
+    written(&groups::maybe_alone(random, problem))
+}
+
 /// The shipped example: its chart and its diagram.
 pub fn example_problem() -> Problem {
     let steps = [(0, 1, 40), (0, 1, 90), (1, 2, 200), (1, 3, 30), (2, 3, 20), (3, 4, 50)];
-    let steps = steps.iter().map(|(from, to, cost)| Step { from: *from, to: *to, cost: *cost });
+    let steps = steps.iter().map(|(from, to, cost)| Step::new(*from, *to, *cost));
     let chart = Chart { stages: 5, start: 0, end: 4, steps: steps.collect() };
     let nodes = vec![Node { step: 2, lo: 0, hi: 1 }, Node { step: 0, lo: 1, hi: 2 }];
     Problem { chart, diagram: Diagram { root: 3, nodes } }
+}
+
+/// The same chart and rule with groups, one of them without steps: raising A13 needs settling, however it
+/// is done.
+pub fn grouped_problem() -> Problem {
+    let Problem { chart, diagram } = example_problem();
+    let chart = chart.with_groups(|at| Some([0, 0, 2, 3, 3, 5][at]));
+    let mut nodes = diagram.nodes;
+    nodes.push(Node { step: 1, lo: 1, hi: 2 });
+    Problem { chart, diagram: Diagram { nodes, ..diagram } }
 }
 
 /// A small problem with at least two steps and two nodes.
@@ -206,8 +239,21 @@ fn small_problem(random: &mut Random) -> Problem {
     };
     loop {
         let chart = shape.chart(random);
-        let diagram = scattered(random, chart.steps.len(), 4, Padding::Without);
+        let diagram = scattered(random, chart.groups(), 4, Padding::Without);
         if diagram.nodes.len() >= 2 {
+            return Problem { chart, diagram };
+        }
+    }
+}
+
+/// The same with groups, some of them without steps.
+fn small_grouped(random: &mut Random) -> Problem {
+    loop {
+        let Problem { chart, .. } = small_problem(random);
+        let chart = groups::grouped(random, &chart);
+        let has_gaps = chart.group_costs().contains(&None);
+        let diagram = random_diagram(random, &chart, 4);
+        if has_gaps && chart.groups() < 12 && diagram.nodes.len() >= 2 {
             return Problem { chart, diagram };
         }
     }
@@ -234,7 +280,7 @@ fn random_files(random: &mut Random) -> (&'static str, Files) {
 fn plain_files(random: &mut Random) -> (&'static str, Files) {
     match random.below(1_000) {
         0..=9 => ("full size", full_size(random)),
-        10..=12 => ("corner", written(&corners::any(random))),
+        10..=12 => ("corner", written_alone(random, corners::any)),
         13..=29 => ("large", sized(random, 120, 500, 300)),
         30..=149 => ("medium", sized(random, 40, 120, 100)),
         150..=279 => ("damaged", damaged_files(random)),
@@ -243,9 +289,11 @@ fn plain_files(random: &mut Random) -> (&'static str, Files) {
         330..=399 => ("many ways", many_ways(random)),
         400..=449 => ("parallel", sized(random, 3, 30, 30)),
         450..=499 => ("bad steps", bad_steps(random)),
-        500..=549 => ("ticks", written(&ticks::any(random))),
+        500..=549 => ("ticks", written_alone(random, ticks::any)),
         550..=599 => ("padded", written(&padded::any(random))),
         600..=614 => ("damaged padded", damaged_padded(random)),
+        615..=644 => ("groups", written(&groups::any(random))),
+        645..=674 => ("broken groups", groups::broken(random)),
         _ => ("small", sized(random, 8, 14, 12)),
     }
 }
@@ -302,6 +350,7 @@ fn many_ways(random: &mut Random) -> Files {
         step.from = (at * (stages - 1) / steps) as u16;
         step.to = step.from + 1;
     }
+    let chart = groups::maybe(random, chart);
     let diagram = random_diagram(random, &chart, 40);
     (write_chart(&chart), write_diagram(&diagram))
 }
@@ -311,6 +360,7 @@ fn bad_steps(random: &mut Random) -> Files {
     let (stages, steps) = random.pick(&[(6, 6), (12, 20), (12, 20), (40, 120)]);
     let (stages, steps) = (random.between(2, stages), random.between(1, steps));
     let chart = Shape { stages, steps, ..Shape::random(random, stages, steps) }.chart(random);
+    let chart = groups::maybe(random, chart);
     let rules = write_diagram(&random_diagram(random, &chart, 12));
     let mut bytes = write_chart(&chart);
     steps::spoil(random, &mut bytes, 15);
@@ -346,7 +396,8 @@ fn large_damaged(random: &mut Random) -> Files {
     let shape =
         Shape { stages, steps, costs: Costs::Wide, spans: Spans::Any, ends: Ends::Outermost };
     let chart = shape.chart(random);
-    let row = random.subset(steps, nodes);
+    let chart = groups::maybe(random, chart);
+    let row = random.subset(chart.groups(), nodes);
     let rules = write_diagram(&layers_of_width(random, &row, 1, Padding::Without));
     let chart = write_chart(&chart);
     match random.below(10) {
@@ -368,14 +419,15 @@ fn full_size(random: &mut Random) -> Files {
             Shape { stages, steps: MAX_STEPS, costs, spans, ends: Ends::Outermost }.chart(random)
         }
     };
+    let chart = groups::maybe(random, chart);
     let diagram = match random.below(4) {
         0 => {
             let width = random.pick(&[1, 2, 10, 51, 102]);
-            let steps = random.subset(chart.steps.len(), layers_among(MAX_NODES, width));
+            let steps = random.subset(chart.groups(), layers_among(MAX_NODES, width));
             let layers = layers_of_width(random, &steps, width, Padding::Without);
-            padded::filled_up(random, &layers, chart.steps.len(), MAX_NODES)
+            padded::filled_up(random, &layers, chart.groups(), MAX_NODES)
         }
-        1 => scattered(random, chart.steps.len(), MAX_NODES, Padding::Without),
+        1 => scattered(random, chart.groups(), MAX_NODES, Padding::Without),
         _ => random_diagram(random, &chart, MAX_NODES),
     };
     (write_chart(&chart), write_diagram(&diagram))

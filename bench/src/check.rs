@@ -183,6 +183,7 @@ fn number_rule(number: u32) -> &'static str {
         11 => "3.1, 11: a step's cost in the file is above 1,000,000",
         12 => "3.1, 12: the reduced diagram has more than 510 inner nodes",
         13 => "3.1, 13: a node has lo equal to hi, or is alike to an earlier one",
+        14 => "3.1, 14: a step's group is above 1,023 or below that of the step before",
         _ => "3.1: no such number",
     }
 }
@@ -227,7 +228,7 @@ fn check_plan(facts: &Facts, before: &[u16], after: &[u16], answer: Answer) -> C
     demand(is_plan(chart, plan), "A plan is a way from start to end.", || format!("{plan:?}"))?;
     demand(
         verdict(&facts.problem.diagram, &set_of(chart, plan)),
-        "It is legal if the diagram says yes to the set of its steps, all other steps being absent.",
+        "4.3: a plan is legal if the diagram says yes to the set of its steps' groups",
         || format!("{plan:?} is not legal"),
     )?;
     let cost = cost_of(chart, plan);

@@ -253,7 +253,7 @@ fn contradiction(call: &'static str, text: String) -> Difference {
     Difference { planner: "reference", call, text }
 }
 
-/// Of few steps both methods of a conjunction, or of a reduction, must agree; says whether they were
+/// Of few groups both methods of a conjunction, or of a reduction, must agree; says whether they were
 /// compared.
 fn compare_by_truth(call: &'static str, made: &Conjoined) -> Result<bool, Difference> {
     let Ok(found) = made else { return Ok(false) };
@@ -272,8 +272,8 @@ fn compare_reductions(reduced: &[Conjoined]) -> Result<(), Difference> {
         compare_by_truth("reduction", one)?;
     }
     let [Ok(first), Ok(second)] = reduced else { return Ok(()) };
-    let steps = first.operands.chart.steps.len();
-    let same = say_the_same(steps, &first.operands.first, &second.operands.first);
+    let groups = first.operands.chart.groups();
+    let same = say_the_same(groups, &first.operands.first, &second.operands.first);
     let is_same = first.reduced == second.reduced;
     if same.is_some_and(|same| same != is_same) {
         let text = format!("{:?} and {:?}, same sets: {same:?}", first.reduced, second.reduced);

@@ -1,10 +1,12 @@
 //! How far a case goes: its figures, and those that a whole run must reach.
 
 mod conjunctions;
+pub(crate) mod groups;
 mod lists;
 mod padding;
 
 pub use conjunctions::Conjoining;
+pub use groups::Grouping;
 pub use lists::Listing;
 pub use padding::{Likeness, Reducing};
 
@@ -19,7 +21,7 @@ use crate::generate::remarks::count_before;
 use crate::generate::steps::file_costs;
 use crate::nodes::NodeAtFault;
 use crate::reference::{Facts, Judged};
-use crate::steps::{StepAtFault, DEAR, ENDS, FALLS, SURPLUS};
+use crate::steps::{StepAtFault, DEAR, ENDS, FALLS, GROUP, SURPLUS};
 
 /// What a chart and a diagram have, and how far the searches go on them; 0 or false where it makes no
 /// sense.
@@ -78,6 +80,7 @@ pub struct Figures {
     /// Of each diagram.
     pub reductions: [Reducing; 2],
     pub lists: Listing,
+    pub groups: Grouping,
 }
 
 /// What rounding changes, where searches run.
@@ -157,7 +160,12 @@ impl Figures {
         {
             *reduction = Reducing::of(file, reduced, buffers);
         }
-        Figures { node: node_at_fault(case, outcome.judgement.fault()), reductions, ..figures }
+        Figures {
+            node: node_at_fault(case, outcome.judgement.fault()),
+            reductions,
+            groups: Grouping::of(case, &outcome.judgement),
+            ..figures
+        }
     }
 
     /// `enough`: both searches are lent what they need, and so run.
@@ -274,7 +282,7 @@ pub fn remarks_passed(case: &Case, fault: Option<&Refusal>) -> usize {
 fn node_at_fault(case: &Case, fault: Option<&Refusal>) -> Option<NodeAtFault> {
     let fault = fault?;
     let file = case.diagrams().nth((fault.file as usize).checked_sub(2)?)?;
-    NodeAtFault::of(file, read_chart(&case.chart).ok()?.steps.len(), fault)
+    NodeAtFault::of(file, read_chart(&case.chart).ok()?.groups(), fault)
 }
 
 fn cheapest_goal(facts: &Facts) -> Option<usize> {
@@ -346,7 +354,7 @@ impl Corner {
 }
 
 /// Most of the largest ones are what the limits allow.
-pub const CORNERS: [Corner; 204] = [
+pub const CORNERS: [Corner; 248] = [
     Corner::largest("plan cost", 255_000_000, |f| f.plan_cost),
     Corner::largest("plan length", 255, |f| f.plan_length),
     Corner::largest("sum of a reached pair", 765_000_000, |f| f.sum),
@@ -370,7 +378,7 @@ pub const CORNERS: [Corner; 204] = [
     Corner::count("refused diagrams above 1,000 bytes", 500, |f| {
         (f.refused_rules.0 > 1_000).into()
     }),
-    Corner::count("sound files", 100_000, |f| f.sound.into()),
+    Corner::count("sound files", 95_000, |f| f.sound.into()),
     Corner::count("with 256 stages and 510 nodes", 50, |f| f.full.into()),
     Corner::count("with ten and more steps, all at 1,000,000", 500, |f| f.all_dear.into()),
     Corner::count("with ties", 5_000, |f| f.tie.into()),
@@ -689,6 +697,114 @@ pub const CORNERS: [Corner; 204] = [
     Corner::count("lists inside the chart under a refused head", 550, |f| f.lists.head),
     Corner::count("lists under 13", 4_500, |f| f.lists.padded),
     Corner::count("lists under 9", 500, |f| f.lists.too_long),
+    Corner::count("charts with groups", 27_000, |f| f.groups.searches.sound.into()),
+    Corner::count("with groups and a plan", 15_000, |f| f.groups.searches.has_plan.into()),
+    Corner::count("with groups and 1,024 steps", 400, |f| f.groups.searches.full.into()),
+    Corner::count("with groups and remarks", 3_000, |f| {
+        (f.groups.searches.sound && f.remarks > 0).into()
+    }),
+    Corner::count("with the group 1,023", 3_000, |f| f.groups.searches.highest.into()),
+    Corner::count("with all steps in one group", 3_000, |f| f.groups.searches.one.into()),
+    Corner::count("with each step a group of its number", 2_500, |f| f.groups.searches.own.into()),
+    Corner::count("with several steps in a group", 20_000, |f| f.groups.searches.shared.into()),
+    Corner::count("with groups without steps", 15_000, |f| f.groups.searches.gaps.into()),
+    Corner::count("with the last group far above the others", 1_700, |f| {
+        f.groups.searches.last_far.into()
+    }),
+    Corner::count("with a node that names a group without steps", 6_500, |f| {
+        f.groups.searches.names_gap.into()
+    }),
+    Corner::count("with a node that names the highest group", 10_000, |f| {
+        f.groups.searches.names_highest.into()
+    }),
+    Corner::count("with a reached pair at a group without steps", 5_000, |f| {
+        f.groups.searches.stands_at_gap.into()
+    }),
+    Corner::count("with such a node whose hi alone has an estimate", 2_500, |f| {
+        f.groups.searches.gap_without_estimate.into()
+    }),
+    Corner::count("with two steps of a group one after the other", 5_500, |f| {
+        f.groups.searches.again.into()
+    }),
+    Corner::count("so that an inner node stays", 2_700, |f| f.groups.searches.stays.into()),
+    Corner::count("with another cost if nodes named steps", 6_000, |f| {
+        f.groups.searches.changes.by_steps.into()
+    }),
+    Corner::count("with more or fewer to settle by the first step of groups", 600, |f| {
+        f.groups.searches.changes.first.into()
+    }),
+    Corner::count("by the last step", 600, |f| f.groups.searches.changes.last.into()),
+    Corner::count("by the dearest step", 1_000, |f| f.groups.searches.changes.largest.into()),
+    Corner::count("by no cost for groups without steps", 700, |f| {
+        f.groups.searches.changes.free_gap.into()
+    }),
+    Corner::count("lists accepted over groups", 27_000, |f| {
+        if f.groups.searches.sound {
+            f.lists.accepted
+        } else {
+            0
+        }
+    }),
+    Corner::count("reductions over groups", 35_000, |f| {
+        if f.groups.groups > 0 {
+            f.reduced(|r| r.sound)
+        } else {
+            0
+        }
+    }),
+    Corner::count("of padded files over groups", 2_000, |f| {
+        if f.groups.groups > 0 {
+            f.reduced(Reducing::is_padded)
+        } else {
+            0
+        }
+    }),
+    Corner::count("sound conjunctions over groups", 2_200, |f| f.groups.conjunction.sound.into()),
+    Corner::count("conjunctions that name a group without steps", 550, |f| {
+        f.groups.conjunction.keeps_gap.into()
+    }),
+    Corner::count("14 alone", 2_000, |f| f.step_has(GROUP).into()),
+    Corner::count("14 behind the 1,025th step", 15, |f| f.step_has(SURPLUS | GROUP).into()),
+    Corner::count("14 behind 10", 400, |f| f.step_has(ENDS | GROUP).into()),
+    Corner::count("14 behind a falling from", 200, |f| f.step_has(FALLS | GROUP).into()),
+    Corner::count("14 behind 11", 300, |f| f.step_has(DEAR | GROUP).into()),
+    Corner::count("14 behind all others", 15, |f| {
+        f.step_has(SURPLUS | ENDS | FALLS | DEAR | GROUP).into()
+    }),
+    Corner::count("14 for 1,024", 600, |f| f.step_is(14, |s| s.step.group == Some(1_024)).into()),
+    Corner::count("14 for 65,535", 100, |f| {
+        f.step_is(14, |s| s.step.group == Some(u16::MAX)).into()
+    }),
+    Corner::count("14 for one below the group before", 350, |f| {
+        f.step_is(14, |s| s.step.group.map(|group| group.wrapping_add(1)) == s.group_before).into()
+    }),
+    Corner::count("14 for the first step", 400, |f| {
+        f.step_is(14, |s| s.group_before.is_none()).into()
+    }),
+    Corner::count("steps with a group, cut", 500, |f| {
+        f.step.is_some_and(|s| s.number == 1 && s.step.group.is_some()).into()
+    }),
+    Corner::count("steps with a group and the length 8", 80, |f| {
+        f.step.is_some_and(|s| s.number == 3 && s.step.group.is_some() && s.claimed == 8).into()
+    }),
+    Corner::count("steps without one and the length 10", 120, |f| {
+        f.step.is_some_and(|s| s.number == 3 && s.step.group.is_none() && s.claimed == 10).into()
+    }),
+    Corner::count("steps with a group behind others", 200, |f| {
+        f.groups.is_other(|s| s.is_grouped && s.right_length && !s.cut).into()
+    }),
+    Corner::count("steps without one behind such with", 300, |f| {
+        f.groups.is_other(|s| !s.is_grouped && s.right_length && !s.cut).into()
+    }),
+    Corner::count("the other kind with a wrong length", 500, |f| {
+        f.groups.is_other(|s| !s.right_length).into()
+    }),
+    Corner::count("the other kind, cut", 200, |f| {
+        f.groups.is_other(|s| s.right_length && s.cut).into()
+    }),
+    Corner::count("6 for a group above the highest by one", 200, |f| {
+        f.node_is(6, |n| f.groups.groups > 0 && usize::from(n.node.step) == f.groups.groups).into()
+    }),
 ];
 
 /// Over all reductions of a case.

@@ -6,6 +6,8 @@ pub const MAX_STEPS: usize = 1_024;
 pub const MAX_COST: u32 = 1_000_000;
 /// The sequencer's tick: the reader rounds each cost up to whole ones.
 pub const TICK: u32 = 50;
+/// The greatest group that a step may be of.
+pub const MAX_GROUP: u16 = 1_023;
 pub const MAX_NODES: usize = 510;
 
 /// The most bytes that a file may have.
@@ -20,7 +22,7 @@ pub const MORE_FILE: u32 = 3;
 pub const HEADER: usize = 3;
 
 /// The tag and the body length of one kind of field.
-#[derive(Clone, Copy, Debug)]
+#[derive(Clone, Copy, Debug, PartialEq, Eq)]
 pub struct Layout {
     pub tag: u8,
     pub length: usize,
@@ -28,6 +30,9 @@ pub struct Layout {
 
 pub const CHART_HEAD: Layout = Layout { tag: 0x01, length: 6 };
 pub const STEP: Layout = Layout { tag: 0x02, length: 8 };
+/// A step with its group. All steps of a chart are of this kind or all of the other.
+pub const GROUPED_STEP: Layout = Layout { tag: 0x03, length: 10 };
+pub const STEP_KINDS: [Layout; 2] = [STEP, GROUPED_STEP];
 pub const DIAGRAM_HEAD: Layout = Layout { tag: 0x11, length: 2 };
 pub const NODE: Layout = Layout { tag: 0x12, length: 6 };
 
@@ -42,9 +47,26 @@ pub struct Step {
     pub to: u16,
     /// As the file has it where the step is to be written; rounded where it was read.
     pub cost: u32,
+    /// None in a chart without groups: the step is then a group alone, of its own number.
+    pub group: Option<u16>,
 }
 
 impl Step {
+    /// A step of a chart without groups.
+    pub const fn new(from: u16, to: u16, cost: u32) -> Step {
+        Step { from, to, cost, group: None }
+    }
+
+    /// The same as one of a group.
+    pub const fn of_group(self, group: u16) -> Step {
+        Step { group: Some(group), ..self }
+    }
+
+    /// The kind of its field.
+    pub fn layout(&self) -> Layout {
+        STEP_KINDS[usize::from(self.group.is_some())]
+    }
+
     /// With its cost in whole ticks; that of the file is within its limit.
     fn rounded(self) -> Step {
         Step { cost: self.cost.div_ceil(TICK) * TICK, ..self }
@@ -72,11 +94,50 @@ impl Chart {
         let steps = steps.map(|(at, step)| Step { cost: cost(at, *step), ..*step }).collect();
         Chart { steps, ..*self }
     }
+
+    /// The same with the group of each step, by its number; none is a chart without groups.
+    pub fn with_groups(&self, group: impl Fn(usize) -> Option<u16>) -> Chart {
+        let steps = self.steps.iter().enumerate();
+        let steps = steps.map(|(at, step)| Step { group: group(at), ..*step }).collect();
+        Chart { steps, ..*self }
+    }
+
+    /// Whether its steps have groups. A chart without steps is of neither kind.
+    pub fn is_grouped(&self) -> bool {
+        self.steps.first().is_some_and(|step| step.group.is_some())
+    }
+
+    /// The group of the step with a number.
+    pub fn group(&self, step: u16) -> u16 {
+        self.steps[usize::from(step)].group.unwrap_or(step)
+    }
+
+    /// The groups of some steps, one for each.
+    pub fn groups_of(&self, steps: &[u16]) -> Vec<u16> {
+        steps.iter().map(|step| self.group(*step)).collect()
+    }
+
+    /// How many groups nodes may name: all up to the highest, with steps or without.
+    pub fn groups(&self) -> usize {
+        let all = (0..self.steps.len()).map(|step| usize::from(self.group(step as u16)) + 1);
+        all.max().unwrap_or(0)
+    }
+
+    /// By group: the least cost of its steps; none where it has no step.
+    pub fn group_costs(&self) -> Vec<Option<u32>> {
+        let mut costs: Vec<Option<u32>> = vec![None; self.groups()];
+        for (number, step) in self.steps.iter().enumerate() {
+            let least = &mut costs[usize::from(self.group(number as u16))];
+            *least = Some(least.map_or(step.cost, |known| known.min(step.cost)));
+        }
+        costs
+    }
 }
 
 /// An inner node of the diagram.
 #[derive(Clone, Copy, Debug, PartialEq, Eq, Hash)]
 pub struct Node {
+    /// The group that it names: in a chart without groups that is a step's number.
     pub step: u16,
     pub lo: u16,
     pub hi: u16,
@@ -183,7 +244,7 @@ pub fn read_both_by(
     is_13: impl FnMut(&[Node], Node) -> bool,
 ) -> Result<Problem, Refusal> {
     let chart = read_chart(chart)?;
-    let diagram = read_diagram_by(rules, DIAGRAM_FILE, chart.steps.len(), is_13)?;
+    let diagram = read_diagram_by(rules, DIAGRAM_FILE, chart.groups(), is_13)?;
     Ok(Problem { chart, diagram })
 }
 
@@ -200,7 +261,7 @@ pub fn read_three_by<Is13: FnMut(&[Node], Node) -> bool>(
     is_13: impl Fn() -> Is13,
 ) -> Result<Operands, Refusal> {
     let Problem { chart, diagram: first } = read_both_by(chart, rules, is_13())?;
-    let second = read_diagram_by(more, MORE_FILE, chart.steps.len(), is_13())?;
+    let second = read_diagram_by(more, MORE_FILE, chart.groups(), is_13())?;
     Ok(Operands { chart, first, second })
 }
 
@@ -217,7 +278,7 @@ pub fn read_chart(bytes: &[u8]) -> Result<Chart, Refusal> {
     if !head_within_limits(&chart) {
         return Err(Refusal::at(4, CHART_FILE, 0));
     }
-    while let Some((place, body)) = reader.next(STEP)? {
+    while let Some((place, body)) = reader.next(step_kinds(&chart))? {
         let step = step_of(body);
         if let Some(number) = step_fault(&chart, step) {
             return Err(Refusal::at(number, CHART_FILE, place));
@@ -227,24 +288,24 @@ pub fn read_chart(bytes: &[u8]) -> Result<Chart, Refusal> {
     Ok(chart)
 }
 
-/// Reads file 2 over a chart with that many steps.
-pub fn read_diagram(bytes: &[u8], steps: usize) -> Result<Diagram, Refusal> {
-    read_diagram_by(bytes, DIAGRAM_FILE, steps, is_padding)
+/// Reads file 2 over a chart whose groups are below a number.
+pub fn read_diagram(bytes: &[u8], groups: usize) -> Result<Diagram, Refusal> {
+    read_diagram_by(bytes, DIAGRAM_FILE, groups, is_padding)
 }
 
 /// The same of a diagram that is the file with a mark, by a test for 13.
 pub fn read_diagram_by(
     bytes: &[u8],
     file: u32,
-    steps: usize,
+    groups: usize,
     mut is_13: impl FnMut(&[Node], Node) -> bool,
 ) -> Result<Diagram, Refusal> {
     let mut reader = Reader::open(bytes, file)?;
     let head = reader.head(DIAGRAM_HEAD)?;
     let mut diagram = Diagram { root: two_bytes(head, 0), nodes: Vec::new() };
-    while let Some((place, body)) = reader.next(NODE)? {
+    while let Some((place, body)) = reader.next(&[NODE])? {
         let node = node_of(body);
-        if !node_within_limits(&diagram, node, steps) {
+        if !node_within_limits(&diagram, node, groups) {
             return Err(Refusal::at(6, file, place));
         }
         if is_13(&diagram.nodes, node) {
@@ -279,16 +340,16 @@ impl<'a> Reader<'a> {
         if self.bytes.is_empty() {
             return Err(self.refused(2));
         }
-        self.body(layout)
+        self.body(&[layout])
     }
 
     /// Place and body of the next field that is no remark; none at the file's end. The head never
-    /// comes again, so one layout is allowed.
-    fn next(&mut self, layout: Layout) -> Result<Option<(usize, &'a [u8])>, Refusal> {
+    /// comes again, so it is not among the layouts that are allowed.
+    fn next(&mut self, layouts: &[Layout]) -> Result<Option<(usize, &'a [u8])>, Refusal> {
         while self.place < self.bytes.len() {
             let place = self.place;
             if self.header()?[0] < FIRST_REMARK {
-                return Ok(Some((place, self.body(layout)?)));
+                return Ok(Some((place, self.body(layouts)?)));
             }
             self.pass_over()?;
         }
@@ -302,11 +363,10 @@ impl<'a> Reader<'a> {
 
     /// The body of the field at the place, tested in the order header cut, tag, length, body cut;
     /// then the place is behind it.
-    fn body(&mut self, layout: Layout) -> Result<&'a [u8], Refusal> {
+    fn body(&mut self, layouts: &[Layout]) -> Result<&'a [u8], Refusal> {
         let header = self.header()?;
-        if header[0] != layout.tag {
-            return Err(self.refused(2));
-        }
+        let layout = layouts.iter().find(|layout| layout.tag == header[0]);
+        let layout = layout.ok_or(self.refused(2))?;
         if usize::from(two_bytes(header, 1)) != layout.length {
             return Err(self.refused(3));
         }
@@ -338,6 +398,15 @@ fn head_within_limits(chart: &Chart) -> bool {
         && chart.end < chart.stages
 }
 
+/// The kinds of step that may follow in a chart: the first step fixes one.
+fn step_kinds(chart: &Chart) -> &'static [Layout] {
+    match chart.steps.first() {
+        None => &STEP_KINDS,
+        Some(Step { group: None, .. }) => &[STEP],
+        Some(_) => &[GROUPED_STEP],
+    }
+}
+
 /// The first fault in the values of a step behind those of the chart, in the order of the tests. The
 /// cost is judged as the file has it.
 fn step_fault(chart: &Chart, step: Step) -> Option<u32> {
@@ -347,20 +416,26 @@ fn step_fault(chart: &Chart, step: Step) -> Option<u32> {
     if step.from >= step.to || step.to >= chart.stages {
         return Some(10);
     }
-    if chart.steps.last().is_some_and(|before| step.from < before.from) {
+    let before = chart.steps.last();
+    if before.is_some_and(|before| step.from < before.from) {
         return Some(5);
     }
-    (step.cost > MAX_COST).then_some(11)
+    if step.cost > MAX_COST {
+        return Some(11);
+    }
+    let least = before.and_then(|before| before.group);
+    // Without groups both are none.
+    (step.group > Some(MAX_GROUP) || step.group < least).then_some(14)
 }
 
-fn node_within_limits(diagram: &Diagram, node: Node, steps: usize) -> bool {
+fn node_within_limits(diagram: &Diagram, node: Node, groups: usize) -> bool {
     let own_number = diagram.references();
     let child_fits = |child: u16| {
         usize::from(child) < own_number
             && diagram.inner(child).is_none_or(|below| below.step > node.step)
     };
     diagram.nodes.len() < MAX_NODES
-        && usize::from(node.step) < steps
+        && usize::from(node.step) < groups
         && child_fits(node.lo)
         && child_fits(node.hi)
 }
@@ -373,9 +448,11 @@ fn four_bytes(bytes: &[u8], at: usize) -> u32 {
     u32::from_le_bytes([bytes[at], bytes[at + 1], bytes[at + 2], bytes[at + 3]])
 }
 
-/// The values in a step's body, the cost as it stands there.
+/// The values in a step's body, which is whole, the cost as it stands there. A longer body has a group.
 pub fn step_of(body: &[u8]) -> Step {
-    Step { from: two_bytes(body, 0), to: two_bytes(body, 2), cost: four_bytes(body, 4) }
+    let step = Step::new(two_bytes(body, 0), two_bytes(body, 2), four_bytes(body, 4));
+    let group = (body.len() >= GROUPED_STEP.length).then(|| two_bytes(body, STEP.length));
+    Step { group, ..step }
 }
 
 /// The values in a node's body.
@@ -411,7 +488,8 @@ pub fn chart_head_field(chart: &Chart) -> Vec<u8> {
 pub fn step_field(step: Step) -> Vec<u8> {
     let mut body: Vec<u8> = [step.from, step.to].iter().flat_map(|v| v.to_le_bytes()).collect();
     body.extend(step.cost.to_le_bytes());
-    field(STEP, &body)
+    body.extend(step.group.iter().flat_map(|group| group.to_le_bytes()));
+    field(step.layout(), &body)
 }
 
 pub fn diagram_head_field(diagram: &Diagram) -> Vec<u8> {

@@ -5,6 +5,7 @@ pub mod charts;
 pub mod corners;
 pub mod costs;
 pub mod diagrams;
+pub mod groups;
 pub mod lists;
 pub mod load;
 pub mod long;

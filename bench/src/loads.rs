@@ -47,6 +47,8 @@ pub enum Group {
     LongSteps,
     /// Files with remarks, which earlier libraries may refuse.
     Remarks,
+    /// Charts with groups, which earlier libraries are not asked for.
+    Groups,
     Other,
 }
 
@@ -122,6 +124,28 @@ pub fn remarks() -> Vec<Load> {
         rules: behind(rules_head, plain.rules),
         ..plain
     }]
+}
+
+/// Generated charts of 1,024 steps in groups of few steps one after the other, some of which leave two stages:
+/// rules that name groups.
+pub fn groups() -> Vec<Load> {
+    let in_groups = |stages: u32, size: usize| {
+        let chart = generated(stages);
+        let grouped = chart.with_groups(|at| Some((at / size) as u16));
+        (chart, grouped)
+    };
+    let (chart, pairs) = in_groups(256, 2);
+    let Needs(steps) = needs(&chart, 8);
+    let of_groups = steps.iter().map(|(a, b)| (pairs.group(*a), pairs.group(*b))).collect();
+    let needs = must_fit(&Needs(of_groups));
+    let (_, eights) = in_groups(32, 8);
+    let every_fourth = (0..31).map(|at| 4 * at + 1).collect();
+    let rest_5 = Modulo { divisor: 16, rest: 5, steps: every_fourth };
+    let loads = [
+        Load::new("groups: 256 stages, 8 needs", &pairs, &needs),
+        Load::new("groups: 32 stages, modulo 16 of 31", &eights, &must_fit(&rest_5)),
+    ];
+    loads.map(|load| load.of(Group::Groups)).into()
 }
 
 /// A generated chart of so many stages.

@@ -195,12 +195,15 @@ fn files_for<'a>(planner: &dyn Planner, load: &'a Load) -> Files<'a> {
 }
 
 /// Whether an implementation is checked and timed on a load: all are, but for an earlier library
-/// that refuses files with remarks.
+/// that refuses files with remarks, and none of these is asked for charts with groups.
 fn takes_load(planner: &dyn Planner, load: &Load) -> bool {
-    if load.group != Group::Remarks || !EARLIER.contains(&planner.name()) {
-        return true;
+    match load.group {
+        _ if !EARLIER.contains(&planner.name()) => true,
+        Group::Remarks => {
+            planner.space_needed(&load.chart, &load.rules).is_some_and(|space| space.number == 0)
+        }
+        group => group != Group::Groups,
     }
-    planner.space_needed(&load.chart, &load.rules).is_some_and(|space| space.number == 0)
 }
 
 /// Times all implementations in turn, round after round; another one begins each round. Their
@@ -252,7 +255,7 @@ mod tests {
     use super::{check, measure};
     use crate::files::{MAX_COST, TICK};
     use crate::generate::steps::file_costs;
-    use crate::loads::{remarks, standard, Load};
+    use crate::loads::{groups, remarks, standard, Load};
     use crate::planner::{Answer, GuidedSlices, Planner, Space, SweepSlices};
     use crate::same::Same;
 
@@ -288,6 +291,16 @@ mod tests {
         let mut names: Vec<_> = timings.iter().map(|timing| timing.planner).collect();
         names.dedup();
         names
+    }
+
+    #[test]
+    fn an_earlier_library_is_not_asked_for_groups() {
+        for load in groups() {
+            let checked = |name| check(&load, &[Box::new(Earlier(name)) as Box<dyn Planner>]);
+            assert_eq!((checked("before"), checked("control")), (Ok(()), Ok(())));
+            assert!(checked("library").is_err());
+            assert_eq!(timed(&load, "before"), ["same"]);
+        }
     }
 
     #[test]

@@ -10,7 +10,7 @@ use crate::files::{
 pub struct NodeFaults {
     /// 510 nodes stand before it.
     pub surplus: bool,
-    /// Its step is none of the chart, or a child is no earlier node of a later step.
+    /// Its group is above all of the chart, or a child is no earlier node of a later group.
     pub beyond: bool,
     /// Lo is hi.
     pub equal: bool,
@@ -19,8 +19,8 @@ pub struct NodeFaults {
 }
 
 impl NodeFaults {
-    /// Those of a node behind the nodes of a diagram, over so many steps.
-    pub fn of(before: &Diagram, node: Node, steps: usize) -> NodeFaults {
+    /// Those of a node behind the nodes of a diagram, over groups below a number.
+    pub fn of(before: &Diagram, node: Node, groups: usize) -> NodeFaults {
         let own = before.references();
         let is_earlier = |child: u16| usize::from(child) < own;
         let is_later = |child: u16| before.inner(child).is_none_or(|inner| inner.step > node.step);
@@ -28,7 +28,7 @@ impl NodeFaults {
         let twin = before.nodes.iter().position(|other| *other == node);
         NodeFaults {
             surplus: before.nodes.len() == MAX_NODES,
-            beyond: usize::from(node.step) >= steps || !fits(node.lo) || !fits(node.hi),
+            beyond: usize::from(node.step) >= groups || !fits(node.lo) || !fits(node.hi),
             equal: node.lo == node.hi,
             twin: twin.map(|at| before.nodes.len() - at),
         }
@@ -55,9 +55,9 @@ pub struct NodeAtFault {
 }
 
 impl NodeAtFault {
-    /// The node field of a refusal, in a diagram over so many steps; none where it is another field, or
+    /// The node field of a refusal, in a diagram over so many groups; none where it is another field, or
     /// ends before its last byte. Of a cut body the missing byte is taken as 0.
-    pub fn of(rules: &[u8], steps: usize, fault: &Refusal) -> Option<NodeAtFault> {
+    pub fn of(rules: &[u8], groups: usize, fault: &Refusal) -> Option<NodeAtFault> {
         let Refusal { number, file, place } = *fault;
         if !matches!(number, 1 | 3 | 6 | 13) || place == 0 || rules.get(place) != Some(&NODE.tag) {
             return None;
@@ -65,24 +65,24 @@ impl NodeAtFault {
         let values = rules.get(place + HEADER..).filter(|body| body.len() >= NODE.length - 1)?;
         let mut body = [0; NODE.length];
         body.iter_mut().zip(values).for_each(|(byte, value)| *byte = *value);
-        let before = nodes_before(rules, file, place, steps)?;
+        let before = nodes_before(rules, file, place, groups)?;
         let node = node_of(&body);
         Some(NodeAtFault {
             number,
             file,
             before: before.nodes.len(),
             node,
-            faults: NodeFaults::of(&before, node, steps),
+            faults: NodeFaults::of(&before, node, groups),
             hidden: (number == 13)
-                .then(|| read_diagram_by(rules, file, steps, |_, _| false).err())
+                .then(|| read_diagram_by(rules, file, groups, |_, _| false).err())
                 .flatten(),
         })
     }
 }
 
 /// The nodes that stand before a place, whatever the root is.
-fn nodes_before(rules: &[u8], file: u32, place: usize, steps: usize) -> Option<Diagram> {
+fn nodes_before(rules: &[u8], file: u32, place: usize, groups: usize) -> Option<Diagram> {
     let nodes = rules.get(HEADER + DIAGRAM_HEAD.length..place)?;
     let rootless = [&rules[..HEADER], &[0; DIAGRAM_HEAD.length], nodes].concat();
-    read_diagram_by(&rootless, file, steps, |_, _| false).ok()
+    read_diagram_by(&rootless, file, groups, |_, _| false).ok()
 }

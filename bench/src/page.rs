@@ -23,6 +23,8 @@ pub struct Run<'a> {
     pub growth: &'a [Measured],
     /// Held to no target, and in no mean.
     pub remarks: &'a [Measured],
+    /// Charts with groups.
+    pub groups: &'a [Measured],
     /// Conjunctions and reductions: timed in one placement, and in no mean.
     pub makings: &'a [Made],
     /// Lists: the same.
@@ -74,11 +76,14 @@ impl Run<'_> {
         for call in Call::SEARCHES {
             parts.push(self.loads(self.growth, call));
         }
-        parts.push("## Files with remarks".into());
-        parts.push("In no mean above, and held to no target.".into());
-        parts
-            .extend(left_out(self.remarks, self.planners).map(|text| format!("Left out: {text}.")));
-        parts.extend(Call::ALL.map(|call| self.loads(self.remarks, call)));
+        let apart = [("Files with remarks", self.remarks), ("Charts with groups", self.groups)];
+        for (title, loads) in apart {
+            parts.push(format!("## {title}"));
+            parts.push("In no mean above, and held to no target.".into());
+            let missing = left_out(loads, self.planners);
+            parts.extend(missing.map(|text| format!("Left out: {text}.")));
+            parts.extend(Call::ALL.map(|call| self.loads(loads, call)));
+        }
         parts.extend(["## Lists of cycles".into(), self.lists()]);
         parts.extend(["## Conjunctions".into(), self.conjunctions()]);
         parts.extend(["## Reductions".into(), self.reductions()]);

@@ -1,6 +1,7 @@
 //! Planners that are spoiled in one corner: the differential test must find each of them.
 
 mod conjunctions;
+mod groups;
 mod lists;
 mod padding;
 mod readings;
@@ -11,10 +12,11 @@ mod ticks;
 
 use std::borrow::Cow;
 
-use crate::files::{read_both, read_chart, Diagram, LONGEST_FILE};
+use crate::files::{read_both, read_chart, Chart, Diagram, Step, LONGEST_FILE};
 use crate::planner::{
     self, Answer, ConjoinSlices, CycleSlices, GuidedSlices, Planner, Space, SweepSlices,
 };
+use crate::reference::Facts;
 use crate::steps::{StepAtFault, StepFaults};
 use conjunctions::{Call, Conjoiner, SpoilConjoined};
 use lists::{Lister, SpoilListed};
@@ -58,6 +60,11 @@ enum Spoil {
     SweepTicks(Ticks),
     /// What a guided search does.
     GuidedTicks(Ticks),
+    /// The diagram estimates of a guided search, by the facts and the steps as the file has them.
+    Estimates(fn(&Facts, &[Step]) -> Vec<Option<u32>>),
+    /// The answer and the plan of a sweep over a chart, and of a guided search.
+    SweptPlan(SpoilPlan),
+    GuidedPlan(SpoilPlan),
     /// How diagrams are conjoined.
     Conjoiner(Conjoiner),
     /// The answer and the slices of a conjunction.
@@ -75,6 +82,9 @@ enum Spoil {
     /// The answer, the records and the slices of a call on a list.
     Listed(SpoilListed),
 }
+
+/// What is spoiled of an accepted answer and its plan.
+type SpoilPlan = fn(&Chart, &mut Answer, &mut [u16]);
 
 /// Whether a step's values have some fault.
 type Test = fn(&StepFaults) -> bool;
@@ -102,23 +112,29 @@ const fn new(name: &'static str, spoil: Spoil) -> Sabotage {
 
 /// Every sabotage.
 pub fn all() -> impl Iterator<Item = &'static Sabotage> {
-    let of_files = searches().chain(ticks()).chain(readings());
+    let of_files = searches().chain(ticks()).chain(groups()).chain(readings());
     of_files.chain(conjunctions()).chain(padding()).chain(lists())
 }
 
 /// Wrong answers to lists.
 pub fn lists() -> impl Iterator<Item = &'static Sabotage> {
-    lists::LISTS.iter()
+    lists::LISTS.iter().chain(&groups::LISTS)
+}
+
+/// Groups taken wrongly in sound files.
+pub fn groups() -> impl Iterator<Item = &'static Sabotage> {
+    groups::GROUPS.iter()
 }
 
 /// Wrong readings of padding in one diagram, and wrong reductions.
 pub fn padding() -> impl Iterator<Item = &'static Sabotage> {
-    padding::PADDING.iter().chain(&reductions::REDUCTIONS)
+    padding::PADDING.iter().chain(&reductions::REDUCTIONS).chain(&groups::REDUCTIONS)
 }
 
 /// Wrong conjunctions, and wrong readings of padding in them.
 pub fn conjunctions() -> impl Iterator<Item = &'static Sabotage> {
-    conjunctions::CONJUNCTIONS.iter().chain(&padding::OF_CONJUNCTIONS)
+    let all = conjunctions::CONJUNCTIONS.iter().chain(&padding::OF_CONJUNCTIONS);
+    all.chain(&groups::CONJUNCTIONS)
 }
 
 /// Results spoiled in one corner, and pairs in wrong places.
@@ -131,9 +147,11 @@ pub fn ticks() -> impl Iterator<Item = &'static Sabotage> {
     ticks::TICKS.iter()
 }
 
-/// The wrong readings of remarks, of files that are too long and of a step's values.
+/// The wrong readings of remarks, of files that are too long, of a step's values and kind, and of what
+/// groups there are.
 pub fn readings() -> impl Iterator<Item = &'static Sabotage> {
-    readings::READINGS.iter().chain(&steps::STEPS).chain(&ticks::LIMITS)
+    let all = readings::READINGS.iter().chain(&steps::STEPS).chain(&ticks::LIMITS);
+    all.chain(&groups::READINGS)
 }
 
 static CORNERS: [Sabotage; 24] = [
@@ -292,6 +310,7 @@ impl Spoiled {
         match &self.sabotage.spoil {
             Spoil::GuidedRows(rows) => rows.guided(chart, rules, lent),
             Spoil::GuidedTicks(ticks) => ticks.guided(chart, rules, lent),
+            Spoil::Estimates(estimates) => groups::guided_by(*estimates, chart, rules, lent),
             Spoil::Padding(padding) => padding.guided(chart, rules, lent),
             _ => None,
         }
@@ -311,9 +330,18 @@ impl Spoiled {
                 let more = read_both(chart, rules).map_or(0, |problem| more(&problem.diagram));
                 answer.count += more as u32;
             }
+            Spoil::SweptPlan(spoil) => self.spoil_plan(spoil, chart, &mut answer, &mut lent.plan),
             _ => {}
         }
         answer
+    }
+
+    /// Changes the plan of an accepted answer.
+    fn spoil_plan(&self, spoil: SpoilPlan, chart: &[u8], answer: &mut Answer, plan: &mut [u16]) {
+        if let (0, Ok(chart)) = (answer.number, read_chart(chart)) {
+            let length = answer.length as usize;
+            spoil(&chart, answer, &mut plan[..length]);
+        }
     }
 
     fn spoil_guided(&self, chart: &[u8], mut answer: Answer, lent: &mut GuidedSlices) -> Answer {
@@ -321,6 +349,7 @@ impl Spoiled {
         match self.sabotage.spoil {
             Spoil::Answer(spoil) => spoil(&mut answer),
             Spoil::Guided(spoil) => spoil(&mut answer, lent),
+            Spoil::GuidedPlan(spoil) => self.spoil_plan(spoil, chart, &mut answer, &mut lent.plan),
             _ => {}
         }
         answer

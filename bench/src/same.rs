@@ -71,6 +71,7 @@ fn prepare_work(
         return Err(Answer::refused(7, 0, 0));
     }
     tables.fill_first();
+    tables.fill_groups();
     tables.fill_rows();
     Ok(())
 }

@@ -27,6 +27,7 @@ impl On {
             On::Group(Group::Small) => "the example's chart and small charts".into(),
             On::Group(Group::LongSteps) => "long steps, few settled".into(),
             On::Group(Group::Remarks) => "files with remarks".into(),
+            On::Group(Group::Groups) => "charts with groups".into(),
             On::Group(Group::Other) => "the other loads".into(),
             On::Steps(steps) => format!("{steps} steps"),
         }

@@ -195,15 +195,15 @@ fn successors<'a>(
     let leaving = chart.steps[first..].iter().take_while(move |step| step.from == stage);
     leaving.enumerate().filter_map(move |(at, step)| {
         let number = (first + at) as u16;
-        let next = follow(diagram, node, number);
+        let next = follow(diagram, node, step.group.unwrap_or(number));
         (next != 0).then_some(((step.to, next), number, step.cost))
     })
 }
 
-/// The node after a step is taken and those before it are not.
-fn follow(diagram: &Diagram, mut reference: u16, step: u16) -> u16 {
+/// The node after a step of a group is taken and none of those before it is, but for its own.
+fn follow(diagram: &Diagram, mut reference: u16, group: u16) -> u16 {
     while let Some(node) = diagram.inner(reference) {
-        match node.step.cmp(&step) {
+        match node.step.cmp(&group) {
             std::cmp::Ordering::Less => reference = node.lo,
             std::cmp::Ordering::Equal => return node.hi,
             std::cmp::Ordering::Greater => break,
@@ -235,10 +235,13 @@ fn stage_estimates(chart: &Chart) -> Vec<Option<u32>> {
 }
 
 fn node_estimates(chart: &Chart, diagram: &Diagram) -> Vec<Option<u32>> {
+    let costs = chart.group_costs();
     let mut estimates = vec![None, Some(0)];
     for node in &diagram.nodes {
-        let cost = chart.steps[usize::from(node.step)].cost;
-        let taken = estimates[usize::from(node.hi)].map(|rest: u32| rest + cost);
+        let taken = costs[usize::from(node.step)].and_then(|cost| {
+            let rest: u32 = estimates[usize::from(node.hi)]?;
+            Some(rest + cost)
+        });
         let not_taken = estimates[usize::from(node.lo)];
         estimates.push([not_taken, taken].into_iter().flatten().min());
     }

@@ -312,18 +312,19 @@ fn what_is_not_used_stays() {
     }
 }
 
-/// Small diagrams over few steps, so that all sets can be judged.
+/// Small diagrams over few steps and groups, so that all ways and all sets can be judged.
 fn small(random: &mut Random) -> Operands {
     loop {
         let operands = any(random);
-        if operands.chart.steps.len() <= 12 && operands.pairs() <= 1_000 {
+        let is_small = operands.chart.steps.len().max(operands.chart.groups()) <= 12;
+        if is_small && operands.pairs() <= 1_000 {
             return operands;
         }
     }
 }
 
-fn sets(steps: usize) -> impl Iterator<Item = Vec<bool>> {
-    (0..1_u32 << steps).map(move |set| (0..steps).map(|step| set >> step & 1 == 1).collect())
+fn sets(groups: usize) -> impl Iterator<Item = Vec<bool>> {
+    (0..1_u32 << groups).map(move |set| (0..groups).map(|group| set >> group & 1 == 1).collect())
 }
 
 #[test]
@@ -332,7 +333,7 @@ fn truth_and_product_agree() {
     let (mut inner, mut grown) = (0, 0);
     for _ in 0..20_000 {
         let found = Conjunction::of(small(&mut random));
-        let by_truth = by_truth(&found.operands).expect("few steps");
+        let by_truth = by_truth(&found.operands).expect("few groups");
         assert_eq!(by_truth, found.reduced, "{:?}", found.operands);
         inner += usize::from(by_truth.nodes.len() > 2);
         grown += usize::from(by_truth.nodes.len() > found.operands.first.nodes.len());
@@ -345,12 +346,12 @@ fn the_file_says_yes_where_both_diagrams_do() {
     let mut random = Random::new(62);
     for _ in 0..2_000 {
         let found = Conjunction::of(small(&mut random));
-        let steps = found.operands.chart.steps.len();
+        let groups = found.operands.chart.groups();
         let file = found.file().expect("few nodes");
-        let read = read_diagram(&file, steps).expect("a sound file");
+        let read = read_diagram(&file, groups).expect("a sound file");
         assert_eq!(is_reduced(&read), Ok(()));
         assert_eq!(file.len(), 5 + 9 * read.nodes.len());
-        for set in sets(steps) {
+        for set in sets(groups) {
             assert_eq!(verdict(&read, &set), both_say_yes(&found.operands, &set));
         }
     }
@@ -390,19 +391,19 @@ fn other_diagrams_say_the_same_and_complements_the_opposite() {
     let (mut unreduced, mut refused) = (0, 0);
     for _ in 0..1_000 {
         let Operands { chart, first, .. } = small(&mut random);
-        let (steps, nodes) = (chart.steps.len(), first.nodes.len() + 12);
-        let other = rearranged(&mut random, &first, steps, nodes);
-        let padded = padded(&mut random, &first, steps, nodes);
-        assert_eq!(read_diagram(&write_diagram(&other), steps), Ok(other.clone()));
+        let (groups, nodes) = (chart.groups(), first.nodes.len() + 12);
+        let other = rearranged(&mut random, &first, groups, nodes);
+        let padded = padded(&mut random, &first, groups, nodes);
+        assert_eq!(read_diagram(&write_diagram(&other), groups), Ok(other.clone()));
         let files = (write_chart(&chart), write_diagram(&padded));
         assert_eq!(read_padded(&files.0, &files.1).map(|read| read.diagram), Ok(padded.clone()));
-        for set in sets(steps).step_by(3) {
+        for set in sets(groups).step_by(3) {
             assert_eq!(verdict(&other, &set), verdict(&first, &set));
             assert_eq!(verdict(&padded, &set), verdict(&first, &set));
             assert_ne!(verdict(&complement(&first), &set), verdict(&first, &set));
         }
         unreduced += usize::from(is_reduced(&other).is_err());
-        refused += usize::from(read_diagram(&files.1, steps).is_err());
+        refused += usize::from(read_diagram(&files.1, groups).is_err());
     }
     assert!(unreduced > 500 && refused > 500, "{unreduced} {refused}");
 }

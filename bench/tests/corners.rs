@@ -72,12 +72,12 @@ fn fuzzed_files_have_every_number_at_near_and_far_places() {
         *place = fault.map_or(0, |fault| fault.place).max(*place);
     }
     let keys: Vec<(u32, u32)> = seen.keys().copied().collect();
-    let of_chart = [1, 2, 3, 4, 5, 9, 10, 11].map(|number| (1, number));
+    let of_chart = [1, 2, 3, 4, 5, 9, 10, 11, 14].map(|number| (1, number));
     let of_rules = [1, 2, 3, 6, 9, 13].map(|number| (2, number));
     assert_eq!(keys, [&[(0, 0)], &of_chart[..], &of_rules].concat());
     assert!(seen.values().all(|(count, _)| *count > 100), "{seen:?}");
     let far = |key| seen[&key].1 > 1_000;
-    let deep_chart = [1, 2, 3, 5, 10, 11].map(|number| (1, number));
+    let deep_chart = [1, 2, 3, 5, 10, 11, 14].map(|number| (1, number));
     let deep_rules = [1, 2, 3, 6, 13].map(|number| (2, number));
     assert!(deep_chart.into_iter().chain(deep_rules).all(far), "{seen:?}");
 }

@@ -61,7 +61,8 @@ fn a_way_stands_at_a_node_that_finishes_at_the_verdict() {
         for stage in 0..chart.stages {
             each_way(&chart, stage, 500, &mut |way| {
                 let says_yes = verdict(&diagram, &set_of(&chart, way.steps));
-                assert_eq!(finish(&diagram, stands_at(&diagram, way.steps)) == 1, says_yes);
+                let node = stands_at(&diagram, &chart.groups_of(way.steps));
+                assert_eq!(finish(&diagram, node) == 1, says_yes);
             });
         }
     }

@@ -17,7 +17,7 @@ use planner_bench::generate::long::near_longest;
 use planner_bench::generate::remarks::{count_before, with_remarks};
 use planner_bench::generate::rules::{diagram_of, AtMost, ExactlyOne, Modulo, Needs, Rule};
 use planner_bench::generate::Random;
-use planner_bench::generate::{long, nodes, padded, remarks, rows, steps};
+use planner_bench::generate::{groups, long, nodes, padded, remarks, rows, steps};
 use planner_bench::loads::{self, growth, standard};
 use planner_bench::nodes::NodeAtFault;
 use planner_bench::reference::rules::verdict;
@@ -127,16 +127,22 @@ fn faults_of_steps(charts: impl Iterator<Item = Vec<u8>>) -> (BTreeMap<u8, usize
 #[test]
 fn steps_have_every_set_of_faults() {
     let mut random = Random::new(16);
-    let spoiled = (0..4_000).map(|_| {
+    let spoiled = (0..8_000).map(|_| {
         let mut chart = write_chart(&random_chart(&mut random, 12, 20));
         steps::spoil(&mut random, &mut chart, 30);
         chart
     });
     let systematic = steps::systematic().into_iter().map(|(chart, _)| chart);
-    for (sets, of_field) in [faults_of_steps(spoiled), faults_of_steps(systematic)] {
-        // Four faults: 15 sets of them.
-        assert_eq!(sets.keys().copied().collect::<Vec<u8>>(), (1..16).collect::<Vec<u8>>());
-        assert!(sets.values().chain(&of_field).all(|count| *count >= 10), "{sets:?} {of_field:?}");
+    let of_groups = groups::systematic().into_iter().map(|(chart, _)| chart);
+    // Four faults have 15 sets, and 31 with that of a group.
+    for (past, least, (sets, of_field)) in [
+        (32, 10, faults_of_steps(spoiled)),
+        (16, 10, faults_of_steps(systematic)),
+        (32, 2, faults_of_steps(of_groups)),
+    ] {
+        assert_eq!(sets.keys().copied().collect::<Vec<u8>>(), (1..past).collect::<Vec<u8>>());
+        let mut counts = sets.values().chain(&of_field);
+        assert!(counts.all(|count| *count >= least), "{sets:?} {of_field:?}");
     }
 }
 
@@ -192,9 +198,9 @@ fn nodes_have_padding_alone_and_with_every_other_fault() {
     let mut of_padding = [0; 2];
     let mut besides = BTreeMap::new();
     for (chart, rules) in nodes::systematic() {
-        let steps = read_chart(&chart).expect("a sound chart").steps.len();
+        let groups = read_chart(&chart).expect("a sound chart").groups();
         let fault = read_both(&chart, &rules).err();
-        let Some(node) = fault.and_then(|fault| NodeAtFault::of(&rules, steps, &fault)) else {
+        let Some(node) = fault.and_then(|fault| NodeAtFault::of(&rules, groups, &fault)) else {
             continue;
         };
         match node.number {

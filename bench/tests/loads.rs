@@ -2,7 +2,7 @@
 
 use planner_bench::cases::example_problem;
 use planner_bench::files::read_both;
-use planner_bench::loads::{growth, remarks, standard, Group};
+use planner_bench::loads::{groups, growth, remarks, standard, Group};
 use planner_bench::planner::{GuidedSlices, Planner};
 use planner_bench::same::Same;
 
@@ -32,6 +32,23 @@ fn small_charts_are_small() {
         let problem = read_both(&load.chart, &load.rules).expect("sound files");
         assert!(problem.chart.stages <= 40 && problem.chart.steps.len() <= 120, "{}", load.name);
     }
+}
+
+/// Every rule names groups that are taken and some that need not be: a plan goes past each stage once.
+#[test]
+fn charts_with_groups_are_a_group_of_their_own() {
+    let loads = groups();
+    let sizes = loads.iter().map(|load| {
+        let problem = read_both(&load.chart, &load.rules).expect("sound files");
+        let mut lent = GuidedSlices::of(problem.pairs(), problem.longest_plan());
+        let answer = Same.guided(&load.chart, &load.rules, &mut lent);
+        assert_eq!((answer.number, load.group), (0, Group::Groups), "{}", load.name);
+        assert!(answer.count > 50, "{}: {}", load.name, answer.count);
+        (problem.chart.steps.len(), problem.chart.groups(), problem.diagram.nodes.len())
+    });
+    assert_eq!(sizes.collect::<Vec<_>>(), [(1_024, 512, 510), (1_024, 128, 271)]);
+    let mut others = standard().into_iter().chain(growth()).chain(remarks());
+    assert!(others.all(|load| load.group != Group::Groups));
 }
 
 #[test]

@@ -25,7 +25,7 @@ fn facts(problem: &Problem) -> Facts {
 }
 
 fn problem(stages: u16, ends: (u16, u16), steps: &[(u16, u16, u32)], diagram: Diagram) -> Problem {
-    let steps = steps.iter().map(|(from, to, cost)| Step { from: *from, to: *to, cost: *cost });
+    let steps = steps.iter().map(|(from, to, cost)| Step::new(*from, *to, *cost));
     let chart = Chart { stages, start: ends.0, end: ends.1, steps: steps.collect() };
     Problem { chart, diagram }
 }

@@ -97,7 +97,7 @@ impl Mistaken {
             if cost[from] == UNREACHED || self.is_beaten(chart, references, from, cost) {
                 continue;
             }
-            let next = usize::from(advance(diagram, node as u16, number as u16));
+            let next = usize::from(advance(diagram, node as u16, chart.group(number as u16)));
             if next == 0 && self.0 != Mistake::NodeZeroThroughHi {
                 continue;
             }

@@ -515,16 +515,21 @@ fn as_many_nodes_as_there_may_be() {
     reduces_over(&chart, &file(511, &idle), &YES);
 }
 
-/// Few steps, so that all sets can be judged.
+/// Few groups, so that all sets can be judged.
 fn small(random: &mut Random) -> Problem {
-    let chart = random_chart(random, 5, 7);
+    let chart = loop {
+        let chart = random_chart(random, 5, 7);
+        if chart.groups() <= 9 {
+            break chart;
+        }
+    };
     let diagram = drawn(random, &chart, 9, Padding::With);
-    let diagram = padded(random, &diagram, chart.steps.len(), 14);
+    let diagram = padded(random, &diagram, chart.groups(), 14);
     Problem { chart, diagram }
 }
 
-fn steps_of(problem: &Problem) -> Vec<u16> {
-    (0..problem.chart.steps.len() as u16).collect()
+fn groups_of(problem: &Problem) -> Vec<u16> {
+    (0..problem.chart.groups() as u16).collect()
 }
 
 #[test]
@@ -538,8 +543,8 @@ fn the_reduction_says_what_the_file_says() {
         let diagram = found.reduced.diagram().expect("no more nodes than the file has");
         assert_eq!(is_reduced(&diagram), Ok(()));
         assert!(diagram.nodes.len() <= problem.diagram.nodes.len());
-        let steps = steps_of(&problem);
-        for set in sets_of(steps.len(), &steps) {
+        let groups = groups_of(&problem);
+        for set in sets_of(groups.len(), &groups) {
             assert_eq!(verdict(&diagram, &set), verdict(&problem.diagram, &set), "{problem:?}");
         }
         smaller += usize::from(diagram.nodes.len() + 3 < problem.diagram.nodes.len());
@@ -565,9 +570,9 @@ fn the_same_sets_have_the_same_reduction() {
     let (mut same, mut others) = (0, 0);
     for turn in 0..3_000 {
         let first = small(&mut random);
-        let steps = first.chart.steps.len();
+        let groups = first.chart.groups();
         let diagram = match turn % 3 {
-            0 => padded(&mut random, &first.diagram, steps, 14),
+            0 => padded(&mut random, &first.diagram, groups, 14),
             // One child of one node is another.
             1 if !first.diagram.nodes.is_empty() => {
                 let mut other = first.diagram.clone();
@@ -578,10 +583,10 @@ fn the_same_sets_have_the_same_reduction() {
             _ => drawn(&mut random, &first.chart, 9, Padding::With),
         };
         let second = Problem { chart: first.chart.clone(), diagram };
-        let all = steps_of(&first);
-        let agree = sets_of(steps, &all)
+        let all = groups_of(&first);
+        let agree = sets_of(groups, &all)
             .all(|set| verdict(&first.diagram, &set) == verdict(&second.diagram, &set));
-        assert_eq!(say_the_same(steps, &first.diagram, &second.diagram), Some(agree));
+        assert_eq!(say_the_same(groups, &first.diagram, &second.diagram), Some(agree));
         for planner in planner::all() {
             let files = [&first, &second].map(|problem| written_by(planner.as_ref(), problem));
             assert_eq!(files[0] == files[1], agree, "{}: {first:?} {second:?}", planner.name());
@@ -602,7 +607,7 @@ fn reducing_twice_is_reducing_once() {
         }
         for planner in planner::all() {
             let Some(once) = written_by(planner.as_ref(), &problem) else { continue };
-            let diagram = read_diagram(&once, problem.chart.steps.len()).expect("no padding");
+            let diagram = read_diagram(&once, problem.chart.groups()).expect("no padding");
             let again = Problem { chart: problem.chart.clone(), diagram };
             assert_eq!(written_by(planner.as_ref(), &again), Some(once), "{}", planner.name());
         }
@@ -637,10 +642,10 @@ fn files_that_mean_the_same_have_the_same_counts() {
     let (mut with_plan, mut other_counts) = (0, 0);
     for _ in 0..2_000 {
         let chart = random_chart(&mut random, 7, 14);
-        let steps = chart.steps.len();
+        let groups = chart.groups();
         let first = random_diagram(&mut random, &chart, 14);
-        let second = rearranged(&mut random, &first, steps, 24);
-        let third = padded(&mut random, &first, steps, 24);
+        let second = rearranged(&mut random, &first, groups, 24);
+        let third = padded(&mut random, &first, groups, 24);
         let over = |diagram: &Diagram| Problem { chart: chart.clone(), diagram: diagram.clone() };
         let reduced = reduction(over(&third)).reduced.diagram().expect("few nodes");
         let known = counts(&over(&first));
@@ -653,7 +658,7 @@ fn files_that_mean_the_same_have_the_same_counts() {
         other_counts += usize::from((reached, settled) != (known.0, known.2));
         with_plan += usize::from(cost.is_some());
     }
-    assert!(with_plan > 800 && other_counts > 300, "{with_plan} {other_counts}");
+    assert!(with_plan > 800 && other_counts > 200, "{with_plan} {other_counts}");
 }
 
 /// What no file is refused for is what the conjunction with "yes" gives.
@@ -748,9 +753,10 @@ struct Mistaken(Mistake);
 impl Mistaken {
     /// What the searches read: a file that passes where this one shouldn't.
     fn rules(&self, chart: &[u8], rules: &[u8]) -> Vec<u8> {
-        let read = read_chart(chart).ok().map(|chart| chart.steps.len());
+        let read = read_chart(chart).ok().map(|chart| chart.groups());
         let fault = read_both(chart, rules).err().filter(|fault| fault.number == 13);
-        let node = fault.zip(read).and_then(|(fault, steps)| NodeAtFault::of(rules, steps, &fault));
+        let node =
+            fault.zip(read).and_then(|(fault, groups)| NodeAtFault::of(rules, groups, &fault));
         let passes = |NodeFaults { equal, twin, .. }: NodeFaults| match self.0 {
             Mistake::PaddingTaken => true,
             Mistake::EqualChildrenTaken => equal,
@@ -847,11 +853,11 @@ fn each_mistake_is_found_within_some_hundred_cases() {
 #[test]
 fn the_faults_of_a_node_are_told_apart() {
     let (chart, nodes) = full();
-    let steps = read_chart(&chart).expect("a sound chart").steps.len();
+    let groups = read_chart(&chart).expect("a sound chart").groups();
     let of = |nodes: &[(u16, u16, u16)]| {
         let rules = file(9_999, nodes);
         let fault = read_both(&chart, &rules).expect_err("a node at fault");
-        NodeAtFault::of(&rules, steps, &fault).expect("a node")
+        NodeAtFault::of(&rules, groups, &fault).expect("a node")
     };
     let equal = of(&[(3, 0, 1), (2, 2, 2)]);
     assert_eq!((equal.number, equal.before, equal.node.step), (13, 1, 2));

@@ -7,7 +7,7 @@ use std::path::{Path, PathBuf};
 use std::process::ExitCode;
 
 use planner_bench::history;
-use planner_bench::loads::{growth, remarks, standard, Group, Load};
+use planner_bench::loads::{groups, growth, remarks, standard, Group, Load};
 use planner_bench::measure::listing::{self, List};
 use planner_bench::measure::making::{self, Job};
 use planner_bench::page::{load_average, Run};
@@ -94,7 +94,7 @@ fn main() -> ExitCode {
         println!("{HELP}");
         return ExitCode::SUCCESS;
     }
-    let loads = [standard(), growth(), remarks()].concat();
+    let loads = [standard(), growth(), remarks(), groups()].concat();
     let done = match options.serve {
         true => serve(&loads, &planner::timed()).map_err(|error| error.to_string()),
         false => run(&options, &loads),
@@ -161,8 +161,9 @@ fn run(options: &Options, loads: &[Load]) -> Result<(), String> {
     let all = measure_all(loads, options, &mut placements, &planners)?;
     let codes: Vec<usize> = placements.iter().map(|placement| placement.code).collect();
     drop(placements);
-    let has_remarks = |measured: &Measured| measured.group == Group::Remarks;
-    let (remarked, plain): (Vec<_>, Vec<_>) = all.iter().cloned().partition(has_remarks);
+    let is_of = |group: Group| move |measured: &Measured| measured.group == group;
+    let (remarked, others): (Vec<_>, Vec<_>) = all.iter().cloned().partition(is_of(Group::Remarks));
+    let (grouped, plain): (Vec<_>, Vec<_>) = others.into_iter().partition(is_of(Group::Groups));
     let main = plain.iter().take_while(|measured| !measured.name.starts_with("growth: ")).count();
     let (main, growing) = plain.split_at(main);
     println!("\n{}\n", summary(main, &plain));
@@ -171,7 +172,7 @@ fn run(options: &Options, loads: &[Load]) -> Result<(), String> {
     println!("{}\n", makings(&made, &names));
     let listed = listing::measure(&planners, options.runs * options.rounds, &options.only)?;
     println!("{}\n", lists(&listed, &names));
-    let peaks = peaks(&planner::complete(), &[standard(), remarks()].concat());
+    let peaks = peaks(&planner::complete(), &[standard(), remarks(), groups()].concat());
     for Peak { planner, call, bytes } in &peaks {
         println!("peak stack of {planner}, {call}: {bytes} bytes");
     }
@@ -192,6 +193,7 @@ fn run(options: &Options, loads: &[Load]) -> Result<(), String> {
         standard: main,
         growth: growing,
         remarks: &remarked,
+        groups: &grouped,
         makings: &made,
         lists: &listed,
         peaks: &peaks,

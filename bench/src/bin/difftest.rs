@@ -211,19 +211,21 @@ fn replay(folder: &Path, planners: &[Box<dyn Planner>]) -> ExitCode {
 }
 
 /// Runs this program with each sabotage, since some of them end it. Wrong costs show where rounding
-/// decides, wrong readings in files that come behind the corners, wrong conjunctions, and what is wrong
+/// decides, groups taken wrongly where these do, wrong readings in files that come behind the corners, wrong conjunctions, and what is wrong
 /// about padding, in cases of their own, wrong lists in random ones.
 fn sabotage_all() -> ExitCode {
     let cases = Cases::new(FIXED_SEED);
     let searches = sabotage::searches().map(|sabotage| (sabotage, 0));
     let ticks = sabotage::ticks().map(|sabotage| (sabotage, cases.first_of_ticks()));
+    let groups = sabotage::groups().map(|sabotage| (sabotage, cases.first_of_groups()));
     let readings = sabotage::readings().map(|sabotage| (sabotage, cases.corners()));
     let conjunctions =
         sabotage::conjunctions().map(|sabotage| (sabotage, cases.conjunctions().start));
     let padding = sabotage::padding().map(|sabotage| (sabotage, cases.padding().start));
     let lists = sabotage::lists().map(|sabotage| (sabotage, cases.first_random()));
     let mut missed = 0;
-    let all = searches.chain(ticks).chain(readings).chain(conjunctions).chain(padding).chain(lists);
+    let of_files = searches.chain(ticks).chain(groups).chain(readings);
+    let all = of_files.chain(conjunctions).chain(padding).chain(lists);
     for (sabotage, first) in all {
         match caught(sabotage.name, first) {
             Ok(line) => println!("{}: {line}", sabotage.name),

@@ -21,7 +21,7 @@ const NO_EQUAL: &str = "16.1, 17: no node has lo equal to hi";
 const ARRIVED: &str = "16.1, 17: each node is arrived at from the root";
 const WALK: &str = "16.1, 17: nodes stand as a walk, lo before hi and each once, leaves them";
 
-/// Sets of steps on which both verdicts are compared.
+/// Sets of groups on which both verdicts are compared.
 const SETS: usize = 24;
 
 /// Checks a conjunction.
@@ -60,14 +60,14 @@ fn call(made: &Conjoined, want: Answer, answer: Answer, before: &[u8], after: &[
 
 /// The file by its properties, and then byte by byte.
 fn written(found: &Conjunction, file: &[u8]) -> Checked {
-    let steps = found.operands.chart.steps.len();
+    let groups = found.operands.chart.groups();
     let diagram =
-        read_diagram(file, steps).map_err(|fault| format!("\"{FILE}\": it has {fault:?}"))?;
+        read_diagram(file, groups).map_err(|fault| format!("\"{FILE}\": it has {fault:?}"))?;
     is_reduced(&diagram)?;
-    for set in sets(steps, file.len()) {
+    for set in sets(groups, file.len()) {
         let says_yes = verdict(&diagram, &set);
         demand(says_yes == both_say_yes(&found.operands, &set), YES, || {
-            let present: Vec<usize> = (0..steps).filter(|step| set[*step]).collect();
+            let present: Vec<usize> = (0..groups).filter(|group| set[*group]).collect();
             format!("it says {says_yes} to {present:?}")
         })?;
     }
@@ -112,8 +112,8 @@ fn walk(diagram: &Diagram, reference: u16, seen: &mut [bool], left: &mut Vec<u16
     left.push(reference);
 }
 
-/// No step, all steps, and sets of any share of them.
-fn sets(steps: usize, seed: usize) -> impl Iterator<Item = Vec<bool>> {
+/// No group, all groups, and sets of any share of them.
+fn sets(groups: usize, seed: usize) -> impl Iterator<Item = Vec<bool>> {
     let mut random = Random::new(seed as u64);
     (0..SETS).map(move |at| {
         let percent = match at {
@@ -121,6 +121,6 @@ fn sets(steps: usize, seed: usize) -> impl Iterator<Item = Vec<bool>> {
             1 => 100,
             _ => random.between(1, 99),
         };
-        (0..steps).map(|_| random.percent(percent)).collect()
+        (0..groups).map(|_| random.percent(percent)).collect()
     })
 }

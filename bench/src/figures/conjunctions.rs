@@ -174,6 +174,6 @@ impl Conjoining {
 
 /// The fault of the second diagram.
 fn fault_of(case: &Case, more: &[u8]) -> Option<Refusal> {
-    let steps = read_chart(&case.chart).ok()?.steps.len();
-    read_diagram(more, steps).err()
+    let groups = read_chart(&case.chart).ok()?.groups();
+    read_diagram(more, groups).err()
 }

@@ -6,7 +6,7 @@ use std::hash::Hash;
 use crate::check::conjunction::walked;
 use crate::files::{Diagram, Node, Refusal};
 use crate::generate::remarks::count_before;
-use crate::reference::conjunction::{named_steps, Conjoined, Conjunction, STEPS_BY_TRUTH};
+use crate::reference::conjunction::{named_groups, Conjoined, Conjunction, GROUPS_BY_TRUTH};
 
 /// What nodes of a diagram without padding have in common.
 #[derive(Clone, Copy, Debug, Default, PartialEq, Eq)]
@@ -112,7 +112,7 @@ impl Reducing {
             doubles: diagram.nodes.len() - different.len(),
             stray: walked(diagram).len() < diagram.nodes.len(),
             constant: is_constant.then_some(found.reduced.root == 1),
-            by_truth: named_steps(diagram, yes).len() <= STEPS_BY_TRUTH,
+            by_truth: named_groups(diagram, yes).len() <= GROUPS_BY_TRUTH,
             ..Reducing::default()
         }
     }

@@ -4,7 +4,7 @@ use super::charts::parallel;
 use super::{costs, Random};
 use crate::files::{
     chart_head_field, diagram_head_field, node_field, step_field, write_chart, write_diagram,
-    Chart, Diagram, Node, Problem, Step, HEADER, MAX_NODES, MAX_STEPS,
+    Chart, Diagram, Node, Problem, Step, HEADER, MAX_NODES, MAX_STEPS, STEP_KINDS,
 };
 
 /// A chart file and a diagram file.
@@ -50,7 +50,8 @@ fn both_faulty(charts: &[Vec<u8>], diagrams: &[Vec<u8>]) -> Vec<Files> {
 fn numbers_near_limits(problem: &Problem) -> Vec<u16> {
     let mut limits = vec![1, 256, MAX_NODES + 1, MAX_STEPS];
     limits.push(usize::from(problem.chart.stages));
-    limits.push(problem.chart.steps.len());
+    limits.push(problem.chart.groups());
+    limits.extend(problem.chart.steps.iter().filter_map(|step| step.group).map(usize::from));
     limits.extend(problem.chart.steps.iter().map(|step| usize::from(step.from)));
     limits.extend(problem.diagram.nodes.iter().map(|node| usize::from(node.step)));
     limits.extend(2..=problem.diagram.references());
@@ -101,10 +102,11 @@ fn spoiled_lengths(field: &[u8]) -> Fields {
 
 /// Each value of a field set to each number near a limit; a step's cost to those near its own.
 fn spoiled_values(field: &[u8], numbers: &[u16]) -> Fields {
-    let is_step = field[0] == 0x02;
-    let two_byte_end = if is_step { HEADER + 4 } else { field.len() };
-    let mut spoiled: Fields = (HEADER..two_byte_end)
+    let is_step = STEP_KINDS.iter().any(|kind| kind.tag == field[0]);
+    let cost = if is_step { HEADER + 4..HEADER + 8 } else { 0..0 };
+    let mut spoiled: Fields = (HEADER..field.len())
         .step_by(2)
+        .filter(|at| !cost.contains(at))
         .flat_map(|at| numbers.iter().map(move |number| (at, *number)))
         .map(|(at, number)| with_bytes(field, at, &number.to_le_bytes()))
         .collect();
@@ -163,7 +165,7 @@ fn moved_heads(fields: &Fields) -> Vec<Vec<u8>> {
 }
 
 fn trailing_bytes(whole: &[u8]) -> Vec<Vec<u8>> {
-    let ends: [&[u8]; 9] = [
+    let ends: [&[u8]; 12] = [
         &[0],
         &[0x02],
         &[0x12, 6],
@@ -173,6 +175,9 @@ fn trailing_bytes(whole: &[u8]) -> Vec<Vec<u8>> {
         &[0, 0, 0],
         &[0x80, 0, 0],
         &[0x02, 8, 0, 0],
+        &[0x03],
+        &[0x03, 10, 0],
+        &[0x03, 10, 0, 0],
     ];
     ends.iter().map(|end| [whole, end].concat()).collect()
 }
@@ -230,7 +235,7 @@ fn endings(good: &[u8], head_tag: u8) -> Fields {
 
 fn step_limits() -> Vec<Files> {
     let yes = write_diagram(&Diagram::YES);
-    let step = Step { from: 0, to: 1, cost: 5 };
+    let step = Step::new(0, 1, 5);
     let mut files = Vec::new();
     for count in [MAX_STEPS - 1, MAX_STEPS, MAX_STEPS + 1] {
         let chart = Chart { stages: 2, start: 0, end: 1, steps: vec![step; count] };
@@ -287,7 +292,7 @@ pub fn damaged(random: &mut Random, file: &[u8]) -> Vec<u8> {
 /// Random bytes, often beginning as a field does.
 pub fn noise(random: &mut Random, length: usize) -> Vec<u8> {
     let mut bytes: Vec<u8> = (0..random.between(0, length)).map(|_| random.word() as u8).collect();
-    let header = [random.pick(&TAGS), random.pick(&[0, 2, 6, 8, 255]), random.pick(&[0, 0, 1])];
+    let header = [random.pick(&TAGS), random.pick(&[0, 2, 6, 8, 10, 255]), random.pick(&[0, 0, 1])];
     if random.percent(80) {
         for (byte, wanted) in bytes.iter_mut().zip(header) {
             *byte = wanted;

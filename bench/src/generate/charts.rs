@@ -1,7 +1,7 @@
 //! Random charts within the limits.
 
 use super::costs::{near_ticks, of_some_ticks, of_ticks, MOST_TICKS, SOUND};
-use super::Random;
+use super::{groups, Random};
 use crate::files::{Chart, Step, MAX_COST};
 
 /// Which costs the steps have.
@@ -84,10 +84,8 @@ impl Shape {
         froms.sort_unstable();
         let steps = froms
             .into_iter()
-            .map(|from| Step {
-                from: from as u16,
-                to: self.to(random, from) as u16,
-                cost: self.cost(random, equal),
+            .map(|from| {
+                Step::new(from as u16, self.to(random, from) as u16, self.cost(random, equal))
             })
             .collect();
         Chart { stages: self.stages as u16, start, end, steps }
@@ -150,12 +148,18 @@ impl Shape {
 /// So many steps from one stage to another; without steps there is one stage.
 pub fn parallel(steps: usize) -> Chart {
     let stages = if steps == 0 { 1 } else { 2 };
-    let step = Step { from: 0, to: 1, cost: 7 };
+    let step = Step::new(0, 1, 7);
     Chart { stages, start: 0, end: stages - 1, steps: vec![step; steps] }
 }
 
-/// A random chart of up to that many stages and steps.
+/// A random chart of up to that many stages and steps, now and then with groups.
 pub fn random_chart(random: &mut Random, stages: usize, steps: usize) -> Chart {
+    let chart = random_chart_without_groups(random, stages, steps);
+    groups::maybe(random, chart)
+}
+
+/// The same without groups.
+pub fn random_chart_without_groups(random: &mut Random, stages: usize, steps: usize) -> Chart {
     Shape::random(random, stages, steps).chart(random)
 }
 
@@ -166,14 +170,14 @@ pub fn long_steps(random: &mut Random, stages: usize, steps: usize) -> Chart {
     let mut all: Vec<Step> = (0..last)
         .map(|from| {
             let cost = random.between(100, 1_000) as u32;
-            Step { from: from as u16, to: from as u16 + 1, cost }
+            Step::new(from as u16, from as u16 + 1, cost)
         })
         .collect();
     while all.len() < steps {
         let from = random.below(last);
         let to = random.between(from + 1, last.min(from + 40));
         let cost = random.between(0, 400 * (to - from)) as u32;
-        all.push(Step { from: from as u16, to: to as u16, cost });
+        all.push(Step::new(from as u16, to as u16, cost));
     }
     all.sort_by_key(|step| step.from);
     Chart { stages: stages as u16, start: 0, end: last as u16, steps: all }

@@ -89,7 +89,7 @@ fn linked(
 }
 
 fn to_next(from: u16, cost: u32) -> Step {
-    Step { from, to: from + 1, cost }
+    Step::new(from, from + 1, cost)
 }
 
 /// The largest cost everywhere, and at the end stage a root that wants all of many parallel steps: its
@@ -199,12 +199,12 @@ fn fan_chart(random: &mut Random, size: Size, parallel: usize, fan: Fan) -> Char
     let mut cost = |most: usize| random.between(0, most) as u32;
     let mut steps = Vec::new();
     if fan.direct {
-        steps.push(Step { from: 0, to: last, cost: MAX_COST });
+        steps.push(Step::new(0, last, MAX_COST));
     }
     steps.extend((0..parallel).map(|_| to_next(0, cost(first))));
     if fan.star {
-        steps.extend((2..last).map(|to| Step { from: 1, to, cost: cost(most) }));
-        steps.extend((2..last - 1).map(|from| Step { from, to: last, cost: cost(most) }));
+        steps.extend((2..last).map(|to| Step::new(1, to, cost(most))));
+        steps.extend((2..last - 1).map(|from| Step::new(from, last, cost(most))));
     } else {
         let links = (1..last - 1).flat_map(|from| [from, from]);
         steps.extend(links.map(|from| to_next(from, cost(most))));

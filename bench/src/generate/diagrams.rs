@@ -1,7 +1,7 @@
-//! Random diagrams within the limits over a chart's steps.
+//! Random diagrams within the limits over a chart's groups.
 
 use super::rules::{diagram_of, AllOf, AtMost, Both, ExactlyOne, Modulo, Needs, Rule};
-use super::Random;
+use super::{groups, Random};
 use crate::files::{is_padding, Chart, Diagram, Node};
 
 /// Whether nodes may have equal children or be alike.
@@ -29,11 +29,12 @@ pub fn random_diagram(random: &mut Random, chart: &Chart, nodes: usize) -> Diagr
 
 /// The same in which padding may come.
 pub fn drawn(random: &mut Random, chart: &Chart, nodes: usize, padding: Padding) -> Diagram {
-    let steps = chart.steps.len();
+    let named = groups::named(random, chart);
+    let steps = named.len();
     if steps == 0 || nodes == 0 {
         return constant(random);
     }
-    match random.below(8) {
+    let diagram = match random.below(8) {
         0 => constant(random),
         1 | 2 => scattered(random, steps, nodes, padding),
         3 => layered(random, steps, nodes, padding),
@@ -44,7 +45,8 @@ pub fn drawn(random: &mut Random, chart: &Chart, nodes: usize, padding: Padding)
                 _ => scattered(random, steps, nodes, padding),
             }
         }
-    }
+    };
+    groups::renamed(&diagram, &named)
 }
 
 /// Without inner nodes, mostly "yes".

@@ -15,7 +15,7 @@ pub fn load(word: u32, stages: u32) -> Result<Chart, u32> {
         .map(|i| {
             draw = xorshift(draw);
             let from = (i * (stages as usize - 1) / MAX_STEPS) as u16;
-            Step { from, to: from + 1, cost: draw % 1_001 }
+            Step::new(from, from + 1, draw % 1_001)
         })
         .collect();
     Ok(Chart { stages: stages as u16, start: 0, end: stages as u16 - 1, steps })

@@ -1,9 +1,9 @@
 //! Sound files spoiled at any place: bits and bytes, cuts, lengths, tags, numbers near limits, and
 //! whole fields doubled, exchanged, moved, left out or taken from another file, remarks, steps with
-//! faults in their values, and nodes that become padding.
+//! faults in their values or of other groups, and nodes that become padding.
 
 use super::broken::TAGS;
-use super::{costs, nodes, remarks, steps, Random};
+use super::{costs, groups, nodes, remarks, steps, Random};
 use crate::files::{two_bytes, HEADER};
 
 /// Numbers that limits speak of, and their neighbours.
@@ -27,7 +27,7 @@ fn mutate(random: &mut Random, bytes: &mut Vec<u8>, other: &[u8]) {
         bytes.extend(&other[..random.between(0, other.len())]);
         return;
     }
-    match random.below(15) {
+    match random.below(16) {
         0 | 1 => flip(random, bytes),
         2 => cut(random, bytes),
         3..=5 => change_number(random, bytes),
@@ -36,6 +36,7 @@ fn mutate(random: &mut Random, bytes: &mut Vec<u8>, other: &[u8]) {
         8 | 9 => remarks::mutate(random, bytes),
         10 if steps::spoil(random, bytes, 3) => {}
         11 if nodes::spoil(random, bytes) => {}
+        12 if groups::mutate(random, bytes) => {}
         _ => move_fields(random, bytes, other),
     }
 }
@@ -68,9 +69,9 @@ fn change_number(random: &mut Random, bytes: &mut [u8]) {
         return;
     }
     let at = HEADER + 2 * random.below((body.len() - HEADER) / 2);
-    if at == HEADER + 4 && body.len() == HEADER + 8 {
+    if at == HEADER + 4 && matches!(body.len() - HEADER, 8 | 10) {
         let costs = random.pick(&[&costs::SOUND[..], &costs::DEAR]);
-        body[at..].copy_from_slice(&random.pick(costs).to_le_bytes());
+        body[at..at + 4].copy_from_slice(&random.pick(costs).to_le_bytes());
         return;
     }
     let known = two_bytes(body, at);

@@ -276,13 +276,13 @@ pub fn any(random: &mut Random) -> Operands {
     let second = match random.below(10) {
         0 => first.clone(),
         1 => complement(&first),
-        2 => rearranged(random, &first, chart.steps.len(), nodes),
-        3 => rearranged(random, &complement(&first), chart.steps.len(), nodes),
+        2 => rearranged(random, &first, chart.groups(), nodes),
+        3 => rearranged(random, &complement(&first), chart.groups(), nodes),
         _ => random_diagram(random, &chart, nodes),
     };
     let mut operands = Operands { chart, first, second };
     if random.percent(30) {
-        operands.first = rearranged(random, &operands.first, operands.chart.steps.len(), nodes);
+        operands.first = rearranged(random, &operands.first, operands.chart.groups(), nodes);
     }
     in_any_order(random, operands)
 }
@@ -291,7 +291,7 @@ pub fn any(random: &mut Random) -> Operands {
 pub fn any_with_padding(random: &mut Random) -> Operands {
     let (stages, steps, nodes) = drawn_size(random);
     let chart = random_chart(random, stages, steps);
-    let steps = chart.steps.len();
+    let steps = chart.groups();
     let sound = random_diagram(random, &chart, nodes);
     let first = padded::padded(random, &sound, steps, nodes);
     let second = match random.below(10) {

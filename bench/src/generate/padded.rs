@@ -190,7 +190,7 @@ pub fn systematic(random: &mut Random) -> Vec<Problem> {
 /// Rules about steps that no way from the start takes; sets with them count as well.
 fn before_the_start() -> Vec<Problem> {
     let ends = [(0, 1), (0, 2), (1, 2), (1, 2)];
-    let steps = ends.map(|(from, to)| Step { from, to, cost: 5 }).to_vec();
+    let steps = ends.map(|(from, to)| Step::new(from, to, 5)).to_vec();
     let chart = Chart { stages: 3, start: 1, end: 2, steps };
     let test = |step: u16, hi: u16| Node { step, lo: 1 - hi.min(1), hi };
     let nodes = [
@@ -268,7 +268,7 @@ pub fn named() -> Vec<(&'static str, Problem)> {
     let over = |chart: Chart, diagram: Diagram| Problem { chart, diagram };
     let whole = |diagram: Diagram| over(parallel(MAX_STEPS), diagram);
     let Problem { chart, diagram } = example_problem();
-    let example = padded(&mut Random::new(14), &diagram, chart.steps.len(), 8);
+    let example = padded(&mut Random::new(14), &diagram, chart.groups(), 8);
     let leaf = Node { step: LAST, lo: 0, hi: 1 };
     vec![
         ("example, padded", over(chart, example)),
@@ -294,7 +294,7 @@ pub fn any(random: &mut Random) -> Problem {
 
 /// The same over a given chart.
 pub fn over_chart(random: &mut Random, chart: &Chart, nodes: usize) -> Diagram {
-    let steps = chart.steps.len();
+    let steps = chart.groups();
     match random.below(10) {
         0..=2 => drawn(random, chart, nodes, Padding::With),
         3..=5 => {

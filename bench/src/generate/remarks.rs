@@ -35,7 +35,7 @@ fn remark(random: &mut Random) -> Vec<u8> {
 /// What a remark says: one byte again and again, any bytes, or what looks like steps and nodes.
 fn content(random: &mut Random, length: usize) -> Vec<u8> {
     let looks_like = match random.below(4) {
-        0 => step_field(Step { from: 0, to: 1, cost: 5 }),
+        0 => step_field(Step::new(0, 1, 5)),
         1 => node_field(Node { step: 0, lo: 0, hi: 1 }),
         2 => random.word().to_le_bytes().to_vec(),
         _ => vec![random.word() as u8],

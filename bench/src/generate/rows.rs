@@ -92,7 +92,7 @@ impl Route {
             let parallel = if link == self.fan { FAN } else { 1 };
             for at in 0..parallel {
                 let to = if self.stray && at == FAN - 1 { ends[0] + 1 } else { ends[1] };
-                steps.push(Step { from: ends[0], to, cost: cost(steps.len() as u32) });
+                steps.push(Step::new(ends[0], to, cost(steps.len() as u32)));
             }
         }
         steps

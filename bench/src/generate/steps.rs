@@ -1,23 +1,22 @@
 //! Steps whose values are at fault: each fault, all of them together in every way, with a fault of the
 //! field itself, and with other fields at fault behind them.
 
+use std::ops::Range;
+
 use super::broken::{spoiled_fields, Fields, Files};
 use super::costs::DEAR;
 use super::mutate::fields;
-use super::Random;
+use super::{groups, Random};
 use crate::files::{
     claiming, step_field, step_of, two_bytes, write_chart, write_diagram, Chart, Diagram, Step,
-    HEADER, LONGEST_FILE, MAX_COST, MAX_STEPS, STEP,
+    HEADER, LONGEST_FILE, MAX_COST, MAX_STEPS, STEP, STEP_KINDS,
 };
 
 const WRONG_TAGS: [u8; 4] = [0x01, 0x03, 0x12, 0x7f];
 const WRONG_LENGTHS: [u16; 6] = [0, 7, 9, 10, 256 + 8, u16::MAX];
-/// Bytes of a step field.
-pub const WHOLE: usize = HEADER + STEP.length;
-
 /// The stage count of the systematic charts, and the step of which they have so many.
 const STAGES: u16 = 5;
-const BEFORE: Step = Step { from: 2, to: 3, cost: 5 };
+const BEFORE: Step = Step::new(2, 3, 5);
 
 /// Charts with a last step of any values, the 1,024th and the 1,025th too; and such steps with faults
 /// of their field, of what follows and of the diagram.
@@ -51,8 +50,7 @@ pub fn systematic() -> Vec<Files> {
 
 fn each_step(froms: &[u16], tos: &[u16], costs: &[u32]) -> Vec<Step> {
     let ends = froms.iter().flat_map(|from| tos.iter().map(move |to| (*from, *to)));
-    ends.flat_map(|(from, to)| costs.iter().map(move |cost| Step { from, to, cost: *cost }))
-        .collect()
+    ends.flat_map(|(from, to)| costs.iter().map(move |cost| Step::new(from, to, *cost))).collect()
 }
 
 /// Charts that have so many steps and then the bytes made of one step more.
@@ -65,7 +63,7 @@ fn behind(count: usize, steps: &[Step], made: impl Fn(Vec<u8>) -> Fields) -> Vec
 
 /// A step with one more field behind it, sound or at fault.
 fn followed(step: Vec<u8>) -> Fields {
-    let bad = |from: u16, to: u16, cost: u32| step_field(Step { from, to, cost });
+    let bad = |from: u16, to: u16, cost: u32| step_field(Step::new(from, to, cost));
     let fields = [
         step_field(BEFORE),
         bad(4, 4, 5),
@@ -74,13 +72,18 @@ fn followed(step: Vec<u8>) -> Fields {
         bad(3, 4, MAX_COST + 1),
         vec![0x7f, 0, 0],
         vec![STEP.tag, 7, 0],
-        step_field(BEFORE)[..WHOLE - 1].to_vec(),
+        without_last_byte(step_field(BEFORE)),
     ];
     fields.map(|field| [&step[..], &field].concat()).into()
 }
 
+pub(super) fn without_last_byte(mut field: Vec<u8>) -> Vec<u8> {
+    field.pop();
+    field
+}
+
 /// A diagram without nodes.
-fn with_root(root: u16) -> Vec<u8> {
+pub(super) fn with_root(root: u16) -> Vec<u8> {
     write_diagram(&Diagram { root, nodes: Vec::new() })
 }
 
@@ -88,63 +91,80 @@ fn with_root(root: u16) -> Vec<u8> {
 /// its field too now and then; says whether there is a step.
 pub fn spoil(random: &mut Random, chart: &mut Vec<u8>, surplus: usize) -> bool {
     let mut places = step_places(chart);
-    let Some(last) = places.last().copied() else { return false };
+    let Some(last) = places.last().cloned() else { return false };
     let is_surplus = random.percent(surplus);
     if is_surplus {
         let wanted = random.pick(&[1_024, 1_025, 1_025, 1_025, 1_026]);
-        let more = chart[last..last + WHOLE].repeat(wanted - places.len().min(wanted));
-        chart.splice(last..last, more);
+        let more = chart[last.clone()].repeat(wanted - places.len().min(wanted));
+        chart.splice(last.start..last.start, more);
         places = step_places(chart);
     }
     let at = if is_surplus { places.len() - 1 } else { random.below(places.len()) };
     if !is_surplus || random.percent(85) {
         spoil_values(random, chart, &places, at);
     }
-    if random.percent(12) {
-        spoil_field(random, chart, places[at]);
+    if random.percent(if is_surplus { 30 } else { 12 }) {
+        spoil_field(random, chart, places[at].clone());
     }
     true
 }
 
-/// Where the whole step fields stand behind the head.
-pub fn step_places(chart: &[u8]) -> Vec<usize> {
-    let header = claiming(STEP.tag, STEP.length, &[]);
-    let is_step =
-        |(from, to): &(usize, usize)| to - from == WHOLE && chart[*from..].starts_with(&header);
-    fields(chart).into_iter().skip(1).filter(is_step).map(|(from, _)| from).collect()
+/// The whole step fields behind the head, of either kind.
+pub fn step_places(chart: &[u8]) -> Vec<Range<usize>> {
+    let headers = STEP_KINDS.map(|kind| claiming(kind.tag, kind.length, &[]));
+    let is_step = |place: &Range<usize>| {
+        let field = &chart[place.clone()];
+        headers.iter().any(|header| field.starts_with(header) && field.len() == whole(header))
+    };
+    let places = fields(chart).into_iter().skip(1).map(|(from, to)| from..to);
+    places.filter(is_step).collect()
 }
 
-/// The costs of these steps as the file has them.
+/// The bytes of a field by its header.
+fn whole(header: &[u8]) -> usize {
+    HEADER + usize::from(two_bytes(header, 1))
+}
+
+/// The values of these steps as the file has them.
+pub fn file_steps(chart: &[u8]) -> Vec<Step> {
+    step_places(chart).into_iter().map(|place| step_of(&chart[place][HEADER..])).collect()
+}
+
+/// Their costs.
 pub fn file_costs(chart: &[u8]) -> Vec<u32> {
-    let bodies = step_places(chart).into_iter().map(|place| &chart[place + HEADER..place + WHOLE]);
-    bodies.map(|body| step_of(body).cost).collect()
+    file_steps(chart).iter().map(|step| step.cost).collect()
 }
 
-/// Gives a step that was sound one to three faults.
-fn spoil_values(random: &mut Random, chart: &mut [u8], places: &[usize], at: usize) {
+/// Gives a step that was sound one or several faults.
+fn spoil_values(random: &mut Random, chart: &mut [u8], places: &[Range<usize>], at: usize) {
     let stages = two_bytes(chart, HEADER);
     let before = match at {
-        0 => 0,
-        _ => two_bytes(chart, places[at - 1] + HEADER),
+        0 => Step::new(0, 0, 0),
+        _ => step_of(&chart[places[at - 1].clone()][HEADER..]),
     };
-    let body = places[at] + HEADER..places[at] + WHOLE;
+    let body = places[at].start + HEADER..places[at].end;
     let mut step = step_of(&chart[body.clone()]);
-    // No from falls below 0.
-    let [falls, has_bad_ends, is_dear] = match before {
-        0 => random.pick(&[[false, true, false], [false, false, true], [false, true, true]]),
-        _ => {
-            let which = random.between(1, 7);
-            [1, 2, 4].map(|fault| which & fault != 0)
+    // No from falls below 0, and not every step has a group.
+    let possible = [before.from > 0, true, true, step.group.is_some()];
+    let [falls, has_bad_ends, is_dear, has_bad_group] = loop {
+        let which = random.between(1, 15);
+        let mut faults = [0, 1, 2, 3].map(|bit| which >> bit & 1 == 1);
+        faults.iter_mut().zip(possible).for_each(|(fault, possible)| *fault &= possible);
+        if faults.contains(&true) {
+            break faults;
         }
     };
     if falls {
-        step.from = random.below(before.into()) as u16;
+        step.from = random.below(before.from.into()) as u16;
     }
     if has_bad_ends {
         step.to = bad_to(random, step, stages);
     }
     if is_dear {
         step.cost = random.pick(&DEAR);
+    }
+    if has_bad_group {
+        step.group = Some(groups::bad(random, before.group.unwrap_or(0)));
     }
     chart[body].copy_from_slice(&step_field(step)[HEADER..]);
 }
@@ -161,12 +181,17 @@ fn bad_to(random: &mut Random, step: Step, stages: u16) -> u16 {
     }
 }
 
-/// A wrong length, or a cut.
-fn spoil_field(random: &mut Random, chart: &mut Vec<u8>, place: usize) {
-    if random.percent(50) {
-        chart.truncate(place + random.between(1, WHOLE - 1));
-        return;
+/// A wrong length, a cut, or the other kind of step.
+fn spoil_field(random: &mut Random, chart: &mut Vec<u8>, place: Range<usize>) {
+    match random.below(5) {
+        0 | 1 => chart.truncate(place.start + random.between(1, place.len() - 1)),
+        2 => {
+            let other = groups::other_kind(random, &chart[place.clone()]);
+            chart.splice(place, other);
+        }
+        _ => {
+            let length = random.pick(&WRONG_LENGTHS).to_le_bytes();
+            chart[place.start + 1..place.start + HEADER].copy_from_slice(&length);
+        }
     }
-    let length = random.pick(&WRONG_LENGTHS);
-    chart[place + 1..place + HEADER].copy_from_slice(&length.to_le_bytes());
 }

@@ -51,7 +51,7 @@ fn single_steps() -> Vec<Problem> {
 }
 
 fn step(from: usize, to: usize, cost: u32) -> Step {
-    Step { from: from as u16, to: to as u16, cost }
+    Step::new(from as u16, to as u16, cost)
 }
 
 /// Two routes that cost about the same, rounded or not.

@@ -1,5 +1,5 @@
 //! The conjunction of two diagrams as the reduced diagram in walk order, by two methods that share
-//! nothing: by the truth of every set of the steps that they name, and by the product of both.
+//! nothing: by the truth of every set of the groups that they name, and by the product of both.
 
 use std::collections::{BTreeMap, BTreeSet, HashMap};
 
@@ -10,8 +10,8 @@ use crate::files::{
 };
 use crate::planner::Answer;
 
-/// By truth where both diagrams name no more steps than this.
-pub const STEPS_BY_TRUTH: usize = 12;
+/// By truth where both diagrams name no more groups than this.
+pub const GROUPS_BY_TRUTH: usize = 12;
 
 /// All three files judged: the conjunction, or the first fault.
 pub type Conjoined = Result<Conjunction, Refusal>;
@@ -100,37 +100,37 @@ impl Reduced {
     }
 }
 
-/// The steps that either diagram names, rising.
-pub fn named_steps(first: &Diagram, second: &Diagram) -> Vec<u16> {
+/// The groups that either diagram names, rising, those without steps too.
+pub fn named_groups(first: &Diagram, second: &Diagram) -> Vec<u16> {
     let nodes = first.nodes.iter().chain(&second.nodes);
     nodes.map(|node| node.step).collect::<BTreeSet<u16>>().into_iter().collect()
 }
 
-/// Whether both diagrams say yes to a set of steps.
+/// Whether both diagrams say yes to a set of groups.
 pub fn both_say_yes(operands: &Operands, present: &[bool]) -> bool {
     verdict(&operands.first, present) && verdict(&operands.second, present)
 }
 
-/// The reduced diagram by the verdicts on every set of the named steps; none where these are too many.
+/// The reduced diagram by the verdicts on every set of the named groups; none where these are too many.
 pub fn by_truth(operands: &Operands) -> Option<Reduced> {
-    let steps = named_steps(&operands.first, &operands.second);
-    if steps.len() > STEPS_BY_TRUTH {
+    let groups = named_groups(&operands.first, &operands.second);
+    if groups.len() > GROUPS_BY_TRUTH {
         return None;
     }
-    let sets = sets_of(operands.chart.steps.len(), &steps);
+    let sets = sets_of(operands.chart.groups(), &groups);
     let row: Vec<bool> = sets.map(|set| both_say_yes(operands, &set)).collect();
-    let mut tree = Tree { steps: &steps, references: HashMap::new(), nodes: Vec::new() };
+    let mut tree = Tree { groups: &groups, references: HashMap::new(), nodes: Vec::new() };
     let root = tree.leave(&row);
     Some(Reduced { root, nodes: tree.nodes })
 }
 
-/// Every set of some of a chart's steps, as one flag for each of all. The first of some is the highest
+/// Every set of some of a chart's groups, as one flag for each of all. The first of some is the highest
 /// bit of a set's number, so that its lo is the first half of a row.
 pub fn sets_of(all: usize, some: &[u16]) -> impl Iterator<Item = Vec<bool>> + '_ {
     (0..1_usize << some.len()).map(move |set| {
         let mut present = vec![false; all];
-        for (at, step) in some.iter().rev().enumerate() {
-            present[usize::from(*step)] = set >> at & 1 == 1;
+        for (at, group) in some.iter().rev().enumerate() {
+            present[usize::from(*group)] = set >> at & 1 == 1;
         }
         present
     })
@@ -138,7 +138,7 @@ pub fn sets_of(all: usize, some: &[u16]) -> impl Iterator<Item = Vec<bool>> + '_
 
 /// A decision tree whose subtrees are their rows of verdicts: equal rows are one node.
 struct Tree<'a> {
-    steps: &'a [u16],
+    groups: &'a [u16],
     references: HashMap<&'a [bool], usize>,
     nodes: Vec<ReducedNode>,
 }
@@ -155,8 +155,8 @@ impl<'a> Tree<'a> {
         }
         let (lo, hi) = row.split_at(row.len() / 2);
         let (lo, hi) = (self.leave(lo), self.leave(hi));
-        let steps_left = row.len().trailing_zeros() as usize;
-        let step = self.steps[self.steps.len() - steps_left];
+        let left = row.len().trailing_zeros() as usize;
+        let step = self.groups[self.groups.len() - left];
         self.nodes.push(ReducedNode { step, lo, hi });
         self.references.insert(row, self.nodes.len() + 1);
         self.nodes.len() + 1
@@ -175,7 +175,7 @@ fn from_first_test(mut row: &[bool]) -> &[bool] {
     row
 }
 
-/// The reduced diagram by the product: its pairs in classes of the same meaning, from the last step
+/// The reduced diagram by the product: its pairs in classes of the same meaning, from the last group
 /// back, and then the classes numbered by a walk.
 fn by_product(operands: &Operands) -> (Reduced, Extent) {
     let product = Product { first: &operands.first, second: &operands.second };

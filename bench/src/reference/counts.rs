@@ -24,6 +24,13 @@ impl Facts {
         (below + chain, below + others + 1)
     }
 
+    /// The pairs that have to be settled: those with a sum below the plan's cost, without a plan all with a
+    /// sum.
+    pub fn must_be_settled(&self) -> usize {
+        let below = |sum: &u32| self.cheapest.is_none_or(|plan| *sum < plan.cost);
+        self.sums().flatten().filter(below).count()
+    }
+
     fn sums(&self) -> impl Iterator<Item = Option<u32>> + '_ {
         (0..self.least.len()).map(|pair| self.sum(pair))
     }

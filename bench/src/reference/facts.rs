@@ -65,8 +65,13 @@ impl Facts {
         let mut facts = Facts::blank(problem);
         facts.relax_steps();
         facts.relax_estimates();
-        facts.diagram_estimate = node_estimates(problem);
+        facts.diagram_estimate = node_estimates(problem, &problem.chart.group_costs());
         facts
+    }
+
+    /// The same with diagram estimates by other costs of groups.
+    pub fn with_group_costs(&self, costs: &[Option<u32>]) -> Facts {
+        Facts { diagram_estimate: node_estimates(&self.problem, costs), ..self.clone() }
     }
 
     fn blank(problem: &Problem) -> Facts {
@@ -83,14 +88,14 @@ impl Facts {
         }
     }
 
-    /// Least costs from all ways from the start; the cheapest plan by the verdict on its set of steps.
+    /// Least costs from all ways from the start; the cheapest plan by the verdict on its set of groups.
     fn enumerate_from_start(&mut self, limit: usize) -> Option<()> {
         let Problem { chart, diagram } = &self.problem;
         let references = diagram.references();
         let (least, cheapest) = (&mut self.least, &mut self.cheapest);
         let whole = each_way(chart, chart.start, limit, &mut |way| {
             let cost = cost_of(chart, way.steps);
-            let node = usize::from(stands_at(diagram, way.steps));
+            let node = usize::from(stands_at(diagram, &chart.groups_of(way.steps)));
             if node != 0 {
                 let known = &mut least[usize::from(way.leads_to) * references + node];
                 *known = Some(known.map_or(cost, |before| before.min(cost)));
@@ -130,9 +135,10 @@ impl Facts {
             best[start] = Some(Cheapest { cost: 0, lengths: (0, 0) });
         }
         for (number, step) in chart.steps.iter().enumerate() {
+            let group = chart.group(number as u16);
             for node in 1..references {
                 let Some(from) = best[usize::from(step.from) * references + node] else { continue };
-                let next = usize::from(advance(diagram, node as u16, number as u16));
+                let next = usize::from(advance(diagram, node as u16, group));
                 if next == 0 {
                     continue;
                 }
@@ -203,7 +209,8 @@ impl Facts {
             chart.steps[first..].iter().take_while(|step| usize::from(step.from) == stage);
         leaving
             .enumerate()
-            .map(|(i, step)| (step, usize::from(advance(diagram, node, (first + i) as u16))))
+            .map(|(at, step)| (step, chart.group((first + at) as u16)))
+            .map(|(step, group)| (step, usize::from(advance(diagram, node, group))))
             .filter(|(_, next)| *next != 0)
             .map(|(step, next)| (usize::from(step.to) * references + next, step.cost))
             .collect()
@@ -217,24 +224,29 @@ impl Facts {
     }
 }
 
-/// The diagram estimate, by walking every path below the node.
+/// The diagram estimate, by walking every path below the node, with each step of its group where it is
+/// taken.
 fn cheapest_yes(problem: &Problem, reference: u16) -> Option<u32> {
     match problem.diagram.inner(reference) {
         None => (reference == 1).then_some(0),
-        Some(Node { step, lo, hi }) => {
-            let cost = problem.chart.steps[usize::from(step)].cost;
-            let taken = cheapest_yes(problem, hi).map(|rest| rest + cost);
-            smaller(cheapest_yes(problem, lo), taken)
+        Some(Node { step: group, lo, hi }) => {
+            let steps = (0..).zip(&problem.chart.steps);
+            let of_group = steps.filter(|(number, _)| problem.chart.group(*number) == group);
+            let costs = of_group.map(|(_, step)| step.cost);
+            let taken = costs.filter_map(|cost| Some(cheapest_yes(problem, hi)? + cost));
+            smaller(cheapest_yes(problem, lo), taken.min())
         }
     }
 }
 
-/// The diagram estimates in the order of the references: children come before their node.
-fn node_estimates(problem: &Problem) -> Vec<Option<u32>> {
+/// The diagram estimates by the cost of each group, in the order of the references: children come before
+/// their node.
+fn node_estimates(problem: &Problem, costs: &[Option<u32>]) -> Vec<Option<u32>> {
     let mut estimates = vec![None, Some(0)];
     for node in &problem.diagram.nodes {
-        let cost = problem.chart.steps[usize::from(node.step)].cost;
-        let taken = estimates[usize::from(node.hi)].map(|rest: u32| rest + cost);
+        // A group without steps is never taken.
+        let cost = costs.get(usize::from(node.step)).copied().flatten();
+        let taken = estimates[usize::from(node.hi)].zip(cost).map(|(rest, cost)| rest + cost);
         let found = smaller(estimates[usize::from(node.lo)], taken);
         estimates.push(found);
     }

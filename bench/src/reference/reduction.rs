@@ -2,7 +2,7 @@
 //! both methods of that.
 
 use super::conjunction::{
-    conjunction_answer, named_steps, sets_of, Conjoined, Conjunction, STEPS_BY_TRUTH,
+    conjunction_answer, named_groups, sets_of, Conjoined, Conjunction, GROUPS_BY_TRUTH,
 };
 use super::rules::verdict;
 use crate::files::{read_padded, Diagram, Operands, Problem};
@@ -23,10 +23,10 @@ pub fn reduction_answer(reduced: &Conjoined, file: usize) -> Answer {
     conjunction_answer(reduced, usize::MAX, file)
 }
 
-/// Whether two diagrams over one chart say yes to the same sets, by a look at every set of the steps that
-/// they name; none where these are too many.
-pub fn say_the_same(steps: usize, first: &Diagram, second: &Diagram) -> Option<bool> {
-    let named = named_steps(first, second);
+/// Whether two diagrams over one chart say yes to the same sets, by a look at every set of the groups
+/// that they name; none where these are too many.
+pub fn say_the_same(groups: usize, first: &Diagram, second: &Diagram) -> Option<bool> {
+    let named = named_groups(first, second);
     let agree = |set: Vec<bool>| verdict(first, &set) == verdict(second, &set);
-    (named.len() <= STEPS_BY_TRUTH).then(|| sets_of(steps, &named).all(agree))
+    (named.len() <= GROUPS_BY_TRUTH).then(|| sets_of(groups, &named).all(agree))
 }

@@ -1,8 +1,8 @@
-//! What a diagram says: the verdict on a set of steps, advancing, finishing.
+//! What a diagram says: the verdict on a set of groups, advancing, finishing.
 
 use crate::files::Diagram;
 
-/// Whether the diagram says yes to a set of steps, given as one flag for each step.
+/// Whether the diagram says yes to a set of groups, given as one flag for each group.
 pub fn verdict(diagram: &Diagram, present: &[bool]) -> bool {
     let mut reference = diagram.root;
     while let Some(node) = diagram.inner(reference) {
@@ -11,12 +11,13 @@ pub fn verdict(diagram: &Diagram, present: &[bool]) -> bool {
     reference == 1
 }
 
-/// The node got by advancing `reference` by one step.
-pub fn advance(diagram: &Diagram, reference: u16, step: u16) -> u16 {
+/// The node got by advancing `reference` by the group of one step. The group may come again: the node is
+/// then of a later one and stays.
+pub fn advance(diagram: &Diagram, reference: u16, group: u16) -> u16 {
     let mut at = reference;
     while let Some(node) = diagram.inner(at) {
-        if node.step >= step {
-            return if node.step == step { node.hi } else { at };
+        if node.step >= group {
+            return if node.step == group { node.hi } else { at };
         }
         at = node.lo;
     }
@@ -32,7 +33,7 @@ pub fn finish(diagram: &Diagram, reference: u16) -> u16 {
     at
 }
 
-/// The node at which a way from the start stands.
-pub fn stands_at(diagram: &Diagram, way: &[u16]) -> u16 {
-    way.iter().fold(diagram.root, |node, step| advance(diagram, node, *step))
+/// The node at which a way from the start stands, by the groups of its steps in turn.
+pub fn stands_at(diagram: &Diagram, groups: &[u16]) -> u16 {
+    groups.iter().fold(diagram.root, |node, group| advance(diagram, node, *group))
 }

@@ -49,11 +49,11 @@ pub fn cost_of(chart: &Chart, steps: &[u16]) -> u32 {
     steps.iter().map(|step| chart.steps[usize::from(*step)].cost).sum()
 }
 
-/// One flag for each step of the chart: whether it is in the list.
+/// One flag for each group of the chart: whether a step of it is in the list.
 pub fn set_of(chart: &Chart, steps: &[u16]) -> Vec<bool> {
-    let mut present = vec![false; chart.steps.len()];
+    let mut present = vec![false; chart.groups()];
     for step in steps {
-        present[usize::from(*step)] = true;
+        present[usize::from(chart.group(*step))] = true;
     }
     present
 }

@@ -230,8 +230,8 @@ fn as_file_2(files: Three) -> Result<Operands, Refusal> {
 
 /// The fault of the second diagram, if the chart has none.
 fn fault_of_more([chart, _, more]: Three) -> Option<Refusal> {
-    let steps = read_chart(chart).ok()?.steps.len();
-    read_diagram(more, steps).err().map(|fault| Refusal { file: MORE_FILE, ..fault })
+    let groups = read_chart(chart).ok()?.groups();
+    read_diagram(more, groups).err().map(|fault| Refusal { file: MORE_FILE, ..fault })
 }
 
 fn more_first(files: Three) -> Result<Operands, Refusal> {
@@ -270,7 +270,7 @@ fn cut_more([chart, rules, more]: Three) -> Result<Operands, Refusal> {
     (SOUND.read)([chart, rules, &more[..more.len().min(LONGEST_FILE)]])
 }
 
-/// Nodes of file 3 may name the step behind the last.
+/// Nodes of file 3 may name the group behind the last.
 fn one_step_more(files: Three) -> Result<Operands, Refusal> {
     let [chart, rules, more] = files;
     let fault = match (SOUND.read)(files) {
@@ -278,8 +278,8 @@ fn one_step_more(files: Three) -> Result<Operands, Refusal> {
         read => return read,
     };
     let chart = read_chart(chart)?;
-    let first = read_diagram(rules, chart.steps.len())?;
-    match read_diagram(more, chart.steps.len() + 1) {
+    let first = read_diagram(rules, chart.groups())?;
+    match read_diagram(more, chart.groups() + 1) {
         Ok(second) => Ok(Operands { chart, first, second }),
         Err(_) => Err(fault),
     }

@@ -50,6 +50,14 @@ const fn by(name: &'static str, lister: Lister) -> Sabotage {
     new(name, Spoil::Lister(lister))
 }
 
+/// Sound but for what it reads.
+pub(super) const fn reading(
+    name: &'static str,
+    read: fn(&[u8], &[u8]) -> Result<Problem, Refusal>,
+) -> Sabotage {
+    by(name, Lister { read, ..SOUND })
+}
+
 /// What is spoiled after a sound call.
 pub(super) type SpoilListed = fn(&Call, &mut Answer, &mut CycleSlices);
 

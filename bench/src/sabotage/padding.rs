@@ -6,8 +6,8 @@ use super::rows::SOUND as PLAIN;
 use super::{new, Sabotage, Spoil};
 use crate::check::conjunction::walked;
 use crate::files::{
-    is_padding, read_both, read_chart, read_diagram_by, read_padded, read_three, Diagram, Node,
-    Operands, Problem, Refusal, DIAGRAM_FILE, HEADER, MORE_FILE, NODE,
+    is_padding, read_both, read_chart, read_diagram_by, read_padded, read_three, Chart, Diagram,
+    Node, Operands, Problem, Refusal, DIAGRAM_FILE, HEADER, MORE_FILE, NODE,
 };
 use crate::generate::mutate::fields;
 use crate::generate::nodes::{node_places, WHOLE};
@@ -38,23 +38,24 @@ enum Reader {
     Conjoin,
 }
 
-/// A diagram's file: its bytes, its mark, and the steps of the chart.
+/// A diagram's file: its bytes, its mark, the chart and how many groups that has.
 #[derive(Clone, Copy)]
-struct File<'a> {
-    bytes: &'a [u8],
-    mark: u32,
-    steps: usize,
+pub(super) struct File<'a> {
+    pub bytes: &'a [u8],
+    pub mark: u32,
+    pub chart: &'a Chart,
+    groups: usize,
 }
 
 impl File<'_> {
     /// As it should be read.
-    fn sound(self) -> Result<Diagram, Refusal> {
-        read_diagram_by(self.bytes, self.mark, self.steps, is_padding)
+    pub fn sound(self) -> Result<Diagram, Refusal> {
+        read_diagram_by(self.bytes, self.mark, self.groups, is_padding)
     }
 
     /// Without 13.
     fn taken(self) -> Result<Diagram, Refusal> {
-        read_diagram_by(self.bytes, self.mark, self.steps, |_, _| false)
+        read_diagram_by(self.bytes, self.mark, self.groups, |_, _| false)
     }
 
     fn refused(self, number: u32, place: usize) -> Result<Diagram, Refusal> {
@@ -65,7 +66,7 @@ impl File<'_> {
     fn sooner(self, number: u32, such: fn(&NodeFaults) -> bool) -> Result<Diagram, Refusal> {
         let read = self.sound();
         let Err(fault) = read else { return read };
-        let node = NodeAtFault::of(self.bytes, self.steps, &fault);
+        let node = NodeAtFault::of(self.bytes, self.groups, &fault);
         match node.filter(|node| node.number == number && such(&node.faults)) {
             Some(_) => self.refused(13, fault.place),
             None => read,
@@ -85,7 +86,10 @@ const fn test(name: &'static str, test: fn(&[Node], Node) -> bool) -> Sabotage {
     new(name, Spoil::Padding(Misreading { how: How::Test(test), only: None }))
 }
 
-const fn file(name: &'static str, read: fn(File) -> Result<Diagram, Refusal>) -> Sabotage {
+pub(super) const fn file(
+    name: &'static str,
+    read: fn(File) -> Result<Diagram, Refusal>,
+) -> Sabotage {
     new(name, Spoil::Padding(Misreading { how: How::File(read), only: None }))
 }
 
@@ -227,7 +231,7 @@ fn chain(node: &Node) -> u32 {
 fn at_twin(file: File) -> Result<Diagram, Refusal> {
     let read = file.sound();
     let Err(fault) = read else { return read };
-    let node = NodeAtFault::of(file.bytes, file.steps, &fault).filter(|node| node.number == 13);
+    let node = NodeAtFault::of(file.bytes, file.groups, &fault).filter(|node| node.number == 13);
     match node.and_then(|node| Some(node.before - node.faults.twin?)) {
         Some(twin) => file.refused(13, node_places(file.bytes)[twin]),
         None => read,
@@ -307,15 +311,16 @@ fn refused(fault: Refusal) -> Answer {
 impl Misreading {
     fn read(&self, file: File) -> Result<Diagram, Refusal> {
         match self.how {
-            How::Test(test) => read_diagram_by(file.bytes, file.mark, file.steps, test),
+            How::Test(test) => read_diagram_by(file.bytes, file.mark, file.groups, test),
             How::File(read) => read(file),
         }
     }
 
     fn read_both(&self, chart: &[u8], rules: &[u8]) -> Result<Problem, Refusal> {
         let chart = read_chart(chart)?;
-        let steps = chart.steps.len();
-        let diagram = self.read(File { bytes: rules, mark: DIAGRAM_FILE, steps })?;
+        let groups = chart.groups();
+        let diagram =
+            self.read(File { bytes: rules, mark: DIAGRAM_FILE, chart: &chart, groups })?;
         Ok(Problem { chart, diagram })
     }
 
@@ -368,8 +373,8 @@ impl Misreading {
     pub(super) fn conjoin(&self, files: Three, lent: &mut ConjoinSlices) -> Option<Answer> {
         let [chart, rules, more] = files;
         let read = self.read_both(chart, rules).and_then(|Problem { chart, diagram: first }| {
-            let steps = chart.steps.len();
-            let second = self.read(File { bytes: more, mark: MORE_FILE, steps })?;
+            let groups = chart.groups();
+            let second = self.read(File { bytes: more, mark: MORE_FILE, chart: &chart, groups })?;
             Ok(Operands { chart, first, second })
         });
         let is_wrong = || read != read_three(chart, rules, more);

@@ -82,7 +82,7 @@ fn take_numbers(file: &mut Vec<u8>, mut other: impl FnMut(Option<&[u8]>) -> Vec<
 
 /// The step before once more, or a dear one.
 fn take_step_numbers(chart: &mut Vec<u8>) {
-    let first = step_field(Step { from: 0, to: 1, cost: MAX_COST });
+    let first = step_field(Step::new(0, 1, MAX_COST));
     take_numbers(chart, |before| before.map_or(first.clone(), <[u8]>::to_vec));
 }
 

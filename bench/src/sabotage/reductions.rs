@@ -16,9 +16,9 @@ use crate::nodes::NodeAtFault;
 use crate::planner::Answer;
 
 /// A reduction with one choice that may be wrong. What counts as its work slice is the buffer.
-const SOUND: Conjoiner = Conjoiner { read: taken, need: |_| 0, ..CONJOINER };
+pub(super) const SOUND: Conjoiner = Conjoiner { read: taken, need: |_| 0, ..CONJOINER };
 
-const fn by(name: &'static str, reducer: Conjoiner) -> Sabotage {
+pub(super) const fn by(name: &'static str, reducer: Conjoiner) -> Sabotage {
     new(name, Spoil::Reducer(reducer))
 }
 
@@ -131,11 +131,11 @@ pub(super) static REDUCTIONS: [Sabotage; 52] = [
     }),
 ];
 
-fn operands(Problem { chart, diagram: first }: Problem) -> Operands {
+pub(super) fn operands(Problem { chart, diagram: first }: Problem) -> Operands {
     Operands { chart, first, second: Diagram::YES }
 }
 
-fn taken([chart, rules, _]: Three) -> Result<Operands, Refusal> {
+pub(super) fn taken([chart, rules, _]: Three) -> Result<Operands, Refusal> {
     read_padded(chart, rules).map(operands)
 }
 
@@ -146,7 +146,7 @@ fn only([chart, rules, _]: Three, is_13: fn(&[Node], Node) -> bool) -> Result<Op
 
 /// The node that is refused, in a chart that passes.
 fn node_at_fault([chart, rules, _]: Three, fault: &Refusal) -> Option<NodeAtFault> {
-    NodeAtFault::of(rules, read_chart(chart).ok()?.steps.len(), fault)
+    NodeAtFault::of(rules, read_chart(chart).ok()?.groups(), fault)
 }
 
 /// What is read where a node field at fault is left out, if it is such a one.
@@ -235,16 +235,18 @@ fn ends(files: Three, are_right: fn(u16, u16) -> bool) -> Result<Operands, Refus
     }
 }
 
-/// Steps that no way from the start takes are never present.
+/// Groups of which no way from the start takes a step are never present.
 fn over_plans(files: Three) -> Result<Operands, Refusal> {
-    let mut read = taken(files)?;
-    let reached = reached_stages(&read.chart);
-    for node in &mut read.first.nodes {
-        if !reached[usize::from(read.chart.steps[usize::from(node.step)].from)] {
-            node.hi = node.lo;
-        }
+    let Operands { chart, mut first, second } = taken(files)?;
+    let reached = reached_stages(&chart);
+    let mut taken = vec![false; chart.groups()];
+    for (number, step) in chart.steps.iter().enumerate() {
+        taken[usize::from(chart.group(number as u16))] |= reached[usize::from(step.from)];
     }
-    Ok(read)
+    for node in first.nodes.iter_mut().filter(|node| !taken[usize::from(node.step)]) {
+        node.hi = node.lo;
+    }
+    Ok(Operands { chart, first, second })
 }
 
 fn reached_stages(chart: &Chart) -> Vec<bool> {

@@ -56,6 +56,10 @@ pub(super) struct Rows {
     walked: fn(Size, usize) -> usize,
     /// How many entries of the cost slice the sweep clears.
     cleared: fn(Size) -> usize,
+    /// The node got by advancing one by the step with a number.
+    advance: fn(&Problem, u16, u16) -> u16,
+    /// Whether a node finishes at 1.
+    finishes: fn(&Problem, u16) -> bool,
 }
 
 pub(super) const SOUND: Rows = Rows {
@@ -65,6 +69,8 @@ pub(super) const SOUND: Rows = Rows {
     told: |size, pair| pair / size.width,
     walked: |size, _| size.width,
     cleared: Size::pairs,
+    advance: |problem, node, step| advance(&problem.diagram, node, problem.chart.group(step)),
+    finishes: |problem, node| finish(&problem.diagram, node) == 1,
 };
 
 const fn placed(place: Place) -> Rows {
@@ -91,11 +97,19 @@ const fn cleared(cleared: fn(Size) -> usize) -> Rows {
     Rows { cleared, ..SOUND }
 }
 
-const fn in_sweep(name: &'static str, rows: Rows) -> Sabotage {
+pub(super) const fn advancing(advance: fn(&Problem, u16, u16) -> u16) -> Rows {
+    Rows { advance, ..SOUND }
+}
+
+pub(super) const fn finishing(finishes: fn(&Problem, u16) -> bool) -> Rows {
+    Rows { finishes, ..SOUND }
+}
+
+pub(super) const fn in_sweep(name: &'static str, rows: Rows) -> Sabotage {
     new(name, Spoil::SweepRows(rows))
 }
 
-const fn in_guided(name: &'static str, rows: Rows) -> Sabotage {
+pub(super) const fn in_guided(name: &'static str, rows: Rows) -> Sabotage {
     new(name, Spoil::GuidedRows(rows))
 }
 
@@ -292,7 +306,8 @@ impl<'a> Search<'a> {
         }
         let reached = |pair: &usize| cost[*pair] != UNREACHED;
         let count = (0..self.size.pairs()).filter(reached).count();
-        let goals = self.walked(chart.end).filter(|node| finish(diagram, *node as u16) == 1);
+        let finishes = |node: &usize| (self.rows.finishes)(self.problem, *node as u16);
+        let goals = self.walked(chart.end).filter(finishes);
         let goals = goals.map(|node| self.at(chart.end, node)).filter(reached);
         match goals.min_by_key(|pair| cost[*pair]) {
             None => Answer::no_plan(count),
@@ -309,7 +324,7 @@ impl<'a> Search<'a> {
         let step = self.problem.chart.steps[number];
         for node in self.walked(step.from) {
             let before = cost[self.at(step.from, node)];
-            let next = advance(&self.problem.diagram, node as u16, number as u16);
+            let next = (self.rows.advance)(self.problem, node as u16, number as u16);
             if before == UNREACHED || next == 0 {
                 continue;
             }
@@ -391,7 +406,7 @@ impl<'a> Guided<'a> {
             if !self.search.is_told(stage, node) {
                 continue;
             }
-            if stage == chart.end && finish(diagram, node) == 1 {
+            if stage == chart.end && (self.search.rows.finishes)(self.search.problem, node) {
                 let length = self.search.trace_back(pair, plan);
                 return Answer::accepted(self.cost[pair], length, count);
             }
@@ -401,10 +416,10 @@ impl<'a> Guided<'a> {
     }
 
     fn open_followers(&mut self, stage: u16, node: u16, cost: u32) {
-        let Problem { chart, diagram } = self.search.problem;
-        let leaving = chart.steps.iter().enumerate().filter(|(_, step)| step.from == stage);
+        let Search { rows, problem, .. } = self.search;
+        let leaving = problem.chart.steps.iter().enumerate().filter(|(_, step)| step.from == stage);
         for (number, step) in leaving {
-            let next = advance(diagram, node, number as u16);
+            let next = (rows.advance)(problem, node, number as u16);
             self.open(step.to, next, cost + step.cost, Some((number, node.into())));
         }
     }

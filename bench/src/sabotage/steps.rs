@@ -4,23 +4,23 @@
 use super::{new, Sabotage, Spoil, Test};
 use crate::files::{
     read_both, read_chart, step_field, step_of, two_bytes, Refusal, Step, DIAGRAM_FILE,
-    FIRST_REMARK, HEADER, MAX_COST, MAX_STEPS, STEP,
+    FIRST_REMARK, HEADER, MAX_COST, MAX_STEPS,
 };
-use crate::generate::steps::{step_places, WHOLE};
+use crate::generate::steps::step_places;
 use crate::planner::Answer;
 use crate::steps::{StepAtFault, StepFaults};
 
-const SURPLUS: Test = |faults| faults.surplus;
-const ENDS: Test = StepFaults::ends;
+pub(super) const SURPLUS: Test = |faults| faults.surplus;
+pub(super) const ENDS: Test = StepFaults::ends;
 const CROSSED: Test = |faults| faults.crossed;
 const OUTSIDE: Test = |faults| faults.outside;
-const FALLS: Test = |faults| faults.falls;
-const DEAR: Test = |faults| faults.dear;
+pub(super) const FALLS: Test = |faults| faults.falls;
+pub(super) const DEAR: Test = |faults| faults.dear;
 const BOTH: Test = |faults| faults.surplus && faults.dear;
 const ANY: Test = |faults| faults.set() != 0;
 
 /// The values of a step are tested in this order.
-const fn judged(name: &'static str, tests: &'static [(Test, u32)]) -> Sabotage {
+pub(super) const fn judged(name: &'static str, tests: &'static [(Test, u32)]) -> Sabotage {
     new(name, Spoil::Step(tests))
 }
 
@@ -91,19 +91,27 @@ pub(super) struct Around {
     stages: u16,
     /// The from of the step before, 0 without one.
     before: u16,
+    /// The number of the step, and the groups of the first one and of the one before, in a chart with
+    /// groups.
+    pub number: u16,
+    pub first_group: Option<u16>,
+    pub group_before: Option<u16>,
 }
 
 /// Changes the values of every step.
 pub(super) fn change(chart: &mut [u8], change: impl Fn(&mut Step, Around)) {
-    let mut before = 0;
-    for place in step_places(chart) {
+    let places = step_places(chart);
+    let first_group =
+        places.first().and_then(|place| step_of(&chart[place.clone()][HEADER..]).group);
+    let (mut before, mut group_before) = (0, None);
+    for (number, place) in (0..).zip(places) {
         let stages = two_bytes(chart, HEADER);
-        let body = &mut chart[place + HEADER..place + WHOLE];
+        let body = &mut chart[place][HEADER..];
         let mut step = step_of(body);
-        let from = step.from;
-        change(&mut step, Around { stages, before });
+        let (from, group) = (step.from, step.group);
+        change(&mut step, Around { stages, before, number, first_group, group_before });
         body.copy_from_slice(&step_field(step)[HEADER..]);
-        before = from;
+        (before, group_before) = (from, group);
     }
 }
 
@@ -173,7 +181,9 @@ fn judge_costs_after_rules(chart: &mut Vec<u8>, rules: &[u8]) {
 /// The values of steps count only where every field is whole, with the right tag and length.
 fn judge_values_last(chart: &mut Vec<u8>) {
     let mut changed = chart.clone();
-    change(&mut changed, |step, _| *step = Step { from: 0, to: 1, cost: 0 });
+    change(&mut changed, |step, _| {
+        *step = Step { group: step.group.map(|_| 0), ..Step::new(0, 1, 0) };
+    });
     if read_chart(&changed).is_err_and(|fault| fault.number < 4) {
         *chart = changed;
     }
@@ -181,25 +191,30 @@ fn judge_values_last(chart: &mut Vec<u8>) {
 
 /// Mends the length or the cut end of a step that is refused for it, where its values have such a
 /// fault.
-fn make_whole(chart: &mut Vec<u8>, number: u32, such: Test) {
+pub(super) fn make_whole(chart: &mut Vec<u8>, number: u32, such: Test) {
     let Err(fault) = read_chart(chart) else { return };
     let Refusal { number: found, place, .. } = fault;
     let step = StepAtFault::of(chart, &fault).filter(|step| found == number && such(&step.faults));
-    if step.is_some() {
-        chart.resize(chart.len().max(place + WHOLE), 0);
-        chart[place + 1..place + HEADER].copy_from_slice(&(STEP.length as u16).to_le_bytes());
+    if let Some(step) = step {
+        let length = step.step.layout().length;
+        chart.resize(chart.len().max(place + HEADER + length), 0);
+        chart[place + 1..place + HEADER].copy_from_slice(&(length as u16).to_le_bytes());
     }
 }
 
 /// Steps behind the 1,024th become remarks.
 fn pass_over_surplus(chart: &mut [u8]) {
     for place in step_places(chart).into_iter().skip(MAX_STEPS) {
-        chart[place] |= FIRST_REMARK;
+        chart[place.start] |= FIRST_REMARK;
     }
 }
 
 /// Changes the first entry of a slice under a number.
-fn touch<T: Copy + std::ops::Not<Output = T>>(answer: &Answer, number: u32, slice: &mut [T]) {
+pub(super) fn touch<T: Copy + std::ops::Not<Output = T>>(
+    answer: &Answer,
+    number: u32,
+    slice: &mut [T],
+) {
     let entry = slice.first_mut().filter(|_| answer.number == number);
     entry.into_iter().for_each(|entry| *entry = !*entry);
 }

@@ -5,8 +5,8 @@
 use super::rows::{accepted, SOUND as PLAIN};
 use super::steps::change;
 use super::{new, Sabotage, Spoil};
-use crate::files::{step_field, step_of, Problem, HEADER, MAX_COST, STEP, TICK};
-use crate::generate::steps::{file_costs, WHOLE};
+use crate::files::{step_field, step_of, Problem, HEADER, MAX_COST, STEP_KINDS, TICK};
+use crate::generate::steps::file_costs;
 use crate::planner::{Answer, GuidedSlices, SweepSlices};
 use crate::reference::ways::cost_of;
 use crate::reference::{cost_slice, Facts};
@@ -319,7 +319,9 @@ pub(super) static LIMITS: [Sabotage; 8] = [
 
 /// A whole step field at the front with its cost rounded.
 fn round_shown(field: &mut [u8]) {
-    let Some(whole) = field.get_mut(..WHOLE).filter(|whole| whole[0] == STEP.tag) else { return };
+    let kind = STEP_KINDS.into_iter().find(|kind| field.first() == Some(&kind.tag));
+    let whole = kind.and_then(|kind| field.get_mut(..HEADER + kind.length));
+    let Some(whole) = whole else { return };
     let mut step = step_of(&whole[HEADER..]);
     step.cost = step.cost.checked_next_multiple_of(TICK).unwrap_or(0);
     whole[HEADER..].copy_from_slice(&step_field(step)[HEADER..]);

@@ -145,14 +145,15 @@ impl<'a> Search<'a> {
         let cost = floor - estimate;
         let mut at = node;
         for step in tables.leaving(stage) {
-            while tables.nodes[at].step() < step {
+            let group = tables.group(step);
+            while tables.nodes[at].step() < group {
                 at = tables.nodes[at].lo();
             }
             if at == 0 {
                 break;
             }
             let inner = tables.nodes[at];
-            let next = if inner.step() == step { inner.hi() } else { at };
+            let next = if inner.step() == group { inner.hi() } else { at };
             let to = tables.to(step);
             let Some(rest) = self.estimates.of(to, next) else { continue };
             let follower = tables.row(to) + next;

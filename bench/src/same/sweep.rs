@@ -64,18 +64,20 @@ impl Rows<'_> {
         }
     }
 
-    /// Follows every step out of one pair. Steps rise, so the walk along lo is carried on.
+    /// Follows every step out of one pair. Groups never fall, so the walk along lo is carried
+    /// on.
     fn relax(&mut self, tables: &Tables, stage: usize, node: usize, cost: u32) {
         let mut at = node;
         for step in tables.leaving(stage) {
-            while tables.nodes[at].step() < step {
+            let group = tables.group(step);
+            while tables.nodes[at].step() < group {
                 at = tables.nodes[at].lo();
             }
             if at == 0 {
                 break;
             }
             let inner = tables.nodes[at];
-            let next = if inner.step() == step { inner.hi() } else { at };
+            let next = if inner.step() == group { inner.hi() } else { at };
             if next == 0 {
                 continue;
             }

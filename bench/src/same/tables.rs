@@ -16,11 +16,14 @@ const LONGEST: usize = 32_768;
 /// Bytes of each field, header and body: the chart's head and steps, the diagram's head and nodes.
 const HEAD: usize = 9;
 const STEP_FIELD: usize = 11;
+const GROUPED_FIELD: usize = 13;
 const RULES_HEAD: usize = 5;
 const NODE_FIELD: usize = 9;
 
 /// The stage that a step leaves takes sixteen bits; the one that it leads to stands above it.
 const STAGE_BITS: u32 = 16;
+/// The tag of a step with a group.
+const GROUPED: u8 = 0x03;
 
 /// The step of nodes 0 and 1: above every step, so that no walk goes past them.
 const NO_STEP: u16 = (1 << 14) - 1;
@@ -98,8 +101,14 @@ pub struct Tables {
     pub start: usize,
     pub end: usize,
     steps: usize,
+    /// Groups that nodes may name: all up to the highest.
+    groups: usize,
+    /// Whether the groups stand in the file; else each step is one alone.
+    is_grouped: bool,
     /// By step: the stage that it leaves, and above it the one that it leads to.
     ends: [u32; STEPS],
+    /// By step: its group. Where the file has none they are filled in for the searches alone.
+    group: [u16; STEPS],
     pub cost: [u32; STEPS],
     /// By stage: its first leaving step; one entry more than there are stages.
     first: [u16; STAGES + 1],
@@ -118,7 +127,10 @@ impl Tables {
             start: 0,
             end: 0,
             steps: 0,
+            groups: 0,
+            is_grouped: false,
             ends: [0; STEPS],
+            group: [0; STEPS],
             cost: [0; STEPS],
             first: [0; STAGES + 1],
             rows: [0; STAGES],
@@ -138,37 +150,81 @@ impl Tables {
         if stages == 0 || stages > STAGES || self.start >= stages || self.end >= stages {
             return Err(Answer::refused(4, 1, 0));
         }
+        self.read_steps(&file[HEAD..])
+            .map_err(|Fault { number, left }| Answer::refused(number, 1, file.len() - left))
+    }
+
+    /// Reads all steps; the first one tells of which kind all must be.
+    fn read_steps(&mut self, fields: &[u8]) -> Result<(), Fault> {
+        let fields = without_remarks(fields)?;
+        self.is_grouped = fields.first() == Some(&GROUPED);
+        match self.is_grouped {
+            true => self.read_all_grouped(fields),
+            false => self.read_all_alone(fields),
+        }
+    }
+
+    /// Reads steps without groups.
+    fn read_all_alone(&mut self, fields: &[u8]) -> Result<(), Fault> {
         let (mut steps, mut from) = (0, 0);
-        each_field::<STEP_FIELD>(&file[HEAD..], |field| {
-            from = self.read_step(field, steps, from)?;
+        each_field::<STEP_FIELD>(fields, |field| {
+            (from, _) = self.read_step::<8>(field, 0x02, steps, (from, 0))?;
             steps += 1;
             Ok(())
-        })
-        .map_err(|Fault { number, left }| Answer::refused(number, 1, file.len() - left))?;
-        self.steps = steps;
+        })?;
+        (self.steps, self.groups) = (steps, steps);
         Ok(())
     }
 
-    /// Reads a step that leaves no stage before `least`, and gives the stage that it leaves.
-    fn read_step(&mut self, field: &[u8], at: usize, least: u16) -> Result<u16, u32> {
-        let [f0, f1, t0, t1, c0, c1, c2, c3] = *body(field, 0x02)?;
-        let (from, to) = (u16::from_le_bytes([f0, f1]), u16::from_le_bytes([t0, t1]));
-        let cost = u32::from_le_bytes([c0, c1, c2, c3]);
+    /// Reads steps with groups.
+    fn read_all_grouped(&mut self, fields: &[u8]) -> Result<(), Fault> {
+        let (mut steps, mut least) = (0, (0, 0));
+        each_field::<GROUPED_FIELD>(fields, |field| {
+            least = self.read_step::<10>(field, GROUPED, steps, least)?;
+            steps += 1;
+            Ok(())
+        })?;
+        self.steps = steps;
+        self.groups = if steps == 0 { 0 } else { usize::from(least.1) + 1 };
+        Ok(())
+    }
+
+    /// Reads a step whose from and group, where it has one, are not below those of the step before, and
+    /// gives both.
+    fn read_step<const LENGTH: usize>(
+        &mut self,
+        field: &[u8],
+        tag: u8,
+        at: usize,
+        least: (u16, u16),
+    ) -> Result<(u16, u16), u32> {
+        let body: &[u8; LENGTH] = body(field, tag)?;
+        let [f0, f1, t0, t1, c0, c1, c2, c3, rest @ ..] = &body[..] else { return Err(3) };
+        let (from, to) = (u16::from_le_bytes([*f0, *f1]), u16::from_le_bytes([*t0, *t1]));
+        let cost = u32::from_le_bytes([*c0, *c1, *c2, *c3]);
         if at >= STEPS {
             return Err(5);
         }
         if from >= to || usize::from(to) >= self.stages {
             return Err(10);
         }
-        if from < least {
+        if from < least.0 {
             return Err(5);
         }
         if cost > MAX_COST {
             return Err(11);
         }
+        let mut group = 0;
+        if let [g0, g1] = rest {
+            group = u16::from_le_bytes([*g0, *g1]);
+            if usize::from(group) >= STEPS || group < least.1 {
+                return Err(14);
+            }
+            self.group[at] = group;
+        }
         self.ends[at] = u32::from(to) << STAGE_BITS | u32::from(from);
         self.cost[at] = cost.next_multiple_of(TICK);
-        Ok(from)
+        Ok((from, group))
     }
 
     /// First steps by stage, for the searches: steps stand in the order of their first stages.
@@ -183,9 +239,16 @@ impl Tables {
         }
     }
 
+    /// Each step is a group alone where the file has no groups.
+    pub fn fill_groups(&mut self) {
+        if !self.is_grouped {
+            self.group[..self.steps].iter_mut().zip(0..).for_each(|(group, at)| *group = at);
+        }
+    }
+
     /// Tables for another diagram over the same chart.
     pub fn with_chart_alone(&self) -> Tables {
-        Tables { stages: self.stages, steps: self.steps, ..Tables::new() }
+        Tables { groups: self.groups, ..Tables::new() }
     }
 
     /// Makes the diagram one that always says yes.
@@ -226,7 +289,7 @@ impl Tables {
         let [s0, s1, l0, l1, h0, h1] = *body(field, 0x12)?;
         let step = u16::from_le_bytes([s0, s1]);
         let (lo, hi) = (u16::from_le_bytes([l0, l1]), u16::from_le_bytes([h0, h1]));
-        if own >= NODES || usize::from(step) >= self.steps {
+        if own >= NODES || usize::from(step) >= self.groups {
             return Err(6);
         }
         // 0 and 1 have NO_STEP, so one comparison serves them and the inner nodes.
@@ -260,6 +323,11 @@ impl Tables {
     /// The stage that a step leads to.
     pub fn to(&self, step: usize) -> usize {
         to_of(self.ends[step])
+    }
+
+    /// The group of a step.
+    pub fn group(&self, step: usize) -> usize {
+        self.group[step].into()
     }
 
     /// The pair from which a via leads on.
@@ -296,12 +364,29 @@ impl Tables {
 
     /// Fills in the diagram estimates, children before their nodes; handed in without any.
     pub fn estimate_nodes(&self, estimates: &mut [u32; BY_NODE]) {
+        let by_group;
+        let costs = if self.is_grouped {
+            by_group = self.group_costs();
+            &by_group
+        } else {
+            &self.cost
+        };
         estimates[1] = 0;
         for node in 2..self.references {
             let inner = self.nodes[node];
-            let taken = estimates[inner.hi()].saturating_add(self.cost[inner.step()]);
+            let taken = estimates[inner.hi()].saturating_add(costs[inner.step()]);
             estimates[node] = estimates[inner.lo()].min(taken);
         }
+    }
+
+    /// By group: the least cost of its steps; none where it has no step.
+    fn group_costs(&self) -> [u32; STEPS] {
+        let mut costs = [NONE; STEPS];
+        for (group, cost) in self.group[..self.steps].iter().zip(&self.cost) {
+            let least = &mut costs[usize::from(*group)];
+            *least = (*least).min(*cost);
+        }
+        costs
     }
 }
 
@@ -370,13 +455,19 @@ fn fields_in_a_row<const FIELD: usize>(
 /// What follows the remarks at the front. Where none stands there the fault is the one found, where
 /// one is cut it is 1.
 fn behind_remarks(fields: &[u8], number: u32) -> Result<&[u8], Fault> {
+    let rest = without_remarks(fields)?;
+    if rest.len() == fields.len() {
+        return Err(Fault { number, left: rest.len() });
+    }
+    Ok(rest)
+}
+
+/// What follows the remarks at the front, if any stand there.
+fn without_remarks(fields: &[u8]) -> Result<&[u8], Fault> {
     let mut rest = fields;
     while let [0x80..=0xff, low, high, body @ ..] = rest {
         let length = usize::from(u16::from_le_bytes([*low, *high]));
         rest = body.get(length..).ok_or(Fault { number: 1, left: rest.len() })?;
-    }
-    if rest.len() == fields.len() {
-        return Err(Fault { number, left: rest.len() });
     }
     Ok(rest)
 }

@@ -22,7 +22,7 @@ pub struct Wanted<'a> {
 
 /// From, to and the file's cost of each step.
 pub fn steps(steps: &[(u16, u16, u32)]) -> Vec<Step> {
-    steps.iter().map(|(from, to, cost)| Step { from: *from, to: *to, cost: *cost }).collect()
+    steps.iter().map(|(from, to, cost)| Step::new(*from, *to, *cost)).collect()
 }
 
 /// Nodes from 2 on: step, lo, hi.
