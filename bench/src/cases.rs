@@ -363,7 +363,7 @@ fn bad_steps(random: &mut Random) -> Files {
     let chart = groups::maybe(random, chart);
     let rules = write_diagram(&random_diagram(random, &chart, 12));
     let mut bytes = write_chart(&chart);
-    steps::spoil(random, &mut bytes, 15);
+    steps::spoil(random, &mut bytes, 22);
     (bytes, rules)
 }
 

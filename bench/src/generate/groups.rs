@@ -702,13 +702,13 @@ pub fn any(random: &mut Random) -> Problem {
     let group = |at: usize| chart.steps[at].group.map(|group| names[usize::from(group)]);
     Problem {
         chart: chart.with_groups(group),
-        diagram: with_gaps(random, &renamed(&diagram, &names)),
+        diagram: with_test_above(random, &renamed(&diagram, &names)),
     }
 }
 
-/// A diagram in which the lo or the hi of some nodes has a test of a group between, where there is one; as
-/// often as not it has no steps. Without padding where there is none.
-fn with_gaps(random: &mut Random, diagram: &Diagram) -> Diagram {
+/// As often as not a diagram with a test of a lower group above its root, where there is one: it leads to the
+/// old root by lo or by hi, and else to a constant. The group may have no steps.
+fn with_test_above(random: &mut Random, diagram: &Diagram) -> Diagram {
     let mut all = diagram.clone();
     let Some(root) = diagram.inner(diagram.root).filter(|root| root.step > 0) else { return all };
     if random.percent(50) {
@@ -736,7 +736,7 @@ pub fn broken(random: &mut Random) -> Files {
     let (highest, own) = (chart.groups() as u16, diagram.references() as u16);
     let bytes = write_chart(&chart);
     let places = step_places(&bytes);
-    let place = random.pick(&(0..places.len()).collect::<Vec<usize>>());
+    let place = random.below(places.len());
     let at = places[place].clone();
     let spoiled = |end: &[u8]| [&bytes[..at.start], end, &bytes[at.end..]].concat();
     let bytes = match random.below(10) {
@@ -748,7 +748,7 @@ pub fn broken(random: &mut Random) -> Files {
         5 | 6 => spoiled(&other_kind(random, &bytes[at.clone()])),
         7 => {
             let without = write_chart(&chart.with_groups(|_| None));
-            let at = random.pick(&step_places(&without).iter().collect::<Vec<_>>()).clone();
+            let at = step_places(&without)[place].clone();
             let other = other_kind(random, &without[at.clone()]);
             [&without[..at.start], &other, &without[at.end..]].concat()
         }

@@ -18,7 +18,7 @@ use crate::files::{
 };
 use crate::generate::groups::renamed;
 use crate::generate::mutate::fields;
-use crate::generate::steps::step_places;
+use crate::generate::steps::{file_steps, step_places};
 use crate::planner::{Answer, GuidedSlices};
 use crate::reference::rules::advance;
 use crate::reference::Facts;
@@ -32,7 +32,7 @@ pub(super) fn guided_by(
 ) -> Option<Answer> {
     let problem = accepted(chart, rules, &lent.work_lengths(), lent.plan.len())?;
     let facts = Facts::by_dynamic_programming(&problem);
-    let diagram_estimate = estimates(&facts, &crate::generate::steps::file_steps(chart));
+    let diagram_estimate = estimates(&facts, &file_steps(chart));
     let estimates = Facts { diagram_estimate, ..facts };
     Some(PLAIN.guided_over(&problem, estimates, &mut lent.log, &mut lent.plan))
 }
@@ -54,7 +54,8 @@ fn by_gaps(facts: &Facts, gap: impl Fn(usize, &[Option<u32>]) -> Option<u32>) ->
     by_costs(facts, &(0..costs.len()).map(of).collect::<Vec<_>>())
 }
 
-/// By what a node's estimate is made of: whether its group has steps, its cost, and those at lo and hi.
+/// By what a node's estimate is made of: the cost of its group, if that has steps, and the estimates at lo
+/// and hi.
 fn by_node(
     facts: &Facts,
     of: fn(Option<u32>, Option<u32>, Option<u32>) -> Option<u32>,
@@ -133,8 +134,8 @@ fn is_last_of_group(chart: &Chart, step: u16) -> bool {
     usize::from(step) + 1 == chart.steps.len() || is_first_of_group(chart, step + 1)
 }
 
-/// By steps' numbers.
-const BY_STEPS: Rows = advancing(|problem, node, step| by_group(problem, node, step));
+/// By steps' numbers, as if they were groups.
+const BY_STEPS: Rows = advancing(by_group);
 /// A step that is not the first of its group goes on from where one before it led.
 const AGAIN: Rows = advancing(|problem, node, step| {
     let at = by_group(problem, node, problem.chart.group(step));
@@ -144,8 +145,7 @@ const AGAIN: Rows = advancing(|problem, node, step| {
     }
 });
 const ONLY_FIRST: Rows = advancing(|problem, node, step| {
-    let is_one = is_first_of_group(&problem.chart, step);
-    if is_one {
+    if is_first_of_group(&problem.chart, step) {
         by_group(problem, node, problem.chart.group(step))
     } else {
         node
@@ -199,9 +199,8 @@ const NOT_PASSED: Rows = advancing(|problem, node, step| {
 /// A later group is taken for the one that comes.
 const NEXT_GROUP: Rows = advancing(|problem, node, step| {
     let group = problem.chart.group(step);
-    let later = problem.chart.steps[usize::from(step)..].iter().filter_map(|step| step.group);
-    let later = later.into_iter().find(|other| *other > group).unwrap_or(group);
-    by_group(problem, node, later)
+    let mut later = problem.chart.steps[usize::from(step)..].iter().filter_map(|step| step.group);
+    by_group(problem, node, later.find(|other| *other > group).unwrap_or(group))
 });
 /// Finishing, a group without steps is there.
 const GAPS_AT_END: Rows = finishing(|problem, node| {
