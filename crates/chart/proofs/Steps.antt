@@ -26,8 +26,8 @@ use Rattle.chart_fields.specs.declared.bodies.StepBody.{StepBody}
 use Rattle.chart.specs.Tables.{stepsIn, heldSteps, Filled}
 use Rattle.chart.specs.Held.{Packs, stored, stored-room, held-grown, ends-kept, costs-kept, nothing-filled}
 use Rattle.chart.specs.Limits.{StepFits, step-fits}
-use Rattle.chart.specs.Kinds.{kindAt, dueKind, Due, SameKind, KindAfter, kind-start, kind-anew, kindAt-known, due-same, stands-whole}
-use Rattle.chart.specs.Turns.{SoFar, Takes}
+use Rattle.chart.specs.Kinds.{kindAt, dueKind, Due, SameKind, KindAfter, kind-start, kindAt-known, due-same, stands-whole}
+use Rattle.chart.specs.Turns.{SoFar, Stores, Takes}
 use Rattle.chart.specs.declared.reader.StepsRead.{StepsRead}
 
 -- a step that passes has room in the tables, its value keeps the limit, and its group too
@@ -48,22 +48,39 @@ module _ (v stages tag last group count : ℕ) (b : List ℕ) (judged : v ≡ st
       go (inl q) = omega (arith, pick-true (eqb tag grouped) (two b 8) count (eq-eqb tag grouped q), fits .named q .few)
       go (inr q) = omega (arith, pick-false (eqb tag grouped) (two b 8) count (ne-eqb tag grouped q), step-below)
 
--- a field of one kind, told by a step of that kind
-pub has-of-kind : (s : List ℕ) (at tag len kind : ℕ) → HasField s at tag len → kind ≡ tag → len ≡ stepLength tag → HasField s at kind (stepLength kind)
-has-of-kind s at tag len kind has k e = rw (k, ← e) has
+-- how long each kind is
+pub plain-long : 8 ≡ stepLength 2
+unfolding pick
+plain-long = refl
+
+pub grouped-long : 10 ≡ stepLength 3
+unfolding pick
+grouped-long = refl
+
+-- a field of a kind, by its tag and length
+module _ (s : List ℕ) (at tag : ℕ) (has : HasField s at tag (stepLength tag)) where
+  pub as-grouped : tag ≡ 3 → HasField s at 3 10 × (tag ≡ 3)
+  as-grouped q = (subst (λ (n : ℕ). HasField s at 3 n) (sym grouped-long) (subst (λ (k : ℕ). HasField s at k (stepLength k)) q has), q)
+
+  pub as-plain : (tag ≡ 2) ⊎ (tag ≡ 3) → (tag ≡ 3 → ⊥) → HasField s at 2 8 × (tag ≡ 2)
+  as-plain (inl q) n = (subst (λ (k : ℕ). HasField s at 2 k) (sym plain-long) (subst (λ (k : ℕ). HasField s at k (stepLength k)) q has), q)
+  as-plain (inr q) n = absurd (n q)
+
+-- what stands at a place where a kind is due
+module _ (s : List ℕ) (at tag : ℕ) (f : Field) where
+  pub look-same : (kind : ℕ) → f ≡ fieldAt s at (orRemark (only kind (stepLength kind))) → tag ≡ kind → f ≡ fieldAt s at (orRemark (only tag (stepLength tag)))
+  look-same kind given q = rw q given
+
+  pub look-new : (len : ℕ) → len ≡ stepLength tag → f ≡ fieldAt s at (orRemark (only tag len)) → f ≡ fieldAt s at (orRemark (only tag (stepLength tag)))
+  look-new len el given = rw (← el) given
 
 -- a body has the bytes of its kind
-module _ (s : List ℕ) (at tag len : ℕ) (has : HasField s at tag (stepLength tag)) (e : len ≡ stepLength tag) where
-  long : length (part s (at + 3) (at + 3 + len)) ≡ stepLength tag
+module _ (s : List ℕ) (at tag len : ℕ) (has : HasField s at tag len) where
+  long : length (part s (at + 3) (at + 3 + len)) ≡ len
   long = simp (length-take, length-drop) (omega (arith, has .ends))
 
-  pub long-body : Long tag (part s (at + 3) (at + 3 + len))
-  unfolding pick
-  long-body = (go (same-or-not tag grouped), λ q. omega (arith, long, pick-true {A = ℕ} (eqb tag grouped) 10 8 (eq-eqb tag grouped q)))
-    where
-      go : (tag ≡ grouped) ⊎ (tag ≡ grouped → ⊥) → 8 ≤ length (part s (at + 3) (at + 3 + len))
-      go (inl q) = omega (arith, long, pick-true {A = ℕ} (eqb tag grouped) 10 8 (eq-eqb tag grouped q))
-      go (inr q) = omega (arith, long, pick-false {A = ℕ} (eqb tag grouped) 10 8 (ne-eqb tag grouped q))
+  pub long-body : 8 ≤ len → (tag ≡ 3 → 10 ≤ len) → Long tag (part s (at + 3) (at + 3 + len))
+  long-body h g = (omega (arith, long), λ q. omega (arith, long, g q))
 
 -- the last of some steps, with one more
 last-grown : (before : List ChartStep) (x : ChartStep) → getD (before ++ x ∷ []) (length (before ++ x ∷ []) - 1) noStep ≡ x
@@ -162,17 +179,23 @@ module _ (s : List ℕ) (stages : ℕ) (t : StepsRead) (packed : List (List ℕ)
           filled = sofar .filled;
         })
 
-  -- a step stands there
-  module _ (has : HasField s (t .place) (t .tag) (stepLength (t .tag))) (len : ℕ) (el : len ≡ stepLength (t .tag)) (v : ℕ)
-      (judged : v ≡ stepFault stages (t .tag) (t .last) (t .group) (t .steps) (part s (t .place + 3) (t .place + 3 + len))) where
+  -- a step of the kind `tag` stands there
+  module _ (tag len : ℕ) (has : HasField s (t .place) tag len) (is : t .tag ≡ tag) (el : len ≡ stepLength tag) (v : ℕ)
+      (judged : v ≡ stepFault stages tag (t .last) (t .group) (t .steps) (part s (t .place + 3) (t .place + 3 + len))) where
     abbrev b : List ℕ
     b = part s (t .place + 3) (t .place + 3 + len)
 
     abbrev end : ℕ
     end = t .place + 3 + len
 
+    has-kind : HasField s (t .place) tag (stepLength tag)
+    has-kind = rw (← el) has
+
+    kind-at-tag : (before : List ChartStep) → KindAfter before (t .tag) (t .len) → KindAfter before tag (t .len)
+    kind-at-tag before k = rw (← is) k
+
     whole : (before : List ChartStep) → KindAfter before (t .tag) (t .len) → Whole (t .place) (t .place + 3) end ≡ fieldAt s (t .place) (orRemark (stepKind before))
-    whole before k = rw el (stands-whole s (t .place) (t .tag) (t .len) before k has)
+    whole before k = rw el (stands-whole s (t .place) tag (t .len) before (kind-at-tag before k) has-kind)
 
     same-fault : (first : ℕ) (packed₀ : List (List ℕ)) (sofar : SoFar s first stages packed₀ packed t) → v ≡ stepFaultAfter stages (getD s (t .place) 0) (sofar .before) b
     same-fault first packed₀ sofar = rw (has .tagged, sofar .latest, sofar .highest, sofar .counted) judged
@@ -182,33 +205,37 @@ module _ (s : List ℕ) (stages : ℕ) (t : StepsRead) (packed : List (List ℕ)
         stops v (t .place) x q (λ first packed₀ sofar.
         reading-bad s (stepGrammar stages) first (t .place) (sofar .before) (sofar .reading) _ (whole (sofar .before) (sofar .kind)) (t .place) (t .place + 3) end refl v (same-fault first packed₀ sofar) fails)
 
-    module _ (passes : v ≡ 0) (x : StepBody) (read : x ≡ stepBody (t .tag) (t .steps) b) (ends : ℕ) (packs : ends ≡ endsOf (t .tag) (x .group) (x .from) (x .to)) where
+    module _ (passes : v ≡ 0) (x : StepBody) (read : x ≡ stepBody tag (t .steps) b) where
       abbrev y : ChartStep
-      y = stepOf (t .tag) (t .steps) b
+      y = stepOf tag (t .steps) b
 
-      passed : StepFits stages (t .tag) (t .last) (t .group) (t .steps) b
-      passed = fits v stages (t .tag) (t .last) (t .group) (t .steps) b judged passes
+      passed : StepFits stages tag (t .last) (t .group) (t .steps) b
+      passed = fits v stages tag (t .last) (t .group) (t .steps) b judged passes
 
-      packs-y : stages ≤ 256 → (t .tag ≡ plain) ⊎ (t .tag ≡ grouped) → Packs y ends
-      packs-y few k = record {
-        packs = packs ∙ ap (λ (z : StepBody). endsOf (t .tag) (z .group) (z .from) (z .to)) read;
+      packs-y : (ends : ℕ) → ends ≡ endsOf (x .tag) (x .group) (x .from) (x .to) → stages ≤ 256 → (tag ≡ plain) ⊎ (tag ≡ grouped) → Packs y ends
+      packs-y ends packs few k = record {
+        packs = packs ∙ ap (λ (z : StepBody). endsOf (z .tag) (z .group) (z .from) (z .to)) read;
         low-from = omega (arith, passed .forward, passed .inside);
         low-to = omega (arith, passed .inside);
         low-tag = low k;
       }
         where
-          low : (t .tag ≡ plain) ⊎ (t .tag ≡ grouped) → t .tag < 4
+          low : (tag ≡ plain) ⊎ (tag ≡ grouped) → tag < 4
           low (inl q) = omega arith
           low (inr q) = omega arith
 
       -- the kind stays
-      kind-grown : (before : List ChartStep) → KindAfter before (t .tag) (t .len) → KindAfter (before ++ y ∷ []) (t .tag) len
-      kind-grown [] k = record { known = k .known; long = el; same = λ h. refl }
-      kind-grown (z ∷ before) k = record { known = k .known; long = el; same = λ h. k .same (omega arith) }
+      kind-grown : (before : List ChartStep) → KindAfter before (t .tag) (t .len) → KindAfter (before ++ y ∷ []) tag len
+      kind-grown [] k = record { known = rw (← is) (k .known); long = el; same = λ h. refl }
+      kind-grown (z ∷ before) k = record { known = rw (← is) (k .known); long = el; same = λ h. k .same (omega arith) ∙ is }
 
-      pub take-step : Takes s stages t packed (stored packed (t .steps) ends (x .cost))
-          (record { number = 0; place = end; steps = t .steps + 1; last = x .from; group = x .group; tag = t .tag; len = len; going = true })
-      take-step = rw read (turn-on s (t .place) end (rw el (has-less s (t .place) (t .tag) (stepLength (t .tag)) has)) (λ o sofar.
+      after : StepsRead
+      after = record { number = 0; place = end; steps = t .steps + 1; last = y .from; group = y .group; tag = tag; len = len; going = true }
+
+      taken : (ends : ℕ) → ends ≡ endsOf (x .tag) (x .group) (x .from) (x .to) → (o : ℕ × List (List ℕ)) → SoFar s (o .0) stages (o .1) packed t
+          → SoFar s (o .0) stages (o .1) (stored packed (t .steps) ends (y .cost)) after
+      unfolding after
+      taken ends packs o sofar =
           let e : stepOf (getD s (t .place) 0) (length (sofar .before)) b ≡ y = rw (has .tagged, sofar .counted) in
           record {
             before = sofar .before ++ y ∷ [];
@@ -222,25 +249,36 @@ module _ (s : List ℕ) (stages : ℕ) (t : StepsRead) (packed : List (List ℕ)
             kind = kind-grown (sofar .before) (sofar .kind);
             filled =
                 λ few room.
-                filled-grown (sofar .before) y ends (t .steps) (o .1) packed (packs-y few (sofar .kind .known)) (sofar .counted) (passed .below) (sofar .filled few room);
-          }))
+                filled-grown (sofar .before) y ends (t .steps) (o .1) packed (packs-y ends packs few (rw (← is) (sofar .kind .known))) (sofar .counted) (passed .below) (sofar .filled few room);
+          }
 
-  -- another kind than was looked for: no step stands before
-  module _ (tag : ℕ) (is : tag ≡ dueKind s t) (other : tag ≡ t .tag → ⊥) (len : ℕ) (el : len ≡ stepLength tag) where
+      pub take-step : (packed′ : List (List ℕ)) (r : StepsRead) → Stores t x len end packed packed′ r → Takes s stages t packed packed′ r × SameKind t r
+      unfolding after
+      take-step packed′ r st =
+          let same : r ≡ after = st .is ∙ ap (λ (z : StepBody). record { number = 0; place = end; steps = t .steps + 1; last = z .from; group = z .group; tag = z .tag; len = len; going = true }) read in
+          let table : packed′ ≡ stored packed (t .steps) (st .table .0) (y .cost) = st .table .2 ∙ ap (λ (z : StepBody). stored packed (t .steps) (st .table .0) (z .cost)) read in
+          (rw (same, table) (turn-on s (t .place) end (rw el (has-less s (t .place) tag (stepLength tag) has-kind)) (taken (st .table .0) (st .table .1))), rw same (λ g. sym is))
+
+  -- with the kind that is due
+  module _ (tag : ℕ) (is : tag ≡ dueKind s t) (known : (t .tag ≡ plain) ⊎ (t .tag ≡ grouped)) (len : ℕ) (el : len ≡ stepLength tag) where
     abbrev anew : StepsRead
-    anew = record { number = 0; place = t .place; steps = 0; last = t .last; group = t .group; tag = tag; len = len; going = true }
+    anew = record { number = 0; place = t .place; steps = t .steps; last = t .last; group = t .group; tag = tag; len = len; going = true }
 
-    none : t .steps ≡ 0
-    none = either (same-or-not (t .steps) 0) (λ h. h) (λ h. absurd (other (is ∙ due-later s t h)))
-
-    tag-is : tag ≡ kindAt s (t .place)
-    tag-is = is ∙ due-first s t none
+    pub due-known : (tag ≡ plain) ⊎ (tag ≡ grouped)
+    due-known =
+        either (same-or-not (t .steps) 0) (λ h. subst (λ (k : ℕ). (k ≡ plain) ⊎ (k ≡ grouped)) (sym (is ∙ due-first s t h)) (kindAt-known s (t .place)))
+        (λ h. subst (λ (k : ℕ). (k ≡ plain) ⊎ (k ≡ grouped)) (sym (is ∙ due-later s t h)) known)
 
     pub due-anew : Due s anew
-    due-anew = due-first s anew refl ∙ sym tag-is
+    due-anew =
+        either (same-or-not (t .steps) 0) (λ h. due-first s anew h ∙ sym (is ∙ due-first s t h)) (λ h. due-later s anew h)
 
-    pub found-anew : (f : Field) → f ≡ fieldAt s (t .place) (orRemark (only tag len)) → f ≡ fieldAt s (t .place) (orRemark (only tag (stepLength tag)))
-    found-anew f e = rw (← el) e
+    kind-due : (before : List ChartStep) → length before ≡ t .steps → KindAfter before (t .tag) (t .len) → KindAfter before tag len
+    kind-due before n k = rw el (record {
+      known = due-known;
+      long = refl;
+      same = λ h. k .same h ∙ sym (is ∙ due-later s t (λ q. omega arith));
+    })
 
     pub take-anew : (packed′ : List (List ℕ)) (r : StepsRead) → Takes s stages anew packed packed′ r → Takes s stages t packed packed′ r
     take-anew packed′ r x = record {
@@ -248,10 +286,10 @@ module _ (s : List ℕ) (stages : ℕ) (t : StepsRead) (packed : List (List ℕ)
       stands = λ o sofar. x .stands o (record {
         before = sofar .before;
         reading = sofar .reading;
-        counted = sofar .counted ∙ none;
+        counted = sofar .counted;
         latest = sofar .latest;
         highest = sofar .highest;
-        kind = rw el (kind-anew (sofar .before) (t .tag) (t .len) tag (sofar .counted ∙ none) (sofar .kind) (rw tag-is (kindAt-known s (t .place))));
+        kind = kind-due (sofar .before) (sofar .counted) (sofar .kind);
         filled = sofar .filled;
       });
     }

@@ -61,11 +61,6 @@ kindAt-known s at = go (eqb (getD s at 0) grouped)
     go true = inr refl
     go false = inl refl
 
--- where no step stands before, any kind may be due
-pub kind-anew : (before : List ChartStep) (tag len new : ℕ) → length before ≡ 0 → KindAfter before tag len → (new ≡ plain) ⊎ (new ≡ grouped)
-    → KindAfter before new (stepLength new)
-kind-anew before tag len new none k is = record { known = is; long = refl; same = λ h. absurd (omega arith) }
-
 -- ---- where the kind that is due is the one that may stand there, a field of it is just what the grammar allows
 
 module _ (s : List ℕ) (at tag len : ℕ) where

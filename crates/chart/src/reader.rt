@@ -1,14 +1,17 @@
 // The reader of the chart file: its steps go into a table with two columns.
 ghost use mathlib.Core.Path.{_≡_};
 ghost use mathlib.Core.Bool.{true, false};
+ghost use mathlib.Core.Logic.{_⊎_};
+ghost use Prim.Native.Nat.{_<_};
 ghost use Rattle.definitions.specs.Fields.{only, orRemark, fieldAt};
 ghost use Rattle.definitions.specs.Charts.{stepLength, chartRefused, readChart};
 ghost use Rattle.fields.specs.Positions.{HasField};
 ghost use Rattle.chart.specs.Kinds.{kindAt, dueKind, Due, SameKind, groupsTo};
 ghost use Rattle.chart.specs.Tables.{Room, Filled, chartAnswer};
-ghost use Rattle.chart.specs.Turns.{Over, Takes};
+ghost use Rattle.chart.specs.Turns.{Over, Stores, Takes};
 use chart_fields::COST;
 use chart_fields::ENDS;
+use chart_fields::StepBody;
 use chart_fields::ends_of;
 use chart_fields::head_fault;
 use chart_fields::head_of;
@@ -62,25 +65,24 @@ fn stopped(read: StepsRead, number: u8, place: usize) -> StepsRead
     }
 }
 
-// The step whose field stands whole at the read's place, into the table.
-fn put_step(file: &[u8], read: StepsRead, stages: u16, steps: &mut [[u32; 1024]; 2]) -> StepsRead
-    requires { ⌜ HasField (now file) (read .place) (read .tag) (stepLength (read .tag)) ⌝ }
-    ensures { λ r. ⌜ Takes (now (file .entry)) stages read (now (steps .entry)) (now (steps .exit)) r ⌝ }
-    ensures { λ r. ⌜ SameKind read r ⌝ }
+// A step that passed, into the table; behind it the next one is due, at `end`.
+fn store(
+    read: StepsRead,
+    step: StepBody,
+    len: u16,
+    end: usize,
+    steps: &mut [[u32; 1024]; 2],
+) -> StepsRead
+    requires { ⌜ (read .steps < 1024) × (step .group < 1024) ⌝ }
+    ensures { λ r. ⌜ Stores read step len end (now (steps .entry)) (now (steps .exit)) r ⌝ }
 {
     let count = read.steps;
-    let place = read.place;
-    let tag = read.tag;
-    let len = step_length(tag);
-    let start = place + 3;
-    let end = start + len as usize;
-    let body = &file[start..end];
-    let fault = step_fault(body, stages, tag, read.last, read.group, count);
-    if fault != 0 {
-        return stopped(read, fault, place);
-    }
-    let step = step_of(body, tag, count);
-    let ends = ends_of(tag, Group(step.group), Stage(step.from), Stage(step.to));
+    let ends = ends_of(
+        step.tag,
+        Group(step.group),
+        Stage(step.from),
+        Stage(step.to),
+    );
     steps[ENDS][count] = ends;
     steps[COST][count] = step.cost;
     StepsRead {
@@ -89,27 +91,93 @@ fn put_step(file: &[u8], read: StepsRead, stages: u16, steps: &mut [[u32; 1024];
         steps: count + 1,
         last: step.from,
         group: step.group,
-        tag,
+        tag: step.tag,
         len,
         going: true,
     }
 }
 
-// The steps that stand one behind the other from the read's place on, into the table: a loop of its own, so that the
+// The plain step whose field stands whole at the read's place, into the table. The kind is a constant here and below, so that
+// no test of it is left in the loop.
+fn put_plain(file: &[u8], read: StepsRead, stages: u16, steps: &mut [[u32; 1024]; 2]) -> StepsRead
+    requires { ⌜ HasField (now file) (read .place) 2 8 × (read .tag ≡ 2) ⌝ }
+    ensures { λ r. ⌜ Takes (now (file .entry)) stages read (now (steps .entry)) (now (steps .exit)) r ⌝ }
+    ensures { λ r. ⌜ SameKind read r ⌝ }
+{
+    let count = read.steps;
+    let place = read.place;
+    let start = place + 3;
+    let end = start + 8;
+    let body = &file[start..end];
+    let fault = step_fault(body, stages, 2, read.last, read.group, count);
+    if fault != 0 {
+        return stopped(read, fault, place);
+    }
+    store(read, step_of(body, 2, count), 8, end, steps)
+}
+
+// The plain steps that stand one behind the other from the read's place on, into the table: a loop of its own, so that the
 // compiler keeps what it counts in registers.
-fn put_steps(file: &[u8], first: StepsRead, stages: u16, steps: &mut [[u32; 1024]; 2]) -> StepsRead
-    requires { ⌜ HasField (now file) (first .place) (first .tag) (stepLength (first .tag)) ⌝ }
+fn put_plains(file: &[u8], first: StepsRead, stages: u16, steps: &mut [[u32; 1024]; 2]) -> StepsRead
+    requires { ⌜ HasField (now file) (first .place) 2 8 × (first .tag ≡ 2) ⌝ }
     ensures { λ r. ⌜ Takes (now (file .entry)) stages first (now (steps .entry)) (now (steps .exit)) r ⌝ }
 {
-    let tag = first.tag;
-    let len = step_length(tag);
     let mut read = first;
     let mut here = true;
     while here {
-        read = put_step(file, read, stages, steps);
-        here = goes_on(file, read.going, read.place, tag, len);
+        read = put_plain(file, read, stages, steps);
+        here = goes_on(file, read.going, read.place, 2, 8);
     }
     read
+}
+
+// The grouped step whose field stands whole at the read's place, into the table.
+fn put_grouped(file: &[u8], read: StepsRead, stages: u16, steps: &mut [[u32; 1024]; 2]) -> StepsRead
+    requires { ⌜ HasField (now file) (read .place) 3 10 × (read .tag ≡ 3) ⌝ }
+    ensures { λ r. ⌜ Takes (now (file .entry)) stages read (now (steps .entry)) (now (steps .exit)) r ⌝ }
+    ensures { λ r. ⌜ SameKind read r ⌝ }
+{
+    let count = read.steps;
+    let place = read.place;
+    let start = place + 3;
+    let end = start + 10;
+    let body = &file[start..end];
+    let wrong = step_fault(body, stages, 3, read.last, read.group, count);
+    if wrong != 0 {
+        return stopped(read, wrong, place);
+    }
+    store(read, step_of(body, 3, count), 10, end, steps)
+}
+
+// The grouped steps that stand one behind the other from the read's place on, into the table.
+fn put_groupeds(
+    file: &[u8],
+    first: StepsRead,
+    stages: u16,
+    steps: &mut [[u32; 1024]; 2],
+) -> StepsRead
+    requires { ⌜ HasField (now file) (first .place) 3 10 × (first .tag ≡ 3) ⌝ }
+    ensures { λ r. ⌜ Takes (now (file .entry)) stages first (now (steps .entry)) (now (steps .exit)) r ⌝ }
+{
+    let mut read = first;
+    let mut here = true;
+    while here {
+        read = put_grouped(file, read, stages, steps);
+        here = goes_on(file, read.going, read.place, 3, 10);
+    }
+    read
+}
+
+// The steps that stand one behind the other from the read's place on, into the table.
+fn put_steps(file: &[u8], first: StepsRead, stages: u16, steps: &mut [[u32; 1024]; 2]) -> StepsRead
+    requires { ⌜ HasField (now file) (first .place) (first .tag) (stepLength (first .tag)) ⌝ }
+    requires { ⌜ (first .tag ≡ 2) ⊎ (first .tag ≡ 3) ⌝ }
+    ensures { λ r. ⌜ Takes (now (file .entry)) stages first (now (steps .entry)) (now (steps .exit)) r ⌝ }
+{
+    if first.tag == 3 {
+        return put_groupeds(file, first, stages, steps);
+    }
+    put_plains(file, first, stages, steps)
 }
 
 // One turn of the walk, of the kind that is due: the end, a fault, a remark, or a run of steps, which go into the table.
@@ -121,7 +189,7 @@ fn take_found(
     steps: &mut [[u32; 1024]; 2],
 ) -> StepsRead
     requires { ⌜ found ≡ fieldAt (now file) (read .place) (orRemark (only (read .tag) (stepLength (read .tag)))) ⌝ }
-    requires { ⌜ Due (now file) read ⌝ }
+    requires { ⌜ Due (now file) read × ((read .tag ≡ 2) ⊎ (read .tag ≡ 3)) ⌝ }
     ensures { λ r. ⌜ Takes (now (file .entry)) stages read (now (steps .entry)) (now (steps .exit)) r ⌝ }
 {
     let count = read.steps;
@@ -166,7 +234,19 @@ fn due_kind(file: &[u8], read: StepsRead) -> u8
     read.tag
 }
 
-// One turn of the walk. Should another kind have been looked for than is due, then it is looked for again.
+// What stands at the read's place, where a step of the kind `tag` is due; it is looked at again should another kind have been
+// looked for.
+fn look_again(file: &[u8], found: Field, read: StepsRead, tag: u8) -> Field
+    requires { ⌜ found ≡ fieldAt (now file) (read .place) (orRemark (only (read .tag) (stepLength (read .tag)))) ⌝ }
+    ensures { λ r. ⌜ r ≡ fieldAt (now (file .entry)) (read .place) (orRemark (only tag (stepLength tag))) ⌝ }
+{
+    if tag == read.tag {
+        return found;
+    }
+    next_field(file, read.place, tag, step_length(tag))
+}
+
+// One turn of the walk, with the kind that is due.
 fn take_steps(
     file: &[u8],
     found: Field,
@@ -174,26 +254,25 @@ fn take_steps(
     stages: u16,
     steps: &mut [[u32; 1024]; 2],
 ) -> StepsRead
-    requires { ⌜ found ≡ fieldAt (now file) (read .place) (orRemark (only (read .tag) (stepLength (read .tag)))) ⌝ }
+    requires { ⌜
+        (found ≡ fieldAt (now file) (read .place) (orRemark (only (read .tag) (stepLength (read .tag)))))
+        × ((read .tag ≡ 2) ⊎ (read .tag ≡ 3))
+        ⌝ }
     ensures { λ r. ⌜ Takes (now (file .entry)) stages read (now (steps .entry)) (now (steps .exit)) r ⌝ }
 {
     let tag = due_kind(file, read);
-    if tag == read.tag {
-        return take_found(file, found, read, stages, steps);
-    }
-    let len = step_length(tag);
+    let here = look_again(file, found, read, tag);
     let first = StepsRead {
         number: 0,
         place: read.place,
-        steps: 0,
+        steps: read.steps,
         last: read.last,
         group: read.group,
         tag,
-        len,
+        len: step_length(tag),
         going: true,
     };
-    let again = next_field(file, read.place, tag, len);
-    take_found(file, again, first, stages, steps)
+    take_found(file, here, first, stages, steps)
 }
 
 // The steps from a place on, into the table: a reader walks over them. It is kept in a local, so this thin loop is

@@ -1,79 +1,26 @@
 -- `chart::put_steps` meets its contract.
-use Prim.Native.Nat.{_-_}
-use mathlib.Core.Path.{_≡_, refl, sym, _∙_, subst}
-use mathlib.Core.Bool.{true}
-use lib.ListN.{length}
+use Rattle.chart.proofs.Steps.{as-grouped, as-plain}
 use borrow.Author.Needs.{needs}
-use Rattle.fields.specs.Positions.{HasField, goes-has}
-use Rattle.fields.specs.Scans.{leftOf}
-use Rattle.fields.specs.Turns.{Run, run-start, run-next, run-less, run-done}
-use Rattle.chart.specs.Turns.{SoFarAt, StandsAt}
-use Rattle.chart.proofs.Steps.{has-of-kind}
 use Rattle.chart.proofs.reader.put_steps.Statement.{statement}
 use Rattle.chart.proofs.reader.put_steps.Tie as tie
 
--- all of them are of the first one's kind
-abbrev Inv-loop : tie.InvT-loop
-Inv-loop file stages steps₀ tag len read₀ here₀ steps read here =
-    Run file tag len (read₀ .place) (read .place) (read .going) here (SoFarAt file stages steps₀ read₀) (SoFarAt file stages steps read) (StandsAt file stages steps read)
-    × (here ≡ true → read .tag ≡ tag)
+put-groupeds-requires : tie.Need-put-groupeds-requires
+put-groupeds-requires c κs =
+    let start : tie.Start = search in
+    let named : tie.Then1 = search in
+    as-grouped _ _ _ (start .pre .0) (named .if1 .taken)
 
-abbrev μ-loop : tie.MeasureT-loop
-μ-loop file stages steps₀ tag len read₀ here₀ steps read here = leftOf here (length file - read .place)
+returns : tie.Need-returns
+returns c = search needs
 
-step-length-requires : tie.Need-step-length-requires Inv-loop μ-loop
-step-length-requires c κs = search needs
+put-plains-requires : tie.Need-put-plains-requires
+put-plains-requires c κs =
+    let start : tie.Start = search in
+    let single : tie.Else1 = search in
+    as-plain _ _ _ (start .pre .0) (start .pre .1) (single .if1 .left)
 
-loop-holds : tie.Need-loop-holds Inv-loop μ-loop
-loop-holds c =
-    let start : tie.Start Inv-loop μ-loop = search in
-    let measured : tie.After-step-length Inv-loop μ-loop = search in
-    (run-start (rw (measured .step-length .ensures) (start .pre)), λ e. refl)
-
-put-step-requires : tie.Need-put-step-requires Inv-loop μ-loop
-put-step-requires c κs =
-    let turn : tie.In-loop Inv-loop μ-loop = search in
-    let head : tie.At-loop Inv-loop μ-loop = search in
-    let measured : tie.After-step-length Inv-loop μ-loop = search in
-    has-of-kind _ _ _ _ _ (head .loop .inv .0 .has (turn .loop-test .taken)) (head .loop .inv .1 (turn .loop-test .taken)) (measured .step-length .ensures)
-
-goes-on-requires : tie.Need-goes-on-requires Inv-loop μ-loop
-goes-on-requires c κs = search needs
-
-loop-less : tie.Need-loop-less Inv-loop μ-loop
-loop-less c =
-    let judged : tie.After-goes-on Inv-loop μ-loop = search in
-    let stored : tie.After-put-step Inv-loop μ-loop = search in
-    let turn : tie.In-loop Inv-loop μ-loop = search in
-    let head : tie.At-loop Inv-loop μ-loop = search in
-    run-less (head .loop .inv .0) (turn .loop-test .taken) (stored .put-step .ensures .0) (judged .goes-on .ensures)
-
-loop-again : tie.Need-loop-again Inv-loop μ-loop
-loop-again c =
-    let judged : tie.After-goes-on Inv-loop μ-loop = search in
-    let stored : tie.After-put-step Inv-loop μ-loop = search in
-    let turn : tie.In-loop Inv-loop μ-loop = search in
-    let head : tie.At-loop Inv-loop μ-loop = search in (
-      run-next (head .loop .inv .0) (turn .loop-test .taken) (stored .put-step .ensures .0) (judged .goes-on .ensures),
-      λ e. stored .put-step .ensures .1 (goes-has _ _ _ _ _ _ (judged .goes-on .ensures) e .0) ∙ head .loop .inv .1 (turn .loop-test .taken),
-    )
-
-returns : tie.Need-returns Inv-loop μ-loop
-returns c =
-    let left : tie.After-loop Inv-loop μ-loop = search in
-    let head : tie.At-loop Inv-loop μ-loop = search in
-    run-done (head .loop .inv .0) (left .loop-test .left)
+returns-2 : tie.Need-returns-2
+returns-2 c = search needs
 
 pub put-steps-spec : {M : Type 1} → statement M
-put-steps-spec =
-    tie.close
-    (tie.spec
-    Inv-loop
-    μ-loop
-    step-length-requires
-    loop-holds
-    put-step-requires
-    goes-on-requires
-    loop-less
-    loop-again
-    returns)
+put-steps-spec = tie.close (tie.spec put-groupeds-requires returns put-plains-requires returns-2)

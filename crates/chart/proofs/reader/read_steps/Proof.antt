@@ -3,6 +3,7 @@
 -- Assumes nothing.
 use mathlib.Core.Path.{_≡_, refl, _∙_, ap, subst}
 use mathlib.Core.Bool.{Bool, true, false}
+use mathlib.Core.Logic.{_⊎_}
 use Prim.Native.Nat.{ℕ, _-_, _<_, _^_}
 use mathlib.Core.WellFounded.{WellFounded, InvImage·wf}
 use mathlib.Core.List.{[], _∷_, List}
@@ -157,11 +158,11 @@ module _ {M : Type 1} (𝓤 : URA M) (H : Heap 𝓤) (A : Atoms 𝓤) (W : Given
   abbrev to-take : ℕ → GName → Field → Val → StepsRead → List (List ℕ) → Take 𝓤 H A mem run .Ghost
   to-take ν δ f u t vs = (((κ, (ν ∷ [], tt)), (q, (fullShare, tt)), tt, with-take δ f t vs, vals-take u t), tt)
 
-  asked-take : (ν : ℕ) (δ : GName) (f : Field) (u : Val) (t : StepsRead) (vs : List (List ℕ)) → f ≡ fieldAt (now s) (t .place) (orRemark (only (t .tag) (stepLength (t .tag))))
+  asked-take : (ν : ℕ) (δ : GName) (f : Field) (u : Val) (t : StepsRead) (vs : List (List ℕ)) → f ≡ fieldAt (now s) (t .place) (orRemark (only (t .tag) (stepLength (t .tag)))) → (t .tag ≡ 2) ⊎ (t .tag ≡ 3)
       → ent 𝓤 (onEntry 𝓤 H A take.signature (κ, (ν ∷ [], tt)) (q, (fullShare, tt)) (with-take δ f t vs) (vals-take u t)) (Take 𝓤 H A mem run .pre (to-take ν δ f u t vs))
-  asked-take ν δ f u t vs found =
+  asked-take ν δ f u t vs found known =
       qed W ((‵ (flft κ q) ⊛ ‵ (flft (ν ∷ []) fullShare) ⊛ ‵ ftrue) ∷ ‵ (owns (ShrSlice (named 0) κ u8 ∷ S.the-row ∷ SR ∷ u16 ∷ MutRef (named 1) (ν ∷ []) TB ∷ []) (with-take δ f t vs) (vals-take u t)) ∷ []) ∵
-      says ! found $ frame ! $ done !
+      says ! (found, known) $ frame ! $ done !
 
   exits : (t : StepsRead) (vs : List (List ℕ)) → Is SR t (R′.lowered t ∷ []) → Over (now s) start stages us vs t
       → ent 𝓤 (⋆ 𝓤 H A ((‵ (flft κ q) ⊛ ‵ ftrue) ∷ ‵ Own ∷ ‵ (MutRef (named 1) κ′ TB .own (x γ vs) (vptr b o ∷ [])) ∷ ‵ (flft κ′ q′) ∷ [])) (Post (R′.lowered t))
@@ -252,7 +253,7 @@ module _ {M : Type 1} (𝓤 : URA M) (H : Heap 𝓤) (A : Atoms 𝓤) (W : Given
         use2 W (later (some (λ (δ : GName). ‵ (MutRef (named 1) (ν ∷ []) TB .own (x δ vs) (vptr b o ∷ [])) ⊛ ‵ (LentAgain TB κ′ (ν ∷ []) q′ γ b o δ vs)))) (lends-again 𝓤 H A W TB (named 1) κ′ (ν ∷ []) q′ γ b o (named 1) vs) $ await ! tt $
         pick ! (λ δ. split ! $ move ! (6 ∷ []) $ use1 W (‵ Own ⊛ ‵ Own) (shr-slice-copy 𝓤 H A W (named 0) κ u8 .twice s (v ∷ [])) $ split ! $ nothing ! $ move ! (3 ∷ 0 ∷ []) $ fjoin ! $
         owned ! u16 (Is u16) (uint-makes 𝓤 H A W w16) stages _ (refl, stages-fits) $ fjoin ! $ owned ! SR (Is SR) ((LL.makes R.the-type R′.the-plain) 𝓤 H A) t _ is $ fjoin ! $ move ! (5 ∷ 0 ∷ []) $ fjoin ! $ move ! (1 ∷ 0 ∷ []) $ fjoin ! $
-        move ! (4 ∷ []) $ split ! $ move ! (5 ∷ 1 ∷ []) $ join ! $ move ! (1 ∷ 0 ∷ []) $ join ! $ move ! (0 ∷ 1 ∷ []) $ use2 W (raw (Take 𝓤 H A mem run .pre (to-take ν δ f k t vs))) (asked-take ν δ f k t vs (found-at ef)) $
+        move ! (4 ∷ []) $ split ! $ move ! (5 ∷ 1 ∷ []) $ join ! $ move ! (1 ∷ 0 ∷ []) $ join ! $ move ! (0 ∷ 1 ∷ []) $ use2 W (raw (Take 𝓤 H A mem run .pre (to-take ν δ f k t vs))) (asked-take ν δ f k t vs (found-at ef) (g .goes going .kind .known)) $
         calls-at ! fm (Take 𝓤 H A mem run) known-take (to-take ν δ f k t vs) (and-then ! (load ! (from ! (stop !)) (look ! 26 refl)) (and-then ! (load ! (from ! (stop !)) (look ! 14 refl)) (and-then ! (load ! (from ! (stop !)) (look ! 16 refl)) (and-then ! (load ! (from ! (stop !)) (look ! 22 refl)) (and-then ! (load ! (from ! (stop !)) (look ! 6 refl)) (no-more !)))))) (λ w.
         use1 W (later (some (λ (r : StepsRead). ((‵ (flft κ q) ⊛ ‵ (flft (ν ∷ []) fullShare) ⊛ ‵ ftrue) ⊛ ‵ (SR .own r (w ∷ []))) ⊛ raw (ensured 𝓤 H A take.ended (take.clauses 𝓤 H A mem run) (κ, (ν ∷ [], tt)) (with-take δ f t vs) tt r)))) (id⊢ 𝓤 _) $ await ! tt $
         pick ! (λ r. split ! $ move ! (1 ∷ []) $

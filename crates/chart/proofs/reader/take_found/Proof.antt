@@ -24,7 +24,9 @@ enum-told-2 : tie.Need-enum-told-2
 enum-told-2 c = search needs
 
 put-steps-requires : tie.Need-put-steps-requires
-put-steps-requires c κs = search whole-has
+put-steps-requires c κs =
+    let start : tie.Start = search in
+    (search whole-has, start .pre .1 .1)
 
 returns : tie.Need-returns
 returns c = search take-laws
