@@ -8,7 +8,7 @@ use lib.ListN.{length, getD}
 use Rattle.definitions.specs.Basics.{pick, any}
 use Rattle.definitions.specs.Fields.{two, part, only, firstField, onField, Grammar, Scan, scan}
 
--- an inner node
+-- an inner node. What is called its step is the variable that it asks for: a group of the chart's steps
 pub record InnerNode : Type 0 where
   pub step : ℕ
   pub lo : ℕ
@@ -32,12 +32,12 @@ inner d n = getD (d .nodes) (n - 2) noNode
 
 -- ---- the file
 
--- r may be a child of the node numbered `own`: it is below `own` and, if inner, has a larger step. `stepAt` is the step of each node before
+-- r may be a child of the node numbered `own`: it is below `own` and, if inner, asks for a larger group. `stepAt` is the group of each node before
 abbrev pub childFits : (ℕ → ℕ) → ℕ → ℕ → ℕ → Bool
 childFits stepAt own step r = ltb r own && (ltb r 2 || ltb step (stepAt r))
 
--- what is wrong with a node's body after `count` nodes, in a chart of so many steps; 0: nothing.
--- At most 510 inner nodes; the step exists in the chart; lo and hi may be its children
+-- what is wrong with a node's body after `count` nodes, over so many groups; 0: nothing.
+-- At most 510 inner nodes; the group is none above the highest of the chart; lo and hi may be its children
 unfoldable pub nodeFault : ℕ → (ℕ → ℕ) → ℕ → List ℕ → ℕ
 nodeFault steps stepAt count b =
     pick (leb 510 count) 6
@@ -45,7 +45,7 @@ nodeFault steps stepAt count b =
     (pick (not (childFits stepAt (count + 2) (two b 0) (two b 2))) 6
     (pick (not (childFits stepAt (count + 2) (two b 0) (two b 4))) 6 0)))
 
--- a node's body: step, lo, hi
+-- a node's body: group, lo, hi
 abbrev pub innerNodeOf : List ℕ → InnerNode
 innerNodeOf b = record { step = two b 0; lo = two b 2; hi = two b 4 }
 
@@ -56,7 +56,7 @@ strict = true
 abbrev pub lenient : Bool
 lenient = false
 
--- step, lo and hi of two nodes are all equal
+-- group, lo and hi of two nodes are all equal
 abbrev pub alikeNodes : InnerNode → InnerNode → Bool
 alikeNodes x y = eqb (x .step) (y .step) && (eqb (x .lo) (y .lo) && eqb (x .hi) (y .hi))
 
@@ -90,7 +90,7 @@ withNodes root x =
     (pick (leb (length (x .passed) + 2) root) (diagramRead 6 0 root (x .passed))
     (diagramRead 0 0 root (x .passed)))
 
--- after the head: nodes, of tag 12 (hexadecimal) and length 6, over a chart of so many steps
+-- after the head: nodes, of tag 12 (hexadecimal) and length 6, over so many groups
 abbrev pub nodeGrammar : Bool → ℕ → Grammar InnerNode
 nodeGrammar mode steps = record { kind = λ before. only 18 6; fault = λ before tag. nodeFaultAfter mode steps before; holds = λ before tag. innerNodeOf }
 
@@ -119,7 +119,7 @@ module _ {A : Type 0} (d : Diagram) (at : ℕ → A) (inside : ℕ → InnerNode
   unfoldable pub descend : ℕ → A
   descend n = descendIn n n
 
--- To advance a node by step e: to lo while the node is inner and its step is below e; if it is then inner and its step is e, to hi
+-- To advance a node by the group e of a step: to lo while the node is inner and its group is below e; if it is then inner and its group is e, to hi
 unfoldable pub advance : Diagram → ℕ → ℕ → ℕ
 advance d e n = descend d (λ n. n) (λ n x lo hi. pick (ltb (x .step) e) lo (pick (eqb (x .step) e) (x .hi) n)) n
 
@@ -127,6 +127,6 @@ advance d e n = descend d (λ n. n) (λ n x lo hi. pick (ltb (x .step) e) lo (pi
 unfoldable pub finish : Diagram → ℕ → ℕ
 finish d n = descend d (λ n. n) (λ n x lo hi. lo) n
 
--- The verdict on a set of steps, from a node on: to hi where the node's step is in the set, else to lo, until 0 or 1
+-- The verdict on a set of groups, from a node on: to hi where the node's group is in the set, else to lo, until 0 or 1
 unfoldable pub verdict : Diagram → (ℕ → Bool) → ℕ → ℕ
 verdict d set n = descend d (λ n. n) (λ n x lo hi. pick (set (x .step)) hi lo) n

@@ -10,14 +10,15 @@ use lib.ListN.{take}
 use Rattle.definitions.specs.Basics.{pick, smaller, larger, sumOf, upto}
 use Rattle.definitions.specs.Fields.{only, orRemark, fieldAt, firstField, onField, scan}
 use Rattle.definitions.specs.Charts.{Chart, ChartStep, plain, grouped, groupCount, headFault, groupFault, stepFault, stepKind, readChart}
-use Rattle.definitions.specs.Diagrams.{Diagram, descend, descendIn, advance, finish, verdict, nodeFault, nodeFaultAfter, padding, strict, readDiagram}
+use Rattle.definitions.specs.Diagrams.{Diagram, descend, descendIn, advance, finish, verdict, nodeFault, nodeFaultAfter, padding, strict, lenient, readDiagram}
 use Rattle.definitions.specs.Bytes.{bodyOfStep, field, headBytes, stepBytes, chartBytes, chartBack, diagramBytes}
 use Rattle.definitions.specs.Ways.{waysIn, ways, leastWay}
 use Rattle.definitions.specs.Pairs.{stageOf, nodeOf, stands, leastCost, reached, goal, reachedPairs, goalPairs, toEnd, sum}
 use Rattle.definitions.specs.Plans.{graph, variable, variableCost, automaton, saysYes, legal, cheapest, chartEstimate, diagramEstimate, estimate}
-use Rattle.definitions.specs.Answers.{readFiles}
+use Rattle.definitions.specs.Answers.{ready, accepted, readFiles, LoadTwo, readyTwo, refusedTwo, loadTwo, fileAnswer, fileBuffer}
+use Rattle.definitions.specs.Promises.{ReducePromise, ConjoinPromise, conjoinSlices, writtenAnswer, writtenBuffer}
 use Rattle.definitions.specs.Reductions.{accepts, alike, mk, treeOf, member, position, postorder, ref, numbered, nodesOf, diagramOf, reducedOf, conjunction, reduction}
-use Rattle.definitions.specs.Marked.{st, nd, chart}
+use Rattle.definitions.specs.Marked.{st, nd, chart, leaf}
 use Rattle.definitions.specs.Examples.{rooted, steps, chartRefusal, loadRefusal}
 
 -- a step that names its group
@@ -48,13 +49,15 @@ files =
     -- a remark fixes no kind
     ∷ chartRefusal (headBytes 5 0 4 ++ field 130 (1 ∷ []) ++ stepBytes (gr 0 1 7 0) ++ field 131 [] ++ stepBytes (gr 0 1 7 0))
     ∷ chartRefusal (headBytes 5 0 4 ++ field 131 (1 ∷ []) ++ stepBytes (st 0 1 7) ++ stepBytes (gr 0 1 7 0))
+    -- a group below that of the step before, which is not the first
+    ∷ chartRefusal (steps (gr 0 1 7 0 ∷ gr 0 1 7 5 ∷ gr 0 1 7 4 ∷ []))
     -- no tag of a step
     ∷ chartRefusal (headBytes 5 0 4 ++ field 4 (bodyOfStep (gr 0 1 7 0)))
     ∷ []
 
 pub files-hold : files
     ≡ (0 ∷ 0 ∷ []) ∷ (0 ∷ 0 ∷ []) ∷ (2 ∷ 20 ∷ []) ∷ (2 ∷ 22 ∷ []) ∷ (2 ∷ 35 ∷ []) ∷ (2 ∷ 20 ∷ []) ∷ (2 ∷ 22 ∷ []) ∷ (2 ∷ 20 ∷ []) ∷ (1 ∷ 20 ∷ []) ∷ (3 ∷ 9 ∷ [])
-    ∷ (3 ∷ 9 ∷ []) ∷ (3 ∷ 22 ∷ []) ∷ (1 ∷ 9 ∷ []) ∷ (0 ∷ 0 ∷ []) ∷ (2 ∷ 24 ∷ []) ∷ (2 ∷ 9 ∷ []) ∷ []
+    ∷ (3 ∷ 9 ∷ []) ∷ (3 ∷ 22 ∷ []) ∷ (1 ∷ 9 ∷ []) ∷ (0 ∷ 0 ∷ []) ∷ (2 ∷ 24 ∷ []) ∷ (14 ∷ 35 ∷ []) ∷ (2 ∷ 9 ∷ []) ∷ []
 unfolding files pick only orRemark fieldAt firstField onField scan headFault stepFault groupFault stepKind readChart
 files-hold = refl
 
@@ -98,20 +101,20 @@ pub group-mistakes-refuted : map (λ x. eqb (x .0) (x .1)) groupMistakes ≡ map
 unfolding groupMistakes pick stepFault groupFault
 group-mistakes-refuted = refl
 
--- ---- the chart of REFERENCE 14 with groups: both ways to raise A13 are group 0, and groups 3 and 4 have no step. Group 0 needs group 1, which settles
+-- ---- the chart of REFERENCE 14 with groups: both ways to raise A13 are group 0, and groups 3 to 6 have no step. Group 0 needs group 1, which settles
 
 abbrev raised : Chart
 raised = record {
   stages = 5;
   start = 0;
   end = 4;
-  steps = gr 0 1 90 0 ∷ gr 0 1 40 0 ∷ gr 1 2 200 1 ∷ gr 1 3 30 2 ∷ gr 2 3 20 2 ∷ gr 3 4 50 5 ∷ [];
+  steps = gr 0 1 90 0 ∷ gr 0 1 40 0 ∷ gr 1 2 200 1 ∷ gr 1 3 30 2 ∷ gr 2 3 20 2 ∷ gr 3 4 50 7 ∷ [];
 }
 
 abbrev needs : Diagram
 needs = rooted 3 (nd 1 0 1 ∷ nd 0 1 2 ∷ [])
 
--- as it is read, from its file and from a file of the same steps without groups
+-- as it is read
 abbrev c : Chart
 c = chartBack raised
 
@@ -125,7 +128,7 @@ counts =
     groupCount c ∷ groupCount chart ∷ groupCount (record { stages = 5; start = 0; end = 4; steps = [] })
     ∷ groupCount (record { stages = 5; start = 0; end = 4; steps = gr 0 1 7 1023 ∷ [] }) ∷ groupCount (record { stages = 5; start = 0; end = 4; steps = gr 0 1 7 0 ∷ gr 0 1 7 0 ∷ [] }) ∷ []
 
-pub counts-hold : counts ≡ 6 ∷ 6 ∷ 0 ∷ 1024 ∷ 1 ∷ []
+pub counts-hold : counts ≡ 8 ∷ 6 ∷ 0 ∷ 1024 ∷ 1 ∷ []
 unfolding counts pick groupCount
 counts-hold = refl
 
@@ -135,17 +138,31 @@ one k = diagramBytes (rooted 2 (nd k 0 1 ∷ []))
 
 pub named : List (List ℕ)
 named =
-    loadRefusal (readFiles strict (chartBytes raised) (one 5))
+    loadRefusal (readFiles strict (chartBytes raised) (one 7))
     ∷ loadRefusal (readFiles strict (chartBytes raised) (one 3))
-    ∷ loadRefusal (readFiles strict (chartBytes raised) (one 6))
+    ∷ loadRefusal (readFiles strict (chartBytes raised) (one 8))
     ∷ loadRefusal (readFiles strict (chartBytes raised) (one 1023))
     ∷ loadRefusal (readFiles strict (headBytes 5 0 4) (one 0))
     ∷ loadRefusal (readFiles strict (steps (gr 0 1 7 1023 ∷ [])) (one 1023))
+    ∷ loadRefusal (readFiles lenient (steps (gr 0 1 7 1023 ∷ [])) (one 1023))
+    ∷ loadRefusal (readFiles lenient (chartBytes raised) (one 8))
     ∷ []
 
-pub named-holds : named ≡ [] ∷ [] ∷ (6 ∷ 2 ∷ 5 ∷ []) ∷ (6 ∷ 2 ∷ 5 ∷ []) ∷ (6 ∷ 2 ∷ 5 ∷ []) ∷ [] ∷ []
+pub named-holds : named ≡ [] ∷ [] ∷ (6 ∷ 2 ∷ 5 ∷ []) ∷ (6 ∷ 2 ∷ 5 ∷ []) ∷ (6 ∷ 2 ∷ 5 ∷ []) ∷ [] ∷ [] ∷ (6 ∷ 2 ∷ 5 ∷ []) ∷ []
 unfolding named pick only orRemark fieldAt firstField onField scan headFault stepFault groupFault stepKind readChart groupCount nodeFault nodeFaultAfter padding readDiagram readFiles
 named-holds = refl
+
+-- so may a node of a second diagram
+abbrev twoRefusal : LoadTwo → List ℕ
+twoRefusal (readyTwo c d e) = []
+twoRefusal (refusedTwo number file place) = number ∷ file ∷ place ∷ []
+
+pub namedMore : List (List ℕ)
+namedMore = twoRefusal (loadTwo (steps (gr 0 1 7 1023 ∷ [])) (one 1023) (one 1023) 9) ∷ twoRefusal (loadTwo (chartBytes raised) (one 7) (one 8) 9) ∷ []
+
+pub named-more-holds : namedMore ≡ [] ∷ (6 ∷ 3 ∷ 5 ∷ []) ∷ []
+unfolding namedMore pick only orRemark fieldAt firstField onField scan headFault stepFault groupFault stepKind readChart groupCount nodeFault nodeFaultAfter padding readDiagram readFiles loadTwo
+named-more-holds = refl
 
 -- a test is 1 or 0
 abbrev flag : Bool → Option ℕ
@@ -161,7 +178,7 @@ asked group lo hi = diagramEstimate c (rooted 2 (nd group lo hi ∷ [])) 2
 pub computed : List (List (Option ℕ))
 computed =
     -- what each group costs, the cheapest of its steps, rounded, though it is not the first; none without steps, and past the highest
-    map (variableCost c) (upto 7)
+    map (variableCost c) (upto 9)
     -- the cheapest plan; the reached pairs; estimates of stages and of both nodes; sums
     ∷ (cheapest c needs ∷ [])
     ∷ map some (reachedPairs (graph c) (automaton c needs))
@@ -176,7 +193,7 @@ computed =
 
 pub expected : List (List (Option ℕ))
 expected =
-    (some 50 ∷ some 200 ∷ some 50 ∷ none ∷ none ∷ some 50 ∷ none ∷ [])
+    (some 50 ∷ some 200 ∷ some 50 ∷ none ∷ none ∷ none ∷ none ∷ some 50 ∷ none ∷ [])
     ∷ (some 350 ∷ [])
     ∷ (some 3 ∷ some 6 ∷ some 9 ∷ some 13 ∷ some 17 ∷ [])
     ∷ (some 150 ∷ some 100 ∷ some 100 ∷ some 50 ∷ some 0 ∷ some 200 ∷ some 0 ∷ [])
@@ -222,6 +239,18 @@ joined = reduction (groupCount c) (askedFor 3) ∷ conjunction (groupCount c) (a
 pub joined-holds : joined ≡ askedFor 3 ∷ rooted 3 (nd 5 0 1 ∷ nd 3 0 2 ∷ []) ∷ []
 unfolding joined groupCount reduction conjunction reducedOf treeOf accepts verdict descend descendIn mk alike pick diagramOf postorder member position ref numbered nodesOf
 joined-holds = refl
+
+-- and the calls write just that, also where a group has a number that no step has
+pub reduce-written : ReducePromise (ready c (askedFor 7)) (diagramBytes (leaf 0) ++ diagramBytes (leaf 0) ++ diagramBytes (leaf 0)) (diagramBytes (askedFor 7) ++ 0 ∷ []) (accepted 0 14 0)
+unfolding groupCount reduction reducedOf treeOf accepts verdict descend descendIn mk alike pick diagramOf postorder member position ref numbered nodesOf fileAnswer fileBuffer
+reduce-written = record { answer = refl; buffer = refl }
+
+abbrev both : Diagram
+both = rooted 3 (nd 7 0 1 ∷ nd 3 0 2 ∷ [])
+
+pub conjoin-written : ConjoinPromise (readyTwo c (askedFor 7) (askedFor 3)) (conjoinSlices [] (diagramBytes (rooted 0 (nd 0 0 0 ∷ nd 0 0 0 ∷ [])))) (conjoinSlices [] (diagramBytes both)) (accepted 0 23 0)
+unfolding groupCount conjunction reducedOf treeOf accepts verdict descend descendIn mk alike pick diagramOf postorder member position ref numbered nodesOf writtenAnswer writtenBuffer fileAnswer fileBuffer
+conjoin-written = (refl, refl, refl, refl)
 
 -- mistakes: the largest cost of a group, its first step's, the unrounded one; a group without steps that costs 0; its hi where lo has no estimate; a raise that is
 -- taken for another variable; the second step of a group that leads on to the hi of a later node

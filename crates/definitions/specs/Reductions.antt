@@ -12,7 +12,7 @@ use Rattle.definitions.specs.Diagrams.{Diagram, InnerNode, noNode, size,
 
 -- ---- what a reduced diagram is
 
--- the diagram says yes to a set of steps
+-- the diagram says yes to a set of groups
 unfoldable pub accepts : Diagram → (ℕ → Bool) → Bool
 accepts d set = eqb (verdict d set (d .root)) 1
 
@@ -36,7 +36,7 @@ pub data Arrives (d : Diagram) : ℕ → Type 0 where
 
 -- ---- decision trees
 
--- "no", "yes", or a node: its step, its lo and its hi
+-- "no", "yes", or a node: its group, its lo and its hi
 pub data Tree : Type 0 where
   no-leaf : Tree
   yes-leaf : Tree
@@ -58,11 +58,11 @@ alike (branch v l h) (branch w m k) = eqb v w && (alike l m && alike h k)
 unfoldable pub mk : ℕ → Tree → Tree → Tree
 mk v l h = pick (alike l h) l (branch v l h)
 
--- a set with one step more
+-- a set with one group more
 abbrev pub with : (ℕ → Bool) → ℕ → ℕ → Bool
 with set v j = eqb j v || set j
 
--- The tree of a property of sets of steps: whether the sets have it that are `set` and any of the k steps from v on. It asks for each of these steps in turn,
+-- The tree of a property of sets of groups: whether the sets have it that are `set` and any of the k groups from v on. It asks for each of these groups in turn,
 -- but not where the answer makes no difference (Shannon's expansion)
 unfoldable pub treeOf : ((ℕ → Bool) → Bool) → ℕ → ℕ → (ℕ → Bool) → Tree
 treeOf f zero v set = pick (f set) yes-leaf no-leaf
@@ -107,14 +107,14 @@ diagramOf t = record { root = ref (postorder t []) t; nodes = nodesOf (postorder
 
 -- ---- the diagrams that are written
 
--- the reduced diagram of a property of the sets of so many steps
+-- the reduced diagram of a property of the sets of so many groups
 unfoldable pub reducedOf : ℕ → ((ℕ → Bool) → Bool) → Diagram
 reducedOf steps f = diagramOf (treeOf f steps 0 (λ j. false))
 
--- the reduction of a diagram over a chart of so many steps: yes exactly to the sets to which it says yes
+-- the reduction of a diagram over so many groups, those without steps too: yes exactly to the sets to which it says yes
 unfoldable pub reduction : ℕ → Diagram → Diagram
 reduction steps d = reducedOf steps (accepts d)
 
--- the conjunction of two diagrams over a chart of so many steps: yes exactly to the sets to which both say yes
+-- the conjunction of two diagrams over so many groups, those without steps too: yes exactly to the sets to which both say yes
 unfoldable pub conjunction : ℕ → Diagram → Diagram → Diagram
 conjunction steps d e = reducedOf steps (λ set. accepts d set && accepts e set)

@@ -4,7 +4,7 @@ use Prim.Native.Nat.{ℕ, zero, suc, _+_, _*_, _≤_, _<_, max}
 use mathlib.Core.Path.{_≡_, refl, sym, _∙_, ap, ap₂}
 use mathlib.Core.Bool.{true}
 use mathlib.Core.List.{List, [], _∷_}
-use mathlib.Core.Option.{none, some}
+use mathlib.Core.Option.{Option, none, some}
 use mathlib.Core.Logic.{_⊎_, inl, inr}
 use native.Mathlib.Omega.{arith}
 use lib.Dec.{eqb}
@@ -19,7 +19,7 @@ use Rattle.definitions.specs.Plans.{graph, automaton, variable, variableCost, c
 use Rattle.theory.specs.Limits.{Small, Valid, Ordered, Sound}
 use Rattle.theory.specs.Basics.{Order, less, same, more, order, AtMost, none-not-some, some-inj, at-most-zero, weaken, smaller-left, smaller-right, smaller-cases, sumOf-at-most, sumOf-parts, larger-at-most, larger-left, larger-right, larger-parts, larger-none-right}
 use Rattle.theory.specs.Diagrams.{induction, descend-leaf, descend-inner, advance-leaf, advance-below, advance-at, advance-above, finish-leaf, finish-inner}
-use Rattle.theory.specs.Variables.{variableCost-at-most, variableCost-cheap}
+use Rattle.theory.specs.Variables.{gap-cost, variableCost-at-most, variableCost-cheap}
 use Rattle.theory.specs.Pairs.{goal-parts}
 use Rattle.theory.specs.Ways.{way-climbs, way-cheap, leastWay-lower, leastWay-attained}
 
@@ -98,6 +98,17 @@ module _ (c : Chart) (d : Diagram) (o : Ordered d) where
       → diagramEstimate c d n ≡ smaller (diagramEstimate c d (inner d n .lo)) (sumOf (variableCost c (inner d n .step)) (diagramEstimate c d (inner d n .hi)))
   unfolding diagramEstimate
   diagramEstimate-inner n h = descend-inner d o _ _ n h
+
+  -- the hi of a node that asks for a group without steps is ignored, also where lo has no estimate
+  pub diagramEstimate-gap : (n : ℕ) → 2 ≤ n → ((e : ℕ) → e < graph c .count → graph c .group e ≡ inner d n .step → ⊥) → diagramEstimate c d n ≡ diagramEstimate c d (inner d n .lo)
+  unfolding smaller sumOf
+  diagramEstimate-gap n h gap =
+      diagramEstimate-inner n h ∙ ap (λ (o : Option ℕ). smaller (diagramEstimate c d (inner d n .lo)) (sumOf o (diagramEstimate c d (inner d n .hi)))) (gap-cost c (inner d n .step) gap)
+      ∙ smaller-none (diagramEstimate c d (inner d n .lo))
+    where
+      smaller-none : (o : Option ℕ) → smaller o none ≡ o
+      smaller-none none = refl
+      smaller-none (some x) = refl
 
   -- a variable's cost at most j, the estimate after it at most m: before it at most j + m
   pub diagram-step : (k j m n : ℕ) → AtMost (variableCost c k) j → AtMost (diagramEstimate c d (advance d k n)) m → AtMost (diagramEstimate c d n) (j + m)

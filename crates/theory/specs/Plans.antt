@@ -16,7 +16,7 @@ use Rattle.definitions.specs.Plans.{graph, variable, automaton, saysYes, Legal,
 use Rattle.theory.specs.Limits.{Valid, Ordered}
 use Rattle.theory.specs.Basics.{both}
 use Rattle.theory.specs.Least.{IsLeast, least-same, least-unique}
-use Rattle.theory.specs.Diagrams.{Sorted, advanceAll, finish-leaf, verdict-stands}
+use Rattle.theory.specs.Diagrams.{Sorted, advance-once, advanceAll, finish-leaf, verdict-stands}
 use Rattle.theory.specs.Ways.{Rising, way-rising, Passing, leastWay-least, isWay-is, is-isWay}
 use Rattle.theory.specs.Variables.{variable-rises}
 use Rattle.theory.specs.Pairs.{WayTo, cost-attained, cost-lower, way-reached, goal-parts, is-goal}
@@ -31,6 +31,10 @@ rising-sorted c v (e ∷ w) s k j i r h =
 
 pub variables-sorted : (c : Chart) → Valid (graph c) → (w : List ℕ) (s : ℕ) → IsWay (graph c) s w → Sorted 0 (map (variable c) w)
 variables-sorted c v w s i = rising-sorted c v w s 0 0 i (way-rising (graph c) v w s i) (λ e l i. omega arith)
+
+-- two steps of one group in turn advance a node once
+pub next-once : (c : Chart) (d : Diagram) → Ordered d → (e f n : ℕ) → variable c f ≡ variable c e → automaton c d .next f (automaton c d .next e n) ≡ automaton c d .next e n
+next-once c d o e f n q = ap (λ (k : ℕ). advance d k (advance d (variable c e) n)) q ∙ advance-once d o (variable c e) n
 
 -- a way stands where the list of its variables stands
 pub stands-variables : (c : Chart) (d : Diagram) (w : List ℕ) (n : ℕ) → stands (automaton c d) n w ≡ advanceAll d n (map (variable c) w)

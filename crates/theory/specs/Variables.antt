@@ -1,15 +1,17 @@
 -- Laws of the diagram's variables: which one a step sets, how many there are, and what setting one costs. Nothing else looks into their definitions.
 -- Assumes nothing.
 use Prim.Native.Nat.{ℕ, zero, suc, _≤_, _<_}
-use mathlib.Core.Path.{_≡_, refl, sym, _∙_, ap}
+use mathlib.Core.Path.{_≡_, refl, sym, _∙_, ap, ap₂}
+use mathlib.Core.Bool.{Bool, false, _||_}
 use mathlib.Core.List.{List, [], _∷_, map, Memᴰ·map, Memᴰ·of-map}
-use mathlib.Core.Option.{some}
+use mathlib.Core.Option.{none, some}
 use native.Mathlib.Omega.{arith}
 use lib.ListN.{length, getD}
-use borrow.Author.Tests.{eqb-true, eq-eqb}
-use Rattle.definitions.specs.Basics.{upto, above}
+use borrow.Author.Tests.{eqb-true, eq-eqb, ne-eqb}
+use Rattle.definitions.specs.Basics.{upto, above, has}
 use Rattle.definitions.specs.Charts.{Chart, ChartStep, noStep, groupCount}
 use Rattle.definitions.specs.Diagrams.{Diagram, advance}
+use Rattle.definitions.specs.Ways.{IsWay}
 use Rattle.definitions.specs.Plans.{graph, automaton, variable, stepsOf, variableCost}
 use Rattle.theory.specs.Limits.{Small, Valid}
 use Rattle.theory.specs.Basics.{AtMost, keep-in, in-keep, run-in, in-run, least-lower, least-in}
@@ -94,6 +96,19 @@ module _ (c : Chart) (k : ℕ) where
 -- a step costs at least what setting its variable costs
 pub variableCost-at-most : (c : Chart) (e : ℕ) → e < graph c .count → AtMost (variableCost c (variable c e)) (graph c .cost e)
 variableCost-at-most c e h = rw (variable-is c e) (variableCost-lower c (graph c .group e) (graph c .cost e) (e, h, refl, refl))
+
+-- ---- a group without steps
+
+module _ (c : Chart) (k : ℕ) (gap : (e : ℕ) → e < graph c .count → graph c .group e ≡ k → ⊥) where
+  -- is never present
+  pub gap-absent : (w : List ℕ) (s : ℕ) → IsWay (graph c) s w → has (map (variable c) w) k ≡ false
+  unfolding variable
+  gap-absent [] s i = refl
+  gap-absent (e ∷ w) s i = ap₂ (λ (a b : Bool). a || b) (ne-eqb k (graph c .group e) (λ q. gap e (i .0) (sym q))) (gap-absent w (graph c .to e) (i .2))
+
+  -- and has no cost
+  pub gap-cost : variableCost c k ≡ none
+  gap-cost = least-unique (SetAt c k) (variableCost c k) none (variableCost-least c k) (λ m x. gap (x .0) (x .1) (x .2))
 
 -- ---- a chart in which each step is a group alone
 
