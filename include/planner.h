@@ -82,8 +82,8 @@ enum {
 #define PLANNER_MOST_FILE 4595
 
 /* Bytes of stack that are enough for any call. Measured peaks, the same for all files (docs/PERFORMANCE-TABLES.md):
- * planner_sweep 16,136, planner_guided 16,952, planner_cycles 16,840, planner_both 17,528, planner_conjoin 21,128,
- * planner_reduce 21,000, planner_space_needed 12,776, planner_refused_field 88. */
+ * planner_sweep 16,136, planner_guided 18,792, planner_cycles 18,728, planner_both 19,368, planner_conjoin 21,128,
+ * planner_reduce 21,000, planner_space_needed 12,792, planner_refused_field 88. */
 #define PLANNER_STACK 32768
 
 /* What a chart's steps and a diagram's nodes have in common are groups. A step of tag 03 names its group; one of tag 02 is a
