@@ -11,7 +11,7 @@ use diagram_fields::{hi_of, lo_of, step_of, word};
 use unique_table::{FULL, intern};
 
 // How many frames there are, and the reference of the pair whose walk is done.
-#[derive(Drop)]
+#[derive(Clone, Copy)]
 pub struct Reached {
     pub frames: usize,
     pub reference: u16,

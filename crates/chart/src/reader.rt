@@ -15,7 +15,7 @@ use fields::reader::{moved, new, next};
 use fields::{first_field, goes_on, next_field};
 
 // The steps read so far.
-#[derive(Drop)]
+#[derive(Clone, Copy)]
 pub struct StepsRead {
     // the refusal's number, 0 where there is none
     pub number: u8,
@@ -284,7 +284,7 @@ fn read_steps(file: &[u8], first: usize, stages: u16, steps: &mut [[u32; 1024]; 
 
 // A chart file, read: the refusal's number and place, 0 and 0 where it is accepted, and the chart as far as its
 // fields passed.
-#[derive(Drop)]
+#[derive(Clone, Copy)]
 pub struct ChartRead {
     pub number: u8,
     pub place: usize,

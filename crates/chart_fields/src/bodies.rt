@@ -31,7 +31,7 @@ pub fn head_fault(b: &[u8]) -> u8
 }
 
 // What a head's body holds.
-#[derive(Drop)]
+#[derive(Clone, Copy)]
 pub struct HeadBody {
     pub stages: u16,
     pub start: u16,
@@ -113,7 +113,7 @@ fn rounded_cost(value: u32) -> u32
 }
 
 // What the body of a step holds, its cost rounded.
-#[derive(Drop)]
+#[derive(Clone, Copy)]
 pub struct StepBody {
     pub tag: u8,
     pub from: u16,

@@ -8,7 +8,7 @@ use definitions::{Answer, Node, Shape, Stage};
 use diagram::read_diagram;
 
 // A refusal's number, file and place, 0 where all checks pass; and what was read.
-#[derive(Drop)]
+#[derive(Clone, Copy)]
 pub struct Loaded {
     pub number: u32,
     pub file: u32,

@@ -12,7 +12,7 @@ use diagram::read_diagram;
 
 // A refusal's number, file and place, 0 where all checks pass; then the roots of both diagrams, how many nodes the second
 // has, N, and how many pairs of nodes there are.
-#[derive(Drop)]
+#[derive(Clone, Copy)]
 pub struct LoadedTwo {
     pub number: u32,
     pub file: u32,

@@ -1,23 +1,23 @@
 // The types that the definitions and the code share. The definitions themselves are in specs/.
 
 // A stage of the chart (a vertex of the graph).
-#[derive(Drop)]
+#[derive(Clone, Copy)]
 pub struct Stage(pub u16);
 
 // A step of the chart (an edge), numbered from 0 in file order.
-#[derive(Drop)]
+#[derive(Clone, Copy)]
 pub struct Step(pub u16);
 
 // A group of steps that mean the same: what a node of the rule diagram asks for.
-#[derive(Drop)]
+#[derive(Clone, Copy)]
 pub struct Group(pub u16);
 
 // A node of the rule diagram: 0 is "no", 1 is "yes", the inner nodes are 2, 3, 4 .. in file order.
-#[derive(Drop)]
+#[derive(Clone, Copy)]
 pub struct Node(pub u16);
 
 // The sizes of a chart and a diagram that stand in tables.
-#[derive(Drop)]
+#[derive(Clone, Copy)]
 pub struct Shape {
     pub stages: u16,
     pub start: Stage,
@@ -34,7 +34,7 @@ pub struct Shape {
 pub const NONE: u32 = 4294967295;
 
 // What stands in a file where a field of some tag and length is due.
-#[derive(Drop)]
+#[derive(Clone, Copy)]
 pub enum Field {
     // The file ends here.
     Absent,
@@ -56,7 +56,7 @@ pub enum Field {
 }
 
 // What a call answers.
-#[derive(Drop)]
+#[derive(Clone, Copy)]
 pub struct Answer {
     // 0, or the refusal's number.
     pub number: u32,
@@ -74,7 +74,7 @@ pub struct Answer {
 
 // A start, an end and space for the answer to them: an entry of a list of cycles on one chart.
 #[repr(C)]
-#[derive(Drop)]
+#[derive(Clone, Copy)]
 pub struct Cycle {
     pub start: u16,
     pub end: u16,

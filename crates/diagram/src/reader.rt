@@ -18,7 +18,7 @@ use fields::{first_field, goes_on};
 use unique_table::{add, find};
 
 // The nodes read so far.
-#[derive(Drop)]
+#[derive(Clone, Copy)]
 pub struct NodesRead {
     // the refusal's number, 0 where there is none
     pub number: u8,
@@ -173,7 +173,7 @@ fn read_nodes(
 
 // A diagram file, read: the refusal's number and place, 0 and 0 where it is accepted, and the diagram as far as its
 // fields passed.
-#[derive(Drop)]
+#[derive(Clone, Copy)]
 pub struct DiagramRead {
     pub number: u8,
     pub place: usize,

@@ -8,7 +8,7 @@ use crate::look::next_field;
 use definitions::Field;
 
 // A file, and the place of its next field.
-#[derive(Drop)]
+#[derive(Clone, Copy)]
 pub struct Reader<'a> {
     pub src: &'a [u8],
     pub at: usize,

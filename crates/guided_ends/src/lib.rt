@@ -8,7 +8,7 @@ use definitions::{Answer, Node, Shape};
 use trace::write_plan;
 
 // Whether a goal pair was settled, its node and its cost; and how many pairs were settled.
-#[derive(Drop)]
+#[derive(Clone, Copy)]
 pub struct Ended {
     pub found: bool,
     pub node: Node,

@@ -19,7 +19,7 @@ use trace::pair_at;
 use via_marks::packed;
 
 // A pair that is settled, its cost, and its key (cost plus estimate), which is the one last taken from the queue.
-#[derive(Drop)]
+#[derive(Clone, Copy)]
 pub struct Source {
     pub pair: Pair,
     pub cost: u32,

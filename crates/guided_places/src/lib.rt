@@ -10,7 +10,7 @@ use nodes::finishes;
 use via_marks::stage_in;
 
 // A pair of a stage and a node.
-#[derive(Drop)]
+#[derive(Clone, Copy)]
 pub struct Pair {
     pub stage: Stage,
     pub node: Node,

@@ -5,7 +5,7 @@ ghost use Rattle.planner.specs.Both.{BothCall};
 use definitions::Answer;
 
 // The answers of both searches.
-#[derive(Drop)]
+#[derive(Clone, Copy)]
 pub struct Answers {
     pub sweep: Answer,
     pub guided: Answer,

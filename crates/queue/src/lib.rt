@@ -9,14 +9,14 @@ ghost use Rattle.queue.specs.Queue.{state, Queue, Empty, Inserting, Inserted, De
 use convert::wide;
 
 // How many pairs the queue holds, and how many of them are on the stack.
-#[derive(Drop)]
+#[derive(Clone, Copy)]
 pub struct Counts {
     pub held: usize,
     pub top: usize,
 }
 
 // The pair taken, its key, and the counts after that.
-#[derive(Drop)]
+#[derive(Clone, Copy)]
 pub struct Next {
     pub pair: usize,
     pub key: u32,

@@ -2,7 +2,7 @@
 use std::num::wrapping_add_usize;
 
 // A number and the place after it.
-#[derive(Drop)]
+#[derive(Clone, Copy)]
 pub struct Number {
     pub value: u64,
     pub next: usize,
@@ -37,7 +37,7 @@ fn read_number(s: &[u8], at: usize) -> Number {
 }
 
 // A command: its letter, its numbers and the place after it.
-#[derive(Drop)]
+#[derive(Clone, Copy)]
 pub struct Command {
     pub letter: u8,
     pub a: u64,

@@ -37,7 +37,7 @@ fn put_same(buf: &mut [u8], at: usize, x: u8, bytes: u64) -> usize {
 }
 
 // The tag of a field and the length of its body.
-#[derive(Drop)]
+#[derive(Clone, Copy)]
 struct Kind {
     tag: u64,
     length: u64,

@@ -8,7 +8,7 @@ use checks::load;
 
 // The refusal's number, file and place, or 0; and the entries that each work slice and the plan slice need, 0 where the
 // files are refused.
-#[derive(Drop)]
+#[derive(Clone, Copy)]
 pub struct Space {
     pub number: u32,
     pub file: u32,

@@ -8,7 +8,7 @@ use convert::wide;
 use definitions::{NONE, Node};
 
 // A goal pair's cost, NONE where there is none yet, and its node.
-#[derive(Drop)]
+#[derive(Clone, Copy)]
 pub struct Best {
     pub cost: u32,
     pub node: Node,

@@ -12,7 +12,7 @@ use nodes::{branch, descend_to, lowered_at};
 use sweep_offers::relax_step;
 
 // The steps from `begin` to before `until`.
-#[derive(Drop)]
+#[derive(Clone, Copy)]
 struct Span {
     begin: Step,
     until: Step,

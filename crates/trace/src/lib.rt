@@ -9,7 +9,7 @@ use definitions::{Node, Stage, Step};
 use via_marks::{node_in, step_in};
 
 // A step, and the stage and node that it left.
-#[derive(Drop)]
+#[derive(Clone, Copy)]
 pub struct Predecessor {
     pub step: Step,
     pub stage: Stage,

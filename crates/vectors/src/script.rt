@@ -16,7 +16,7 @@ const MORE: usize = 3 * LONGEST;
 pub const BUFFER: usize = 4 * LONGEST;
 
 // Where the next command stands, and how many bytes the file in the making, the chart and both diagrams have.
-#[derive(Drop)]
+#[derive(Clone, Copy)]
 pub struct State {
     pub at: usize,
     pub file: usize,

@@ -81,7 +81,7 @@ pub fn hexadecimal(bytes: &[u8]) {
 }
 
 // How the entries of a slice are written.
-#[derive(Drop)]
+#[derive(Clone, Copy)]
 pub enum How {
     // Each.
     Entry,
