@@ -1,4 +1,6 @@
 // What the calls for C and Rust store in the arrays and the buffer that their callers lend: an answer, both searches' answers, the space needed, a refused field.
+#![tactic(auto)]
+
 ghost use Rattle.std.specs.Prelude.{◌≡◌, min, length};
 ghost use Rattle.buffer.specs.Appending.{Appended};
 ghost use Rattle.answer_arrays.specs.Numbers.{numbers, space_numbers};

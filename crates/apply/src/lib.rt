@@ -1,4 +1,6 @@
 // The conjunction of two diagrams that stand in tables, by a walk over pairs of their nodes (APPLY of "and").
+#![tactic(auto)]
+
 mod pairs;
 mod walk;
 

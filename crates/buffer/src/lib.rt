@@ -1,4 +1,6 @@
 // Bytes copied into a lent buffer, behind what stands there. Where the buffer is too short they are cut at its end.
+#![tactic(auto)]
+
 ghost use Rattle.std.specs.Prelude.{◌≤◌, length};
 ghost use Rattle.buffer.specs.Appending.{Appended};
 

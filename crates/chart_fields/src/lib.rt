@@ -1,4 +1,6 @@
 // The single fields of a chart file: their bodies, and a step's entry in the table of steps.
+#![tactic(auto)]
+
 mod bodies;
 mod ends;
 

@@ -1,4 +1,6 @@
 // What the searches need of each stage of a chart that stands in tables: its first step and its estimate.
+#![tactic(auto)]
+
 mod estimates;
 mod first;
 

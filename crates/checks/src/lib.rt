@@ -1,4 +1,6 @@
 // What every search checks first, in this order: the chart, the diagram, the space. What passes stands in tables.
+#![tactic(auto)]
+
 ghost use Rattle.std.specs.Prelude.{◌≡◌, [], ◌∷◌};
 ghost use Rattle.definitions.specs.Answers.{load as outcome, refusal as refusalOf, accepted as acceptedOf};
 ghost use Rattle.checks.specs.Tables.{Refuses, Room, read, LoadsAs};

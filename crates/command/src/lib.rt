@@ -1,4 +1,6 @@
 // The program's input and output: both files by their paths, and the text to standard output.
+#![tactic(auto)]
+
 ghost use Rattle.io.specs.Counts.{IsPrefixLen};
 
 // Reads the start of a file, as far as the buffer goes, and returns how many bytes it put there: 0 where the file can't

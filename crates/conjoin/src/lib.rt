@@ -1,4 +1,6 @@
 // The conjunction of two diagram files over one chart, written as a file into a lent buffer.
+#![tactic(auto)]
+
 mod call;
 mod load;
 

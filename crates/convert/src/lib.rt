@@ -1,4 +1,6 @@
 // Numbers taken as places and counts, and the lesser of two.
+#![tactic(auto)]
+
 ghost use Rattle.std.specs.Prelude.{◌≡◌, ◌<◌, min};
 
 // A number of 32 bits as a place or a count.

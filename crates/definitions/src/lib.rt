@@ -1,4 +1,5 @@
 // The types that the definitions and the code share. The definitions themselves are in specs/.
+#![tactic(auto)]
 
 // A stage of the chart (a vertex of the graph).
 #[derive(Clone, Copy)]

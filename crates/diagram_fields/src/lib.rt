@@ -1,4 +1,6 @@
 // The single fields of a diagram file: an inner node's body, and its entry in the table of inner nodes.
+#![tactic(auto)]
+
 mod bodies;
 mod words;
 

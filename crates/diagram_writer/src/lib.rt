@@ -1,4 +1,6 @@
 // The diagram that stands in a unique table, written as a file into a lent buffer.
+#![tactic(auto)]
+
 ghost use Rattle.std.specs.Prelude.{◌+◌, ◌*◌, ◌≤◌, length};
 ghost use Rattle.definitions.specs.Answers.{Filed};
 ghost use Rattle.definitions.specs.Basics.{each};

@@ -1,4 +1,6 @@
 // The decimal digits of a number, appended to what stands in a lent buffer.
+#![tactic(auto)]
+
 ghost use Rattle.std.specs.Prelude.{◌≤◌, length};
 ghost use Rattle.buffer.specs.Appending.{Appended};
 ghost use Rattle.digits.specs.Decimal.{decimal};

@@ -1,4 +1,6 @@
 // Entries of a lent slice before they are used.
+#![tactic(auto)]
+
 ghost use Rattle.std.specs.Prelude.{◌≡◌, ◌++◌, ◌≤◌, length, drop, replicate};
 ghost use Rattle.definitions.specs.Basics.{NONE};
 

@@ -1,5 +1,7 @@
 // Numbers and headers of tagged fields, written into a lent buffer. Each function writes at a place and returns the place behind what it wrote. The caller tests
 // first that there is room.
+#![tactic(auto)]
+
 ghost use Rattle.std.specs.Prelude.{[], ◌∷◌, ◌+◌, ◌*◌, ◌≤◌, ◌<◌, length};
 ghost use Rattle.definitions.specs.Basics.{each};
 ghost use Rattle.definitions.specs.Bytes.{le2, le4, header};

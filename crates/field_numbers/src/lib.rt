@@ -1,4 +1,6 @@
 // Numbers in a file's bytes, low byte first.
+#![tactic(auto)]
+
 ghost use Rattle.std.specs.Prelude.{◌≡◌, ◌+◌, ◌<◌, length};
 ghost use Rattle.definitions.specs.Fields.{two, four};
 

@@ -1,5 +1,7 @@
 // The fields of charts and diagrams, each written at a place of a lent buffer. Each function returns the place behind the field. The caller tests first that
 // all of a file has room.
+#![tactic(auto)]
+
 ghost use Rattle.std.specs.Prelude.{◌++◌, ◌+◌, ◌≤◌, length};
 ghost use Rattle.definitions.specs.Marked.{st, nd};
 ghost use Rattle.definitions.specs.Bytes.{le2, header, field, head_bytes, step_bytes, root_bytes, node_bytes};

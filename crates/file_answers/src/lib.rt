@@ -1,4 +1,6 @@
 // What a call answers that writes a file into a lent buffer, after every other check.
+#![tactic(auto)]
+
 ghost use Rattle.std.specs.Prelude.{◌≡◌};
 ghost use Rattle.definitions.specs.Answers.{file_answer};
 

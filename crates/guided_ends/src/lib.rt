@@ -1,4 +1,6 @@
 // How the guided search ended, and the answer to that.
+#![tactic(auto)]
+
 ghost use Rattle.chart.specs.Tables.{steps_in};
 ghost use Rattle.guided_ends.specs.Ends.{Ending, Concludes};
 

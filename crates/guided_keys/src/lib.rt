@@ -1,4 +1,6 @@
 // The keys of pairs, filled in blocks of 128: each block when its first pair is opened.
+#![tactic(auto)]
+
 ghost use Rattle.std.specs.Prelude.{◌≡◌, ◌≤◌, ◌<◌, length};
 ghost use Rattle.guided_keys.specs.Fills.{Filled, BlockOpened};
 

@@ -1,4 +1,6 @@
 // What a step of the guided search offers: the estimate of the pair that it leads to, and a key for that pair.
+#![tactic(auto)]
+
 ghost use Rattle.std.specs.Prelude.{◌≡◌, ◌<◌, max};
 ghost use Rattle.guided_offers.specs.Estimates.{estimates, paired};
 ghost use Rattle.guided_offers.specs.Work.{work, Offering, Relaxes};

@@ -1,4 +1,6 @@
 // One settled pair of the guided search: its stage and its node, whether it is a goal pair, and its entry in the log.
+#![tactic(auto)]
+
 ghost use Rattle.std.specs.Prelude.{◌≡◌, ◌+◌, ◌≤◌, ◌<◌, length, get_or, set};
 ghost use Rattle.guided_places.specs.Places.{GoalAt, stage_at, Placed};
 ghost use Rattle.diagram_fields.specs.Words.{nodes_in};

@@ -1,4 +1,6 @@
 // One guided search over tables: those that it walks, whatever its start and end, and the search from a start to an end.
+#![tactic(auto)]
+
 mod run;
 mod tables;
 

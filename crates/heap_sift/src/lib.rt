@@ -1,6 +1,8 @@
 // The steps inside the calls of a binary min-heap with positions, over the pairs 0 to p - 1, in three lent slices: keys has the
 // key of each pair, heap the n pairs of the heap, in heap order, and pos the place of each of these. What else stands in heap
 // and pos is arbitrary, and nothing from p on is touched. No step reads p: its contract holds for every p that fits.
+#![tactic(auto)]
+
 ghost use Rattle.std.specs.Prelude.{◌≡◌, ℕ, ◌+◌, ◌≤◌, ◌<◌, length, get_or};
 ghost use Rattle.heap_sift.specs.Heap.{slices, key, parent};
 ghost use Rattle.heap_sift.specs.Sift.{Entry, Swapped, LeastChild, SiftingUp, SiftingDown, Sifted};

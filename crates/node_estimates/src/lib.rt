@@ -1,4 +1,6 @@
 // The diagram estimates of the nodes of a rule diagram that stands in a table, and what the groups of a chart cost.
+#![tactic(auto)]
+
 ghost use Rattle.std.specs.Prelude.{◌≡◌, ◌+◌, ◌<◌, min, length, get_or, replicate};
 ghost use Rattle.definitions.specs.Basics.{NONE};
 ghost use Rattle.definitions.specs.Plans.{graph};

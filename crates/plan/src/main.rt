@@ -1,4 +1,6 @@
 // Plans the cycle of chart.bin under the rules of rules.bin, both in the current folder.
+#![tactic(auto)]
+
 fn main() {
     command::run(b"chart.bin", b"rules.bin");
 }

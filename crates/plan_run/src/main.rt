@@ -1,4 +1,5 @@
 // The program `plan` on many files: the folders 001, 002 .. of data/, which tools/run_files.py writes.
+#![tactic(auto)]
 
 // How many folders there are.
 const CASES: u8 = 173;

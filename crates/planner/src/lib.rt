@@ -1,4 +1,6 @@
 // Both searches on the same files, in one call.
+#![tactic(auto)]
+
 ghost use Rattle.definitions.specs.Promises.{sweep_slices, guided_slices};
 ghost use Rattle.planner.specs.Both.{BothCall};
 

@@ -1,5 +1,7 @@
 // The library for C and Rust: the public calls under plain names, over numbers, slices and arrays of numbers. An answer
 // goes into an array that the caller lends, and its number is returned too. include/planner.h is the C declaration.
+#![tactic(auto)]
+
 ghost use Rattle.std.specs.Prelude.{◌≡◌, min, length};
 ghost use Rattle.definitions.specs.Fields.{refused_field};
 ghost use Rattle.definitions.specs.Answers.{read_files, refusal as refusalOf};

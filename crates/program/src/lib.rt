@@ -1,4 +1,6 @@
 // What the program writes for the bytes of both files, with no input or output.
+#![tactic(auto)]
+
 ghost use Rattle.std.specs.Prelude.{◌+◌, ◌*◌, ◌≤◌, length};
 ghost use Rattle.report.specs.Text.{report as text_of};
 ghost use Rattle.buffer.specs.Appending.{Appended};

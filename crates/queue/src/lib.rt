@@ -2,6 +2,8 @@
 // key just taken goes on the stack and is taken before all others, last in first out. The slices keys, heap, pos and stack are
 // lent with any content. The pairs are 0 to p - 1, for any p that fits the slices: no call reads it, and nothing from p on is
 // touched. `floor` is the key last taken, or any number before the first.
+#![tactic(auto)]
+
 ghost use Rattle.std.specs.Prelude.{ℕ, ◌<◌, List};
 ghost use Rattle.queue.specs.declared.Counts.{Counts};
 ghost use Rattle.queue.specs.Queue.{state, Queue, Empty, Inserting, Inserted, Decreasing, Decreased, Taken};

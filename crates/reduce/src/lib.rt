@@ -1,5 +1,7 @@
 // The reduction of a diagram file, written as a file into a lent buffer: its conjunction with the diagram that always says
 // yes.
+#![tactic(auto)]
+
 ghost use Rattle.definitions.specs.Promises.{ReduceCall};
 
 use checks::refusal;

@@ -1,1 +1,2 @@
 // Laws of reduced diagrams and of conjunctions, with no code: see specs/.
+#![tactic(auto)]

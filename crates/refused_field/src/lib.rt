@@ -1,4 +1,6 @@
 // The bytes of a refused field: a part of one of the two files.
+#![tactic(auto)]
+
 ghost use Rattle.std.specs.Prelude.{◌≡◌, ◌+◌, ◌-◌, ◌<◌, min, length};
 ghost use Rattle.definitions.specs.Fields.{two, refused_field};
 ghost use Rattle.refused_field.specs.Lies.{refused_at};

@@ -1,4 +1,6 @@
 // The text that the program writes, put into a buffer. Where the buffer is too short the text is cut at the buffer's end.
+#![tactic(auto)]
+
 ghost use Rattle.std.specs.Prelude.{◌≤◌, length, take};
 ghost use Rattle.report.specs.Text.{item, last_item, step_word, step_lines, plan_text, refused_text, report};
 ghost use Rattle.buffer.specs.Appending.{Appended};

@@ -1,4 +1,6 @@
 // The number at which each stage's row of pairs starts: stage × N.
+#![tactic(auto)]
+
 ghost use Rattle.std.specs.Prelude.{◌≤◌, ◌≡◌, replicate};
 ghost use Rattle.definitions.specs.Pairs.{row_starts};
 

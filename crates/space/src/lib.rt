@@ -1,4 +1,6 @@
 // How much space the searches need for two files.
+#![tactic(auto)]
+
 ghost use Rattle.std.specs.Prelude.{◌≡◌};
 ghost use Rattle.definitions.specs.Answers.{read_files};
 ghost use Rattle.definitions.specs.Diagrams.{strict};

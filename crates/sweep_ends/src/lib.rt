@@ -1,5 +1,7 @@
 // What the sweep does before its rows and after them: no pair is reached but the start's; the cheapest goal pair, and the
 // count.
+#![tactic(auto)]
+
 mod goals;
 mod start;
 

@@ -1,4 +1,6 @@
 // One step of the sweep: a pair is offered a cost, and keeps the least.
+#![tactic(auto)]
+
 ghost use Rattle.std.specs.Prelude.{◌≡◌};
 ghost use Rattle.sweep_model.specs.Model.{rows, offer as offered};
 ghost use Rattle.chart.specs.Tables.{steps_in};

@@ -1,4 +1,6 @@
 // The rows of the sweep, relaxed in turn: from each reached pair every step offers its cost to the pair that it leads to.
+#![tactic(auto)]
+
 ghost use Rattle.std.specs.Prelude.{◌≡◌, ◌-◌};
 ghost use Rattle.sweep_model.specs.Model.{rows, relax_steps, relax_nodes, relax_rows};
 ghost use Rattle.checks.specs.Tables.{read, Named};

@@ -1,1 +1,2 @@
 // Laws of the definitions, with no code: see specs/.
+#![tactic(auto)]

@@ -1,4 +1,6 @@
 // The plan traced back: each pair keeps the step by which it was reached and the node that the step left.
+#![tactic(auto)]
+
 ghost use Rattle.std.specs.Prelude.{◌≡◌, ◌+◌, ◌-◌, ◌≤◌, ◌<◌, length, get_or, take, drop, ◌++◌, reverse};
 ghost use Rattle.chart_fields.specs.Ends.{froms};
 ghost use Rattle.trace.specs.Trails.{CameFrom, Traceable};

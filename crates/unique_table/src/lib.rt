@@ -1,6 +1,8 @@
 // The unique table of a diagram: a hash table with chains. A node is put in where none alike is found, and its number is the
 // order in which it was put in, from 2 on. The nodes stand in one array, as in the table of any diagram; the chains are
 // beside it, with the count of nodes.
+#![tactic(auto)]
+
 ghost use Rattle.std.specs.Prelude.{◌≡◌, ◌+◌, ◌*◌, ◌≤◌, ◌<◌, get_or};
 ghost use Rattle.unique_table.specs.Tables.{unique_table, Table, count_in, hash, Finds, Adds, Interns};
 

@@ -1,5 +1,7 @@
 // Plays the scripts of data/ and writes what the calls of the library answer to each case. data/readers.txt says how a
 // case is written; tools/vectors.py computes what must be written.
+#![tactic(auto)]
+
 mod joins;
 mod lend;
 mod reductions;

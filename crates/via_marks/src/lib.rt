@@ -1,5 +1,7 @@
 // By what a pair was reached, in one number: the pair's own stage, the step that enters it and the node that the step left. That
 // is what `via` keeps for each pair.
+#![tactic(auto)]
+
 ghost use Rattle.std.specs.Prelude.{◌≡◌, ◌<◌};
 ghost use Rattle.via_marks.specs.Marks.{packed as packing, stage_in, step_in, node_in};
 

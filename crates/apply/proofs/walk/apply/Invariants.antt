@@ -1,0 +1,18 @@
+-- `apply::apply` meets its contract.
+use Rattle.unique_table.specs.Tables.{unique_table}
+use Rattle.apply.specs.Walks.{Walking}
+use Rattle.apply.specs.Weights.{weights}
+use Rattle.apply.specs.Whole.{Going, going_start, going_on, going_turn, going_less, first_descending, first_walking, walked_end, walked_full}
+use Prim.Native.Nat.{ℕ}
+use mathlib.Core.Path.{◌≡◌, refl}
+use native.Mathlib.Omega.{arith}
+use lib.ListN.{length, length-replicate}
+use borrow.Author.Rules.{rules}
+use Rattle.apply.proofs.walk.apply.Given as goal
+
+abbrev pub invariant-loop-k : goal.invariant-loop-k
+invariant-loop-k l =
+    ((y : Walking l.initial.stack l.initial.work (unique_table l.initial.nodes l.initial.chains) l.left l.right l.width l.initial.k l.initial.r) → Going y l.stack l.work (unique_table l.nodes l.chains) l.k l.r) × (length l.work ≡ length l.initial.work)
+
+abbrev pub decreases-loop-k : goal.decreases-loop-k
+decreases-loop-k l = weights l.stack l.k

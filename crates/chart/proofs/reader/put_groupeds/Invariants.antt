@@ -1,0 +1,20 @@
+-- `chart::put_groupeds` meets its contract.
+-- all of them are of this kind
+use Prim.Native.Nat.{◌-◌}
+use mathlib.Core.Path.{◌≡◌, ◌∙◌}
+use mathlib.Core.Bool.{true}
+use lib.ListN.{length}
+use borrow.Author.Rules.{rules}
+use Rattle.fields.specs.Positions.{goes_has}
+use Rattle.fields.specs.Scans.{left_of}
+use Rattle.fields.specs.Turns.{Run, run_start, run_next, run_less, run_done}
+use Rattle.chart.specs.Turns.{SoFarAt, StandsAt}
+use Rattle.chart.proofs.reader.put_groupeds.Given as goal
+
+abbrev pub invariant-loop-here : goal.invariant-loop-here
+invariant-loop-here l =
+    Run l.file 3 10 l.initial.read.place l.read.place l.read.going l.here (SoFarAt l.file l.stages l.initial.steps l.initial.read) (SoFarAt l.file l.stages l.steps l.read) (StandsAt l.file l.stages l.steps l.read)
+    × (l.here ≡ true → l.read.tag ≡ 3)
+
+abbrev pub decreases-loop-here : goal.decreases-loop-here
+decreases-loop-here l = left_of l.here (length l.file - l.read.place)

@@ -1,0 +1,13 @@
+-- `chart_fields::group_fault` meets its contract.
+use Rattle.chart_fields.proofs.Values.{group_laws}
+use borrow.Author.Rules.{rules}
+use Rattle.chart_fields.proofs.bodies.group_fault.Goals as goal
+
+pub returns-then-group-gt1023 : goal.returns-then-group-gt1023
+returns-then-group-gt1023 c = search group_laws
+
+pub returns-then-group-last : goal.returns-then-group-last
+returns-then-group-last c = search group_laws
+
+pub returns : goal.returns
+returns c = search group_laws

@@ -1,0 +1,19 @@
+-- `chart_fields::head_fault` meets its contract.
+use borrow.Author.Rules.{rules}
+use Rattle.chart_fields.proofs.Values.{head-laws}
+use Rattle.chart_fields.proofs.bodies.head_fault.Goals as goal
+
+pub returns-then-stages-eq0 : goal.returns-then-stages-eq0
+returns-then-stages-eq0 c = search head-laws
+
+pub returns-then-stages-gt256 : goal.returns-then-stages-gt256
+returns-then-stages-gt256 c = search head-laws
+
+pub returns-then-stages-start : goal.returns-then-stages-start
+returns-then-stages-start c = search head-laws
+
+pub returns-then-stages-end : goal.returns-then-stages-end
+returns-then-stages-end c = search head-laws
+
+pub returns : goal.returns
+returns c = search head-laws

@@ -1,0 +1,22 @@
+-- `chart_stages::fill_chart_estimates` meets its contract: the entries of the stages from s on are told.
+use Prim.Native.Nat.{ℕ, ◌+◌, ◌-◌, ◌≤◌, ◌<◌}
+use mathlib.Core.Path.{◌≡◌, refl, ◌∙◌, ap}
+use lib.ListN.{length, length-set, length-replicate}
+use native.Mathlib.Omega.{arith}
+use Rattle.definitions.specs.Basics.{NONE}
+use Rattle.definitions.specs.Plans.{graph}
+use Rattle.definitions.specs.declared.Shape.{Shape}
+use Rattle.chart.specs.Tables.{steps_in, chart_in}
+use Rattle.chart_stages.specs.Estimates.{Told}
+use Rattle.chart_stages.specs.Leaving.{Staged}
+use Rattle.chart_stages.proofs.Estimating.{end_below, first_small, stages_start, stage_leaving, stage_turn, stages_done}
+use borrow.Author.Rules.{rules}
+use Rattle.chart_stages.proofs.estimates.fill_chart_estimates.Given as goal
+
+abbrev pub invariant-loop-s : goal.invariant-loop-s
+invariant-loop-s l =
+    (l.s ≤ l.initial.s) × (l.initial.s < 256) × (length l.estimates ≡ 256)
+    × ((z : Shape) → Staged z (steps_in l.steps) l.first → z.end.0 ≡ l.initial.s → Told (graph (chart_in z (steps_in l.steps))) l.s l.estimates)
+
+abbrev pub decreases-loop-s : goal.decreases-loop-s
+decreases-loop-s l = l.s

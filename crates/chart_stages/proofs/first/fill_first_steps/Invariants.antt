@@ -1,0 +1,17 @@
+-- `chart_stages::fill_first_steps` meets its contract: the entries of the stages below s are right.
+use Prim.Native.Nat.{◌+◌, ◌-◌, ◌≤◌}
+use mathlib.Core.Path.{◌≡◌, ◌∙◌}
+use lib.ListN.{length, length-set}
+use borrow.Author.Rules.{rules}
+use Rattle.chart_fields.specs.Ends.{froms}
+use Rattle.chart_stages.specs.FirstSteps.{SortedTable, EndTable}
+use Rattle.chart_stages.proofs.Firsts.{FirstsBefore, firsts_start, firsts_turn, firsts_done}
+use Rattle.chart_stages.proofs.first.fill_first_steps.Given as goal
+
+abbrev pub invariant-loop-s : goal.invariant-loop-s
+invariant-loop-s l =
+    (1 ≤ l.s) × (l.s ≤ l.stages + 1) × (length l.first ≡ 257) × (l.last ≡ l.stages)
+    × ((sorted : SortedTable l.count (froms l.ends)) (m : EndTable l.count (froms l.ends) l.initial.first) → FirstsBefore sorted m l.s l.most l.first)
+
+abbrev pub decreases-loop-s : goal.decreases-loop-s
+decreases-loop-s l = l.stages + 1 - l.s

@@ -1,0 +1,16 @@
+-- `chart_stages::mark_ends` meets its contract: the steps before e have left their marks.
+use Prim.Native.Nat.{◌-◌, ◌≤◌}
+use mathlib.Core.Path.{◌≡◌}
+use lib.ListN.{length}
+use native.Mathlib.Omega.{arith}
+use borrow.Author.Rules.{rules}
+use Rattle.chart_fields.specs.Ends.{froms}
+use Rattle.chart_stages.specs.FirstSteps.{EndTable}
+use Rattle.chart_stages.proofs.Firsts.{ends_none, ends_more, ends_all}
+use Rattle.chart_stages.proofs.first.mark_ends.Given as goal
+
+abbrev pub invariant-loop-e : goal.invariant-loop-e
+invariant-loop-e l = (l.e ≤ l.count) × (length l.first ≡ 257) × EndTable l.e (froms l.ends) l.first
+
+abbrev pub decreases-loop-e : goal.decreases-loop-e
+decreases-loop-e l = l.count - l.e

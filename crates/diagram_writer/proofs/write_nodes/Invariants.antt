@@ -1,0 +1,24 @@
+-- `diagram_writer::write_nodes` meets its contract.
+use Rattle.diagram_writer.specs.Files.{node_appended}
+use Rattle.unique_table.specs.Nodes.{nodes_long}
+use Prim.Native.Nat.{◌+◌, ◌-◌, ◌*◌, ◌≤◌}
+use mathlib.Core.Path.{◌≡◌, refl}
+use native.Mathlib.Omega.{arith}
+use lib.ListN.{length, take}
+use Rattle.definitions.specs.Basics.{each}
+use Rattle.definitions.specs.Bytes.{node_bytes}
+use Rattle.definitions.specs.Diagrams.{no_node}
+use Rattle.buffer.specs.Appending.{Appended}
+use Rattle.buffer.specs.Appends.{append_none}
+use Rattle.buffer.specs.Members.{append_next, append_all}
+use Rattle.unique_table.specs.Tables.{unique_table, count_in, nodes_in}
+use borrow.Author.Rules.{rules}
+use Rattle.diagram_writer.proofs.write_nodes.Given as goal
+
+abbrev pub invariant-loop-k : goal.invariant-loop-k
+invariant-loop-k l =
+    (l.k ≤ l.all) × (l.all ≡ count_in (unique_table l.nodes l.chains)) × (l.end ≡ l.at + 9 * l.k) × (length l.out ≡ length l.initial.out)
+    × Appended l.initial.out l.at (each node_bytes (take l.k (nodes_in (unique_table l.nodes l.chains)))) l.out l.end
+
+abbrev pub decreases-loop-k : goal.decreases-loop-k
+decreases-loop-k l = l.all - l.k

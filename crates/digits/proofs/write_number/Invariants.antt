@@ -1,0 +1,10 @@
+-- `digits::write_number` meets its contract.
+use borrow.Author.Rules.{rules}
+use Rattle.digits.proofs.Decimals.{Spelled, spell_start, spell_more, spelled_long, number_written}
+use Rattle.digits.proofs.write_number.Given as goal
+
+abbrev pub invariant-loop-left : goal.invariant-loop-left
+invariant-loop-left l = Spelled l.n l.digits l.first l.left
+
+abbrev pub decreases-loop-left : goal.decreases-loop-left
+decreases-loop-left l = l.left

@@ -1,0 +1,16 @@
+-- `entries::clear` meets its contract.
+use Prim.Native.Nat.{ℕ, ◌-◌, ◌≤◌}
+use mathlib.Core.Path.{◌≡◌, refl, ◌∙◌, ap}
+use mathlib.Core.List.{◌++◌}
+use native.Mathlib.Omega.{arith}
+use borrow.Author.Rules.{rules}
+use lib.ListN.{length, drop, replicate, set}
+use borrow.Author.Fill.{fill_none, fill_more}
+use Rattle.definitions.specs.Basics.{NONE}
+use Rattle.entries.proofs.clear.Given as goal
+
+abbrev pub invariant-loop-i : goal.invariant-loop-i
+invariant-loop-i l = (l.i ≤ l.count) × (l.entries ≡ replicate l.i NONE ++ drop l.i l.initial.entries) × (length l.entries ≡ length l.initial.entries)
+
+abbrev pub decreases-loop-i : goal.decreases-loop-i
+decreases-loop-i l = l.count - l.i

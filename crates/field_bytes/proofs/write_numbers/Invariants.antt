@@ -1,0 +1,18 @@
+-- `field_bytes::write_numbers` meets its contract.
+use Prim.Native.Nat.{◌+◌, ◌-◌, ◌*◌, ◌≤◌}
+use mathlib.Core.Path.{◌≡◌, refl}
+use lib.ListN.{length, take}
+use borrow.Author.Rules.{rules}
+use Rattle.definitions.specs.Basics.{each}
+use Rattle.definitions.specs.Bytes.{le2}
+use Rattle.buffer.specs.Members.{append_next, append_all}
+use Rattle.buffer.specs.Appending.{Appended}
+use Rattle.buffer.specs.Appends.{append_none}
+use Rattle.field_bytes.proofs.write_numbers.Given as goal
+
+abbrev pub invariant-loop-i : goal.invariant-loop-i
+invariant-loop-i l =
+    (l.i ≤ length l.numbers) × (l.end ≡ l.at + 2 * l.i) × (length l.out ≡ length l.initial.out) × Appended l.initial.out l.at (each le2 (take l.i l.numbers)) l.out l.end
+
+abbrev pub decreases-loop-i : goal.decreases-loop-i
+decreases-loop-i l = length l.numbers - l.i

@@ -1,0 +1,14 @@
+-- `guided_keys::fill_keys` meets its contract.
+use mathlib.Core.Path.{◌≡◌, refl}
+use Prim.Native.Nat.{◌-◌, ◌≤◌}
+use native.Mathlib.Omega.{arith}
+use lib.ListN.{length, length-set}
+use Rattle.guided_keys.proofs.Filling.{Filling, fill_none, fill_more, fill_all}
+use borrow.Author.Rules.{rules}
+use Rattle.guided_keys.proofs.fill_keys.Given as goal
+
+abbrev pub invariant-loop-k : goal.invariant-loop-k
+invariant-loop-k l = (length l.keys ≡ length l.initial.keys) × (l.first ≤ l.k) × (l.k ≤ l.until) × Filling l.first l.k l.until l.initial.keys l.keys
+
+abbrev pub decreases-loop-k : goal.decreases-loop-k
+decreases-loop-k l = l.until - l.k

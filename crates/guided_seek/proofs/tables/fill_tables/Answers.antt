@@ -1,0 +1,27 @@
+-- `guided_seek::fill_tables` meets its contract.
+use Prim.Native.Nat.{ℕ}
+use mathlib.Core.Path.{ap}
+use mathlib.Core.List.{List}
+use native.Mathlib.Omega.{arith}
+use lib.ListN.{length}
+use Rattle.guided_seek.proofs.Preparing.{run_sorted, run_narrow}
+use borrow.Author.Rules.{rules}
+use Rattle.guided_seek.proofs.tables.fill_tables.Goals as goal
+
+pub fill_first_steps-requires : goal.fill_first_steps-requires
+fill_first_steps-requires c =
+    let sorted = run_sorted c.requires.1.1.1 in
+    (c.requires.0, sorted.0, sorted.1)
+
+pub estimate_nodes-requires : goal.estimate_nodes-requires
+estimate_nodes-requires c =
+    (ap (λ (l : List ℕ). length l) c.requires.1.1.0, c.requires.1.1.1)
+
+pub overflow_add-z : goal.overflow_add-z
+overflow_add-z c =
+    omega (arith, run_narrow c.requires.1.1.1)
+
+pub fill_row_starts-requires : goal.fill_row_starts-requires
+fill_row_starts-requires c =
+    let narrow = run_narrow c.requires.1.1.1 in
+    (c.requires.1.0, narrow.0, narrow.1)

@@ -1,0 +1,22 @@
+-- `sift_down` meets its contract. The loop: all is in order but between x and its children, and v is the key at x. The measure is n - x.
+-- Assumes nothing.
+use mathlib.Core.Path.{◌≡◌, refl}
+use Prim.Native.Nat.{◌-◌, ◌≤◌}
+use native.Mathlib.Omega.{arith}
+use lib.ListN.{length}
+use borrow.Author.Rules.{rules}
+use Rattle.heap_sift.specs.Heap.{slices}
+use Rattle.heap_sift.specs.Sift.{SiftingDown}
+use Rattle.heap_sift.proofs.Places.{entry, key_within}
+use Rattle.heap_sift.proofs.Loops.{Dropping, drop_start, drop_end, drop_stop, drop_turn}
+use Rattle.heap_sift.proofs.sift_down.Given as goal
+
+abbrev pub invariant-loop-x : goal.invariant-loop-x
+invariant-loop-x l =
+    (length l.heap ≡ length l.initial.heap)
+    × (length l.pos ≡ length l.initial.pos)
+    × (l.x ≤ l.n)
+    × ((a : SiftingDown l.n l.at l.v (slices l.keys l.initial.heap l.initial.pos)) → Dropping l.keys a.p l.n l.v l.initial.heap l.initial.pos l.heap l.pos l.x)
+
+abbrev pub decreases-loop-x : goal.decreases-loop-x
+decreases-loop-x l = l.n - l.x

@@ -1,0 +1,17 @@
+-- `node_estimates::fill_diagram_estimates` meets its contract.
+use borrow.Author.Rules.{rules}
+use Prim.Native.Nat.{◌+◌, ◌-◌, ◌<◌}
+use mathlib.Core.Path.{◌≡◌}
+use native.Mathlib.Omega.{arith}
+use Rattle.diagram_fields.specs.Words.{nodes_in}
+use Rattle.nodes.proofs.Children.{child_inside}
+use Rattle.node_estimates.proofs.Estimating.{Estimating, estimating_step, estimating-laws}
+use Rattle.node_estimates.proofs.fill_diagram_estimates.Given as goal
+
+abbrev pub invariant-loop-n : goal.invariant-loop-n
+invariant-loop-n l =
+    let t = nodes_in l.inner in
+    (l.n-end ≡ l.count + 2) × Estimating t.step t.lo t.hi l.cost l.count l.estimates l.n
+
+abbrev pub decreases-loop-n : goal.decreases-loop-n
+decreases-loop-n l = l.n-end - l.n

@@ -1,0 +1,13 @@
+-- `nodes::fill_finishing` meets its contract.
+use borrow.Author.Rules.{rules}
+use Prim.Native.Nat.{◌+◌, ◌-◌}
+use Rattle.diagram_fields.specs.Words.{nodes_in}
+use Rattle.nodes.proofs.Children.{child-laws}
+use Rattle.nodes.proofs.Finished.{Passed, passed-laws}
+use Rattle.nodes.proofs.walks.fill_finishing.Given as goal
+
+abbrev pub invariant-loop-n : goal.invariant-loop-n
+invariant-loop-n l = Passed (nodes_in l.inner).lo l.count l.yes l.n
+
+abbrev pub decreases-loop-n : goal.decreases-loop-n
+decreases-loop-n l = l.count + 2 - l.n

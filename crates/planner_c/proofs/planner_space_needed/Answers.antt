@@ -1,0 +1,10 @@
+-- `planner_c::planner_space_needed` meets its contract.
+use mathlib.Core.Path.{◌∙◌, ap}
+use Rattle.space.specs.declared.Space.{Space}
+use Rattle.answer_arrays.specs.Numbers.{space_numbers}
+use borrow.Author.Rules.{rules}
+use Rattle.planner_c.proofs.planner_space_needed.Goals as goal
+
+pub returns : goal.returns
+returns c =
+    (c.store_space.ensures.0 ∙ ap (λ (s : Space). s.number) c.space_needed-s.ensures, c.store_space.ensures.1 ∙ ap space_numbers c.space_needed-s.ensures)

@@ -1,0 +1,26 @@
+-- `program::write_text` meets its contract: the promises of both searches, and the text of their answers.
+use mathlib.Core.List.{[], ◌∷◌}
+use native.Mathlib.Omega.{arith}
+use Rattle.checks.specs.Outcome.{load_shortest}
+use borrow.Author.Rules.{rules}
+use Rattle.program.proofs.write_text.Goals as goal
+
+-- the start, before both searches
+abbrev start_of : tie.After-both → tie.Start
+start_of c = search
+
+pub returns : goal.returns
+returns c =
+    let start = start_of c in
+    record {
+      answers = c.both-both.result;
+      c = _;
+      lent' = _;
+      given = _;
+      given' = _;
+      both = c.both-both.ensures;
+      sweep_space = load_shortest start.args.chart.now start.args.rules.now 4096 (4096 ∷ 4096 ∷ []) 255;
+      guided_space = load_shortest start.args.chart.now start.args.rules.now 4096 (4096 ∷ 4096 ∷ 4096 ∷ 4096 ∷ 4096 ∷ []) 255;
+      text = c.write_answers.ensures.0;
+      short = omega (arith, c.write_answers.ensures.1, c.plan-2-1.given);
+    }

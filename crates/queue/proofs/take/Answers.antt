@@ -1,0 +1,37 @@
+-- `take` meets its contract, from the stack and from the heap.
+-- Assumes nothing.
+use native.Mathlib.Omega.{arith}
+use borrow.Author.Rules.{rules}
+use Rattle.queue.proofs.Taking.{stack_within, all_heaped, take_within, take_stack, take_heap}
+use Rattle.queue.proofs.take.Goals as goal
+
+pub offset_bounds-stack-top : goal.offset_bounds-stack-top
+offset_bounds-stack-top c =
+    omega (arith, stack_within c.requires.1)
+
+pub bounds-stack-top : goal.bounds-stack-top
+bounds-stack-top c =
+    omega (arith, stack_within c.requires.1)
+
+pub returns-then-top-gt0 : goal.returns-then-top-gt0
+returns-then-top-gt0 c =
+    λ p x. take_stack x c.if-top-gt0.true c.wide-q.ensures.0
+
+pub pop_min-q-requires : goal.pop_min-q-requires
+pop_min-q-requires c =
+    (c.requires.0, all_heaped c.requires.1 c.if-top-gt0.false, c.requires.2)
+
+pub offset_bounds-keys-q : goal.offset_bounds-keys-q
+offset_bounds-keys-q c =
+    let z = c.if-top-gt0.false in
+    omega (arith, take_within c.requires.1 z (c.pop_min-q.ensures _ (all_heaped c.requires.1 z)))
+
+pub bounds-keys-q : goal.bounds-keys-q
+bounds-keys-q c =
+    let z = c.if-top-gt0.false in
+    omega (arith, take_within c.requires.1 z (c.pop_min-q.ensures _ (all_heaped c.requires.1 z)))
+
+pub returns : goal.returns
+returns c =
+    let z = c.if-top-gt0.false in
+    λ p x. take_heap x z (c.pop_min-q.ensures p (all_heaped x z)) c.requires.2

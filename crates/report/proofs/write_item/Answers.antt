@@ -1,0 +1,7 @@
+-- `report::write_item` meets its contract.
+use Rattle.report.proofs.Lines.{item_written}
+use borrow.Author.Rules.{rules}
+use Rattle.report.proofs.write_item.Goals as goal
+
+pub returns : goal.returns
+returns c = search item_written

@@ -1,0 +1,11 @@
+-- `report::write_steps` meets its contract.
+use Prim.Native.Nat.{◌-◌, ◌≤◌}
+use borrow.Author.Rules.{rules}
+use Rattle.report.proofs.Lines.{Stepped, steps_none, steps_more, steps_written}
+use Rattle.report.proofs.write_steps.Given as goal
+
+abbrev pub invariant-loop-i : goal.invariant-loop-i
+invariant-loop-i l = (l.i ≤ l.steps) × Stepped l.initial.out l.at l.plan l.out l.end l.i
+
+abbrev pub decreases-loop-i : goal.decreases-loop-i
+decreases-loop-i l = l.steps - l.i

@@ -1,0 +1,12 @@
+-- `unique_table::find` meets its contract.
+use native.Mathlib.Omega.{arith}
+use Rattle.unique_table.specs.Chains.{Seeking, seeking_falls, seeking-laws}
+use Rattle.unique_table.specs.Tables.{unique_table, Table}
+use borrow.Author.Rules.{rules}
+use Rattle.unique_table.proofs.find.Given as goal
+
+abbrev pub invariant-loop-m : goal.invariant-loop-m
+invariant-loop-m l = Table (unique_table l.nodes l.chains) × Seeking (unique_table l.nodes l.chains) l.w l.m
+
+abbrev pub decreases-loop-m : goal.decreases-loop-m
+decreases-loop-m l = l.m
