@@ -1,6 +1,5 @@
 // A reader of tagged fields: a file and a cursor. It is made, moved on to a place, and asked for the next field.
-// The borrow checker covers no function over a struct that holds a reference, so these are proved by hand. They are thin:
-// the work is done by `next_field`, which takes a plain slice and is covered.
+// They are thin: the work is done by `next_field`, which takes a plain slice.
 ghost use Rattle.std.specs.Prelude.{◌≡◌};
 ghost use Rattle.definitions.specs.Fields.{only, or_remark, field_at};
 

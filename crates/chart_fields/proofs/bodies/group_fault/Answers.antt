@@ -1,6 +1,5 @@
 -- `chart_fields::group_fault` meets its contract.
 use Rattle.chart_fields.proofs.Values.{group_laws}
-use borrow.Author.Rules.{rules}
 use Rattle.chart_fields.proofs.bodies.group_fault.Goals as goal
 
 pub returns-then-group-gt1023 : goal.returns-then-group-gt1023

@@ -1,5 +1,4 @@
 -- `chart_fields::head_fault` meets its contract.
-use borrow.Author.Rules.{rules}
 use Rattle.chart_fields.proofs.Values.{head-laws}
 use Rattle.chart_fields.proofs.bodies.head_fault.Goals as goal
 

@@ -1,6 +1,5 @@
 -- `chart_fields::head_of` meets its contract.
 use Rattle.chart_fields.proofs.Values.{head_read}
-use borrow.Author.Rules.{rules}
 use Rattle.chart_fields.proofs.bodies.head_of.Goals as goal
 
 pub returns : goal.returns

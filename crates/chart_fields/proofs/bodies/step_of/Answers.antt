@@ -1,6 +1,5 @@
 -- `chart_fields::step_of` meets its contract.
 use Rattle.chart_fields.proofs.Values.{step_read}
-use borrow.Author.Rules.{rules}
 use Rattle.chart_fields.proofs.bodies.step_of.Goals as goal
 
 pub returns : goal.returns

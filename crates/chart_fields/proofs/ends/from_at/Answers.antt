@@ -1,6 +1,5 @@
 -- `chart_fields::from_at` meets its contract.
 use mathlib.Core.Path.{sym, ◌∙◌}
-use borrow.Author.Rules.{rules}
 use Rattle.chart_fields.specs.Ends.{froms_at}
 use Rattle.chart_fields.proofs.ends.from_at.Goals as goal
 

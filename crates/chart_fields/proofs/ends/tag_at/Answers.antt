@@ -1,7 +1,6 @@
 -- `chart_fields::tag_at` meets its contract.
 use mathlib.Core.Path.{sym, ◌∙◌}
 use Rattle.chart_fields.specs.Ends.{tags_at}
-use borrow.Author.Rules.{rules}
 use Rattle.chart_fields.proofs.ends.tag_at.Goals as goal
 
 pub returns : goal.returns

@@ -1,6 +1,5 @@
 -- `chart_fields::to_at` meets its contract.
 use mathlib.Core.Path.{sym, ◌∙◌}
-use borrow.Author.Rules.{rules}
 use Rattle.chart_fields.specs.Ends.{tos_at}
 use Rattle.chart_fields.proofs.ends.to_at.Goals as goal
 

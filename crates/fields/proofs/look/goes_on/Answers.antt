@@ -1,5 +1,4 @@
 -- `fields::look::goes_on` meets its contract.
-use borrow.Author.Rules.{rules}
 use Rattle.fields.specs.Positions.{goes-laws}
 use Rattle.fields.proofs.look.goes_on.Goals as goal
 

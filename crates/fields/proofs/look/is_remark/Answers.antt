@@ -1,5 +1,4 @@
 -- `fields::look::is_remark` meets its contract.
-use borrow.Author.Rules.{rules}
 use Rattle.fields.specs.Remarks.{remark-laws}
 use Rattle.fields.proofs.look.is_remark.Goals as goal
 

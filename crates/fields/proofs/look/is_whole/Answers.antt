@@ -1,5 +1,4 @@
 -- `fields::look::is_whole` meets its contract.
-use native.Mathlib.Omega.{arith}
 use borrow.Author.Rules.{rules}
 use Rattle.fields.specs.Positions.{tell-laws, tells_header}
 use Rattle.fields.proofs.look.is_whole.Goals as goal
@@ -12,4 +11,4 @@ returns-then-s-field-2 c = search tell-laws
 
 pub returns : goal.returns
 returns c =
-    tells_header _ _ _ _ _ c.header.ensures (search rules) (search rules) (omega (arith, c.shared_slice_known-1.given c.args.at)) (search rules)
+    tells_header _ _ _ _ _ c.header.ensures (search rules) (search rules) (search rules) (search rules)

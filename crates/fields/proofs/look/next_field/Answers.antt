@@ -1,6 +1,5 @@
 -- `fields::look::next_field` meets its contract.
 use mathlib.Core.Path.{sym, ◌∙◌}
-use borrow.Author.Rules.{rules}
 use Rattle.fields.specs.Remarks.{remark_none}
 use Rattle.fields.proofs.look.next_field.Goals as goal
 

@@ -1,24 +1,19 @@
 -- `fields::look::remark_at` meets its contract.
 -- the header's three bytes are there
 use mathlib.Core.Path.{◌∙◌}
-use Prim.Native.Nat.{◌-◌, ◌≤◌}
-use lib.ListN.{length}
 use native.Mathlib.Omega.{arith}
 use borrow.Author.Rules.{rules}
 use Rattle.fields.specs.Remarks.{remark_left, remark_cut, remark_over}
 use Rattle.fields.proofs.look.remark_at.Goals as goal
 
-left : (c : tie.Start) → 3 ≤ length c.args.s.now - c.args.at
-left c = remark_left _ _ c.requires
-
 pub overflow_add-at : goal.overflow_add-at
-overflow_add-at c = omega (arith, left c)
+overflow_add-at c = omega (arith, remark_left _ _ c.requires)
 
 pub read_u16-requires : goal.read_u16-requires
-read_u16-requires c = omega (arith, left c)
+read_u16-requires c = omega (arith, remark_left _ _ c.requires)
 
 pub overflow_sub-s : goal.overflow_sub-s
-overflow_sub-s c = omega (arith, left c)
+overflow_sub-s c = omega (arith, remark_left _ _ c.requires)
 
 pub returns-then-s-at : goal.returns-then-s-at
 returns-then-s-at c =
