@@ -1,20 +1,18 @@
 -- The kind of a chart's steps: which one is due at a place, and that of the steps before.
 -- Assumes nothing.
-use Rattle.std.specs.Prelude.{ℕ, zero, suc, ◌+◌, ◌<◌, ◌≡◌, Bool, ◌⊎◌, length}
+use Rattle.std.specs.Prelude.{ℕ, ◌+◌, ◌<◌, ◌≡◌, Bool, ◌⊎◌, length}
 use Rattle.std.proofs.Math.Path.{refl}
-use Rattle.std.proofs.Common.{sym, ◌∙◌, ap, inl, inr, arith, eqb-true, eq-eqb, ne_eqb}
+use Rattle.std.proofs.Common.{sym, ◌∙◌, inl, inr, arith, eqb-true}
 use Rattle.std.proofs.Math.Bool.{true, false}
 use mathlib.Core.List.{List, [], ◌∷◌}
 use Rattle.std.proofs.Math.Dec.{eqb}
 use Rattle.std.proofs.Math.ListN.{get_or}
-use Rattle.std.proofs.lemmas.Bool.{eqb-false}
 use Rattle.definitions.specs.Basics.{pick}
-use Rattle.definitions.specs.Fields.{Kind, exactly, is_foreign, is_passed_over, only, or_remark, field_at}
+use Rattle.definitions.specs.Fields.{Kind, exactly, is_foreign, only, or_remark, field_at}
 use Rattle.definitions.specs.Charts.{ChartStep, no_step, plain, grouped, step_length, step_kind}
-use Rattle.definitions.specs.declared.Field.{Field}
 use Rattle.definitions.specs.declared.Field.TheVariants.{Whole}
 use Rattle.fields.specs.Positions.{HasField, only_known}
-use Rattle.fields.specs.Remarks.{has_whole, or_kind, or_given}
+use Rattle.fields.specs.Remarks.{has_whole}
 use Rattle.chart.specs.declared.reader.StepsRead.{StepsRead}
 
 -- the kind of the step that may stand at a place: grouped where the tag says so, else plain

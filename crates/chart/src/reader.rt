@@ -258,8 +258,7 @@ fn take_steps(
     take_found(file, here, first, stages, steps)
 }
 
-// The steps from a place on, into the table: a reader walks over them. It is kept in a local, so this thin loop is
-// proved by hand.
+// The steps from a place on, into the table: a reader, kept in a local, walks over them.
 fn read_steps(file: &[u8], first: usize, stages: u16, steps: &mut [[u32; 1024]; 2]) -> StepsRead
     ensures { Over file.now first stages steps.old steps.new result }
 {

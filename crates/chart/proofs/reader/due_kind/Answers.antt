@@ -1,6 +1,5 @@
 -- `chart::due_kind` meets its contract.
 use Rattle.chart.proofs.Steps.{due-laws}
-use borrow.Author.Rules.{rules}
 use Rattle.chart.proofs.reader.due_kind.Goals as goal
 
 pub returns-then-read-eq0 : goal.returns-then-read-eq0

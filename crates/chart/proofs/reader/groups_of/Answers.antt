@@ -1,6 +1,5 @@
 -- `chart::groups_of` meets its contract.
 use Rattle.chart.proofs.Whole.{groups-laws}
-use borrow.Author.Rules.{rules}
 use Rattle.chart.proofs.reader.groups_of.Goals as goal
 
 pub returns-then-read-eq0 : goal.returns-then-read-eq0

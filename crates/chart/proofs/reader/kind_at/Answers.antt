@@ -1,7 +1,6 @@
 -- `chart::kind_at` meets its contract.
 use Rattle.chart.proofs.Whole.{kind_plain, kind-laws}
 use mathlib.Core.Path.{refl}
-use borrow.Author.Rules.{rules}
 use Rattle.chart.proofs.reader.kind_at.Goals as goal
 
 pub returns-then-file-at : goal.returns-then-file-at

@@ -1,6 +1,5 @@
 -- `chart::look_again` meets its contract.
 use Rattle.chart.proofs.Steps.{look_same, look_new}
-use borrow.Author.Rules.{rules}
 use Rattle.chart.proofs.reader.look_again.Goals as goal
 
 pub returns-then-tag-read : goal.returns-then-tag-read

@@ -1,14 +1,8 @@
 -- `chart::put_plains` meets its contract.
 -- all of them are of this kind
-use Prim.Native.Nat.{◌-◌}
-use mathlib.Core.Path.{◌≡◌, ◌∙◌}
-use mathlib.Core.Bool.{true}
-use lib.ListN.{length}
-use borrow.Author.Rules.{rules}
+use mathlib.Core.Path.{◌∙◌}
 use Rattle.fields.specs.Positions.{goes_has}
-use Rattle.fields.specs.Scans.{left_of}
-use Rattle.fields.specs.Turns.{Run, run_start, run_next, run_less, run_done}
-use Rattle.chart.specs.Turns.{SoFarAt, StandsAt}
+use Rattle.fields.specs.Turns.{run_start, run_next, run_less, run_done}
 use Rattle.chart.proofs.reader.put_plains.Goals as goal
 
 pub loop-here-init : goal.loop-here-init
@@ -21,12 +15,12 @@ put_plain-read-requires c =
 
 pub loop-here-smaller : goal.loop-here-smaller
 loop-here-smaller c =
-    run_less c.loop-here.invariant.0 c.loop-here-test.true c.put_plain-read.ensures.0 c.goes_on-here.ensures
+    run_less c.loop-here.invariant.0 c.loop-here-test.true c.put_plain-read.ensures.takes c.goes_on-here.ensures
 
 pub loop-here-preserved : goal.loop-here-preserved
 loop-here-preserved c = (
-  run_next c.loop-here.invariant.0 c.loop-here-test.true c.put_plain-read.ensures.0 c.goes_on-here.ensures,
-  λ e. c.put_plain-read.ensures.1 (goes_has _ _ _ _ _ _ c.goes_on-here.ensures e).0 ∙ c.loop-here.invariant.1 c.loop-here-test.true,
+  run_next c.loop-here.invariant.0 c.loop-here-test.true c.put_plain-read.ensures.takes c.goes_on-here.ensures,
+  λ e. c.put_plain-read.ensures.same_kind (goes_has _ _ _ _ _ _ c.goes_on-here.ensures e).0 ∙ c.loop-here.invariant.1 c.loop-here-test.true,
 )
 
 pub returns : goal.returns

@@ -1,13 +1,11 @@
 -- `chart::put_plains` meets its contract.
 -- all of them are of this kind
 use Prim.Native.Nat.{◌-◌}
-use mathlib.Core.Path.{◌≡◌, ◌∙◌}
+use mathlib.Core.Path.{◌≡◌}
 use mathlib.Core.Bool.{true}
 use lib.ListN.{length}
-use borrow.Author.Rules.{rules}
-use Rattle.fields.specs.Positions.{goes_has}
 use Rattle.fields.specs.Scans.{left_of}
-use Rattle.fields.specs.Turns.{Run, run_start, run_next, run_less, run_done}
+use Rattle.fields.specs.Turns.{Run}
 use Rattle.chart.specs.Turns.{SoFarAt, StandsAt}
 use Rattle.chart.proofs.reader.put_plains.Given as goal
 

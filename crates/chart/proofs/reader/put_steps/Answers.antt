@@ -1,12 +1,11 @@
 -- `chart::put_steps` meets its contract.
 use Rattle.chart.proofs.Steps.{as_grouped, as_plain}
-use borrow.Author.Rules.{rules}
 use Rattle.chart.proofs.reader.put_steps.Goals as goal
 
 pub put_groupeds-requires : goal.put_groupeds-requires
 put_groupeds-requires c =
-    as_grouped _ _ _ c.requires.0 c.if-first-eq3.true
+    as_grouped _ _ _ c.requires.has_field c.if-first-eq3.true
 
 pub put_plains-requires : goal.put_plains-requires
 put_plains-requires c =
-    as_plain _ _ _ c.requires.0 c.requires.1 c.if-first-eq3.false
+    as_plain _ _ _ c.requires.has_field c.requires.fact c.if-first-eq3.false

@@ -1,7 +1,6 @@
 -- `chart::read_chart` meets its contract.
 use Rattle.fields.specs.First.{first-laws}
 use Rattle.chart.proofs.Whole.{chart-laws}
-use borrow.Author.Rules.{rules}
 use Rattle.chart.proofs.reader.read_chart.Goals as goal
 
 pub slice_bounds-body-count : goal.slice_bounds-body-count

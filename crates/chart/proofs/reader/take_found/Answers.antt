@@ -1,12 +1,11 @@
 -- `chart::take_found` meets its contract.
 use Rattle.fields.specs.Remarks.{whole_has}
 use Rattle.chart.proofs.Steps.{take-laws}
-use borrow.Author.Rules.{rules}
 use Rattle.chart.proofs.reader.take_found.Goals as goal
 
 pub put_steps-requires : goal.put_steps-requires
 put_steps-requires c =
-    (search whole_has, c.requires.1.1)
+    record { has_field = search whole_has; fact = c.requires.due.1 }
 
 pub returns-in-Absent : goal.returns-in-Absent
 returns-in-Absent c = search take-laws
