@@ -1,6 +1,5 @@
 -- `unique_table::add` meets its contract.
 use Rattle.unique_table.specs.Stores.{stored_adds}
-use borrow.Author.Rules.{rules}
 use Rattle.unique_table.proofs.add.Goals as goal
 
 pub returns : goal.returns

@@ -1,7 +1,6 @@
 -- `unique_table::chain` meets its contract.
 use mathlib.Core.Path.{refl}
 use Rattle.unique_table.specs.Chains.{hash_is}
-use borrow.Author.Rules.{rules}
 use Rattle.unique_table.proofs.chain.Goals as goal
 
 pub returns : goal.returns

@@ -1,7 +1,6 @@
 -- `unique_table::find` meets its contract.
 use native.Mathlib.Omega.{arith}
-use Rattle.unique_table.specs.Chains.{Seeking, seeking_falls, seeking-laws}
-use Rattle.unique_table.specs.Tables.{unique_table, Table}
+use Rattle.unique_table.specs.Chains.{seeking_falls, seeking-laws}
 use borrow.Author.Rules.{rules}
 use Rattle.unique_table.proofs.find.Goals as goal
 

@@ -1,8 +1,6 @@
 -- `unique_table::find` meets its contract.
-use native.Mathlib.Omega.{arith}
-use Rattle.unique_table.specs.Chains.{Seeking, seeking_falls, seeking-laws}
+use Rattle.unique_table.specs.Chains.{Seeking}
 use Rattle.unique_table.specs.Tables.{unique_table, Table}
-use borrow.Author.Rules.{rules}
 use Rattle.unique_table.proofs.find.Given as goal
 
 abbrev pub invariant-loop-m : goal.invariant-loop-m

@@ -1,7 +1,6 @@
 -- `unique_table::intern` meets its contract.
 use native.Mathlib.Omega.{arith}
 use Rattle.unique_table.specs.Stores.{intern-laws}
-use borrow.Author.Rules.{rules}
 use Rattle.unique_table.proofs.intern.Goals as goal
 
 pub returns-then-lo-hi : goal.returns-then-lo-hi

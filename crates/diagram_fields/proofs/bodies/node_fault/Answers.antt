@@ -1,5 +1,4 @@
 -- `diagram_fields::node_fault` meets its contract.
-use borrow.Author.Rules.{rules}
 use Rattle.diagram_fields.proofs.Values.{node-value-laws}
 use Rattle.diagram_fields.proofs.bodies.node_fault.Goals as goal
 

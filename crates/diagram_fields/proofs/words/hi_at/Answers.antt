@@ -1,7 +1,6 @@
 -- `diagram_fields::hi_at` meets its contract.
 use mathlib.Core.Path.{sym, ◌∙◌}
 use Rattle.diagram_fields.specs.Words.{hi_at}
-use borrow.Author.Rules.{rules}
 use Rattle.diagram_fields.proofs.words.hi_at.Goals as goal
 
 pub returns : goal.returns
