@@ -143,8 +143,7 @@ fn take_nodes(
     }
 }
 
-// The nodes from a place on, into the table, of which the chains are new: a reader walks over them. It is kept in a local,
-// so this thin loop is proved by hand.
+// The nodes from a place on, into the table, of which the chains are new: a reader, kept in a local, walks over them.
 fn read_nodes(
     file: &[u8],
     first: usize,

@@ -1,6 +1,5 @@
 -- `diagram::padding_fault` meets its contract.
 use Rattle.diagram.proofs.Nodes.{padding-laws}
-use borrow.Author.Rules.{rules}
 use Rattle.diagram.proofs.reader.padding_fault.Goals as goal
 
 pub returns-then-not-strict : goal.returns-then-not-strict

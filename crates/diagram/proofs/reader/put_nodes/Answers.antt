@@ -1,10 +1,5 @@
 -- `diagram::put_nodes` meets its contract.
-use Prim.Native.Nat.{◌-◌}
-use lib.ListN.{length}
-use borrow.Author.Rules.{rules}
-use Rattle.fields.specs.Scans.{left_of}
-use Rattle.fields.specs.Turns.{Run, run_start, run_next, run_less, run_done}
-use Rattle.diagram.specs.Turns.{SoFarAt, StandsAt, Underway}
+use Rattle.fields.specs.Turns.{run_start, run_next, run_less, run_done}
 use Rattle.diagram.proofs.reader.put_nodes.Goals as goal
 
 pub loop-here-init : goal.loop-here-init

@@ -1,9 +1,8 @@
 -- `diagram::put_nodes` meets its contract.
 use Prim.Native.Nat.{◌-◌}
 use lib.ListN.{length}
-use borrow.Author.Rules.{rules}
 use Rattle.fields.specs.Scans.{left_of}
-use Rattle.fields.specs.Turns.{Run, run_start, run_next, run_less, run_done}
+use Rattle.fields.specs.Turns.{Run}
 use Rattle.diagram.specs.Turns.{SoFarAt, StandsAt, Underway}
 use Rattle.diagram.proofs.reader.put_nodes.Given as goal
 

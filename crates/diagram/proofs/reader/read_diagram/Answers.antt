@@ -1,7 +1,6 @@
 -- `diagram::read_diagram` meets its contract.
 use Rattle.fields.specs.First.{first-laws}
 use Rattle.diagram.proofs.Whole.{whole_fresh, whole-laws}
-use borrow.Author.Rules.{rules}
 use Rattle.diagram.proofs.reader.read_diagram.Goals as goal
 
 pub slice_bounds-read_u16-count : goal.slice_bounds-read_u16-count

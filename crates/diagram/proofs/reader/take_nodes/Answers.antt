@@ -1,7 +1,6 @@
 -- `diagram::take_nodes` meets its contract.
 use Rattle.fields.specs.Remarks.{whole_has}
 use Rattle.diagram.proofs.Nodes.{take-laws}
-use borrow.Author.Rules.{rules}
 use Rattle.diagram.proofs.reader.take_nodes.Goals as goal
 
 pub put_nodes-requires : goal.put_nodes-requires
