@@ -25,7 +25,7 @@ loop-k-preserved c = (
   search rules,
   search rules,
   append_next node_bytes _ c.loop-k.k no_node (search rules) (omega (arith, nodes_long (unique_table c.args.nodes.now c.args.chains.now), c.loop-k.invariant.1)) c.loop-k.invariant.4
-      (node_appended (unique_table c.args.nodes.now c.args.chains.now) c.loop-k.k (search rules) _ _ _ c.step_of_lem.ensures c.lo_of_lem.ensures c.hi_of.ensures c.write_node-end.ensures),
+      (node_appended (unique_table c.args.nodes.now c.args.chains.now) c.loop-k.k (search rules) _ _ _ c.step_of.ensures c.lo_of.ensures c.hi_of.ensures c.write_node-end.ensures),
 )
 
 pub returns : goal.returns

@@ -15,14 +15,14 @@ abbrev start_of : tie.At-loop invariant-loop decreases-loop → tie.Start invari
 start_of c = search
 
 within : (c : tie.In-loop invariant-loop decreases-loop) → (head_of c).loop.e < (start_of (head_of c)).args.z.steps
-within c = c.loop-test.true
+within c = c.loop-e-test.true
 
 step_of_lem : (c : tie.In-loop invariant-loop decreases-loop) → (head_of c).loop.e < 1024
 step_of_lem c = let s = start_of (head_of c) in pricing_step s.args.z (steps_in s.args.steps.now) s.pre.1 _ (within c)
 
 pub loop-e-init : goal.loop-e-init
 loop-e-init c =
-    (pricing_start _ _ _ c.requires.0, omega arith)
+    (pricing_start _ _ _ c.requires.price_value, omega arith)
 
 pub group_at-k-requires : goal.group_at-k-requires
 group_at-k-requires c =
@@ -31,11 +31,11 @@ group_at-k-requires c =
 abbrev turn-of : tie.After-group-at invariant-loop decreases-loop → tie.In-loop invariant-loop decreases-loop
 turn-of c = search
 
-inside : (c : tie.After-group-at invariant-loop decreases-loop) → c.group_at.result.0 < 1024
+inside : (c : tie.After-group-at invariant-loop decreases-loop) → c.group_at-k.result.0 < 1024
 inside c =
     let t = turn-of c in
     let s = start_of (head_of t) in
-    pricing_group s.args.z (steps_in s.args.steps.now) s.pre.1 _ (within t) _ c.group_at.ensures
+    pricing_group s.args.z (steps_in s.args.steps.now) s.pre.1 _ (within t) _ c.group_at-k.ensures
 
 pub offset_bounds-price-k : goal.offset_bounds-price-k
 offset_bounds-price-k c = omega (arith, inside c)

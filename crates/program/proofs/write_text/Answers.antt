@@ -21,6 +21,6 @@ returns c =
       both = c.both-both.ensures;
       sweep_space = load_shortest start.args.chart.now start.args.rules.now 4096 (4096 ∷ 4096 ∷ []) 255;
       guided_space = load_shortest start.args.chart.now start.args.rules.now 4096 (4096 ∷ 4096 ∷ 4096 ∷ 4096 ∷ 4096 ∷ []) 255;
-      text = c.write_answers.ensures.0;
-      short = omega (arith, c.write_answers.ensures.1, c.plan-2-1.given);
+      text = c.write_answers.ensures.appended;
+      short = omega (arith, c.write_answers.ensures.sweep_len_bound, c.plan-2-1.given);
     }

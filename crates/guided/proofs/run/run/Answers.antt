@@ -16,7 +16,7 @@ start_of c = search
 
 pub fill_tables-requires : goal.fill_tables-requires
 fill_tables-requires c =
-    (refl, (refl, (refl, c.requires.0)))
+    (refl, (refl, (refl, c.requires.tables)))
 
 pub seek-ended-requires : goal.seek-ended-requires
 seek-ended-requires c =

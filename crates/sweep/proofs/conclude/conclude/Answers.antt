@@ -12,7 +12,7 @@ start_of c = search
 
 pub fill_finishing-requires : goal.fill_finishing-requires
 fill_finishing-requires c =
-    (end_falls c.requires.0, search rules)
+    (end_falls c.requires.fact, search rules)
 
 pub cheapest_goal-best-requires : goal.cheapest_goal-best-requires
 cheapest_goal-best-requires c =

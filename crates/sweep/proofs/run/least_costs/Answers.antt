@@ -7,16 +7,16 @@ use Rattle.sweep.proofs.run.least_costs.Goals as goal
 
 pub overflow_add-width : goal.overflow_add-width
 overflow_add-width c =
-    omega (arith, few_nodes _ _ c.requires.0.tables)
+    omega (arith, few_nodes _ _ c.requires.ready.tables)
 
 pub begin-requires : goal.begin-requires
 begin-requires c =
-    begin_fits c.requires.0 c.requires.1 c.clear.ensures c.wide-base.ensures.0
+    begin_fits c.requires.ready c.requires.blank c.clear.ensures c.wide-base.ensures.0
 
 pub relax_rows-requires : goal.relax_rows-requires
 relax_rows-requires c =
-    begun_row c.requires.0 c.requires.1 c.clear.ensures c.wide-base.ensures.0 (c.begin.ensures c.args.via.now)
+    begun_row c.requires.ready c.requires.blank c.clear.ensures c.wide-base.ensures.0 (c.begin.ensures c.args.via.now)
 
 pub returns : goal.returns
 returns c =
-    swept_is c.requires.0 c.requires.1 c.clear.ensures c.wide-base.ensures.0 (c.begin.ensures c.args.via.now) c.relax_rows.ensures
+    swept_is c.requires.ready c.requires.blank c.clear.ensures c.wide-base.ensures.0 (c.begin.ensures c.args.via.now) c.relax_rows.ensures

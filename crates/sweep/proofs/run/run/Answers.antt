@@ -20,27 +20,27 @@ done-of c = search
 
 pub fill_first_steps-requires : goal.fill_first_steps-requires
 fill_first_steps-requires c =
-    let sorted = run_sorted c.requires.0 in
+    let sorted = run_sorted c.requires.tables in
     (refl, sorted.0, sorted.1)
 
 pub overflow_add-z : goal.overflow_add-z
 overflow_add-z c =
-    omega (arith, run_narrow c.requires.0)
+    omega (arith, run_narrow c.requires.tables)
 
 pub fill_row_starts-requires : goal.fill_row_starts-requires
 fill_row_starts-requires c =
-    let narrow = run_narrow c.requires.0 in
+    let narrow = run_narrow c.requires.tables in
     (refl, narrow.0, narrow.1)
 
 pub least_costs-requires : goal.least_costs-requires
 least_costs-requires c =
     let firsts = c.fill_first_steps.ensures in
     let starts = c.fill_row_starts.ensures in
-    (run_ready c.requires.0 firsts starts, run_blank c.requires.0 firsts starts c.requires.1)
+    (run_ready c.requires.tables firsts starts, run_blank c.requires.tables firsts starts c.requires.space)
 
 pub conclude-requires : goal.conclude-requires
 conclude-requires c =
-    (run_final c.requires.0 c.fill_first_steps.ensures c.fill_row_starts.ensures c.requires.1 c.least_costs.ensures, c.requires.1.plan_fits)
+    (run_final c.requires.tables c.fill_first_steps.ensures c.fill_row_starts.ensures c.requires.space c.least_costs.ensures, c.requires.space.plan_fits)
 
 pub returns : goal.returns
 returns c =
