@@ -5,7 +5,6 @@ use mathlib.Core.List.{List}
 use native.Mathlib.Omega.{arith}
 use lib.ListN.{length}
 use Rattle.guided_seek.proofs.Preparing.{run_sorted, run_narrow}
-use borrow.Author.Rules.{rules}
 use Rattle.guided_seek.proofs.tables.fill_tables.Goals as goal
 
 pub fill_first_steps-requires : goal.fill_first_steps-requires
@@ -14,8 +13,7 @@ fill_first_steps-requires c =
     (c.requires.first_value, sorted.0, sorted.1)
 
 pub estimate_nodes-requires : goal.estimate_nodes-requires
-estimate_nodes-requires c =
-    (ap (λ (l : List ℕ). length l) c.requires.by_node_value, c.requires.tables)
+estimate_nodes-requires c = record { by_node_len = ap (λ (l : List ℕ). length l) c.requires.by_node_value; tables = c.requires.tables }
 
 pub overflow_add-z : goal.overflow_add-z
 overflow_add-z c =
