@@ -140,7 +140,7 @@ fn relax_row<'a>(
     ensures { let before = rows costs.old via.old nodes.old counts.old in
         let after = rows costs.new via.new nodes.new counts.new in
         let t = read steps.now inner.now in
-        let first = first.entry.now in
+        let first = first.now in
         (x : InRow (walk t first row.now) s.0 before)
         → after ≡ relax_nodes (graph_in x.z t) (automaton_in x.z t) (at first) s.0 0 (at before.counts s.0) before }
 {

@@ -1,15 +1,7 @@
 -- `sweep_rows::relax_plain` meets its contract: what is left of the steps comes to the same as all of them.
-use Prim.Native.Nat.{◌-◌}
-use mathlib.Core.Path.{◌≡◌, refl}
+use mathlib.Core.Path.{refl}
 use native.Mathlib.Omega.{arith}
-use lib.ListN.{length}
-use Rattle.checks.specs.Tables.{read}
-use Rattle.checks.specs.Ready.{walk}
-use Rattle.nodes.specs.Walks.{Tests}
-use Rattle.sweep_model.specs.Model.{rows}
-use Rattle.sweep_rows.specs.Standing.{Stands}
-use Rattle.sweep_rows.proofs.Walking.{Walking, walk_node, walk_start, walk_step, walk_own, walk_key, walk_marked, walk_falls, walk_dead, walk_offering, walk_more, walk_done}
-use borrow.Author.Rules.{rules}
+use Rattle.sweep_rows.proofs.Walking.{walk_node, walk_start, walk_step, walk_own, walk_key, walk_marked, walk_falls, walk_dead, walk_offering, walk_more, walk_done}
 use Rattle.sweep_rows.proofs.relax_plain.Goals as goal
 
 pub lowered_at-m-requires : goal.lowered_at-m-requires
@@ -60,9 +52,9 @@ overflow_add-next c =
 pub loop-next-preserved : goal.loop-next-preserved
 loop-next-preserved c = (
   (λ x. let w = c.loop-next.invariant.0 x in walk_more w c.loop-next-test.true (walk_own w c.loop-next-test.true c.requires.1) c.descend_to-m.ensures.0 c.branch-t.ensures _ c.relax_step.ensures),
-  omega (arith, c.loop-next.invariant.1, c.relax_step.KEPT.0),
-  omega (arith, c.loop-next.invariant.2, c.relax_step.KEPT.1.0),
-  omega (arith, c.loop-next.invariant.3, c.relax_step.KEPT.1.1.0),
+  omega (arith, c.loop-next.invariant.1),
+  omega (arith, c.loop-next.invariant.2),
+  omega (arith, c.loop-next.invariant.3),
   c.descend_to-m.ensures.1,
 )
 

@@ -1,15 +1,13 @@
 -- `sweep_rows::relax_plain` meets its contract: what is left of the steps comes to the same as all of them.
 use Prim.Native.Nat.{◌-◌}
-use mathlib.Core.Path.{◌≡◌, refl}
-use native.Mathlib.Omega.{arith}
+use mathlib.Core.Path.{◌≡◌}
 use lib.ListN.{length}
 use Rattle.checks.specs.Tables.{read}
 use Rattle.checks.specs.Ready.{walk}
 use Rattle.nodes.specs.Walks.{Tests}
 use Rattle.sweep_model.specs.Model.{rows}
 use Rattle.sweep_rows.specs.Standing.{Stands}
-use Rattle.sweep_rows.proofs.Walking.{Walking, walk_node, walk_start, walk_step, walk_own, walk_key, walk_marked, walk_falls, walk_dead, walk_offering, walk_more, walk_done}
-use borrow.Author.Rules.{rules}
+use Rattle.sweep_rows.proofs.Walking.{Walking}
 use Rattle.sweep_rows.proofs.relax_plain.Given as goal
 
 abbrev pub invariant-loop-next : goal.invariant-loop-next

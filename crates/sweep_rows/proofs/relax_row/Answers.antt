@@ -1,14 +1,7 @@
 -- `sweep_rows::relax_row` meets its contract: what is left of the row's list comes to the same as all of it.
-use Prim.Native.Nat.{◌-◌}
-use mathlib.Core.Path.{◌≡◌, refl}
+use mathlib.Core.Path.{refl}
 use native.Mathlib.Omega.{arith}
-use lib.ListN.{length}
-use borrow.Author.Rules.{rules}
-use Rattle.checks.specs.Tables.{read}
-use Rattle.checks.specs.Ready.{walk}
-use Rattle.sweep_model.specs.Model.{rows}
-use Rattle.sweep_rows.specs.Standing.{InRow}
-use Rattle.sweep_rows.proofs.Rowing.{Rowing, small_stage, row_begins, row_place, row_small, row_cost, row_stands, row_more, row_done}
+use Rattle.sweep_rows.proofs.Rowing.{small_stage, row_begins, row_place, row_small, row_cost, row_stands, row_more, row_done}
 use Rattle.sweep_rows.proofs.relax_row.Goals as goal
 
 pub offset_bounds-row-stage : goal.offset_bounds-row-stage
@@ -96,9 +89,9 @@ loop-k-preserved c = (
       let w = c.loop-k.invariant.0 x in
       let stands = row_stands _ _ w c.wide-base.ensures.0 c.loop-k-test.true in
       row_more _ _ w c.wide-base.ensures.0 c.loop-k-test.true (c.relax_node.ensures stands)),
-  omega (arith, c.loop-k.invariant.1, c.relax_node.KEPT.0),
-  omega (arith, c.loop-k.invariant.2, c.relax_node.KEPT.1.0),
-  omega (arith, c.loop-k.invariant.3, c.relax_node.KEPT.1.1.0),
+  omega (arith, c.loop-k.invariant.1),
+  omega (arith, c.loop-k.invariant.2),
+  omega (arith, c.loop-k.invariant.3),
 )
 
 pub shape_of-costs : goal.shape_of-costs

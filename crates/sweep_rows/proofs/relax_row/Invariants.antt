@@ -1,14 +1,12 @@
 -- `sweep_rows::relax_row` meets its contract: what is left of the row's list comes to the same as all of it.
 use Prim.Native.Nat.{◌-◌}
-use mathlib.Core.Path.{◌≡◌, refl}
-use native.Mathlib.Omega.{arith}
+use mathlib.Core.Path.{◌≡◌}
 use lib.ListN.{length}
-use borrow.Author.Rules.{rules}
 use Rattle.checks.specs.Tables.{read}
 use Rattle.checks.specs.Ready.{walk}
 use Rattle.sweep_model.specs.Model.{rows}
 use Rattle.sweep_rows.specs.Standing.{InRow}
-use Rattle.sweep_rows.proofs.Rowing.{Rowing, small_stage, row_begins, row_place, row_small, row_cost, row_stands, row_more, row_done}
+use Rattle.sweep_rows.proofs.Rowing.{Rowing}
 use Rattle.sweep_rows.proofs.relax_row.Given as goal
 
 abbrev pub invariant-loop-k : goal.invariant-loop-k

@@ -1,15 +1,7 @@
 -- `sweep_rows::relax_rows` meets its contract: what is left of the rows comes to the same as all of them.
-use Prim.Native.Nat.{◌-◌}
-use mathlib.Core.Path.{◌≡◌, refl}
+use mathlib.Core.Path.{refl}
 use native.Mathlib.Omega.{arith}
-use lib.ListN.{length}
-use Rattle.checks.specs.Tables.{read}
-use Rattle.checks.specs.Ready.{walk}
-use Rattle.definitions.specs.declared.Shape.{Shape}
-use Rattle.sweep_model.specs.Model.{rows}
-use Rattle.sweep_rows.specs.Standing.{Row}
-use Rattle.sweep_rows.proofs.Rowing.{Sweeping, sweep_begins, sweep_more, sweep_done}
-use borrow.Author.Rules.{rules}
+use Rattle.sweep_rows.proofs.Rowing.{sweep_begins, sweep_more, sweep_done}
 use Rattle.sweep_rows.proofs.relax_rows.Goals as goal
 
 pub loop-s-init : goal.loop-s-init
@@ -25,9 +17,9 @@ loop-s-preserved c = (
       let w = c.loop-s.invariant.0 z x e in
       let inside = c.loop-s-test.true in
       sweep_more _ _ w e inside (c.relax_row.ensures (record { z = z; row = w.stands; inside = omega (arith, e, inside) }))),
-  omega (arith, c.loop-s.invariant.1, c.relax_row.KEPT.0),
-  omega (arith, c.loop-s.invariant.2, c.relax_row.KEPT.1.0),
-  omega (arith, c.loop-s.invariant.3, c.relax_row.KEPT.1.1.0),
+  omega (arith, c.loop-s.invariant.1),
+  omega (arith, c.loop-s.invariant.2),
+  omega (arith, c.loop-s.invariant.3),
 )
 
 pub shape_of-costs : goal.shape_of-costs

@@ -1,15 +1,13 @@
 -- `sweep_rows::relax_rows` meets its contract: what is left of the rows comes to the same as all of them.
 use Prim.Native.Nat.{◌-◌}
-use mathlib.Core.Path.{◌≡◌, refl}
-use native.Mathlib.Omega.{arith}
+use mathlib.Core.Path.{◌≡◌}
 use lib.ListN.{length}
 use Rattle.checks.specs.Tables.{read}
 use Rattle.checks.specs.Ready.{walk}
 use Rattle.definitions.specs.declared.Shape.{Shape}
 use Rattle.sweep_model.specs.Model.{rows}
 use Rattle.sweep_rows.specs.Standing.{Row}
-use Rattle.sweep_rows.proofs.Rowing.{Sweeping, sweep_begins, sweep_more, sweep_done}
-use borrow.Author.Rules.{rules}
+use Rattle.sweep_rows.proofs.Rowing.{Sweeping}
 use Rattle.sweep_rows.proofs.relax_rows.Given as goal
 
 abbrev pub invariant-loop-s : goal.invariant-loop-s
