@@ -11,12 +11,13 @@ use Rattle.sweep_rows.proofs.Rowing.{Sweeping}
 use Rattle.sweep_rows.proofs.relax_rows.Given as goal
 
 abbrev pub invariant-loop-s : goal.invariant-loop-s
-invariant-loop-s l =
-    ((z : Shape) → Row z (walk (read l.steps l.inner) l.first l.row) l.initial.s (rows l.initial.costs l.initial.via l.initial.nodes l.initial.counts) → l.stages ≡ z.stages
-    → Sweeping z (walk (read l.steps l.inner) l.first l.row) l.initial.s l.stages (rows l.initial.costs l.initial.via l.initial.nodes l.initial.counts) (rows l.costs l.via l.nodes l.counts) l.s)
-    × (length l.costs ≡ length l.initial.costs)
-    × (length l.via ≡ length l.initial.via)
-    × (length l.nodes ≡ length l.initial.nodes)
+invariant-loop-s l = record {
+  sweeping : (z : Shape) → Row z (walk (read l.steps l.inner) l.first l.row) l.initial.s (rows l.initial.costs l.initial.via l.initial.nodes l.initial.counts) → l.stages ≡ z.stages
+      → Sweeping z (walk (read l.steps l.inner) l.first l.row) l.initial.s l.stages (rows l.initial.costs l.initial.via l.initial.nodes l.initial.counts) (rows l.costs l.via l.nodes l.counts) l.s;
+  costs : length l.costs ≡ length l.initial.costs;
+  via : length l.via ≡ length l.initial.via;
+  nodes : length l.nodes ≡ length l.initial.nodes;
+}
 
 abbrev pub decreases-loop-s : goal.decreases-loop-s
 decreases-loop-s l = l.stages - l.s
