@@ -1,6 +1,5 @@
 -- `planner::both` meets its contract: each search keeps its promise, and so both meet the demands.
 use Rattle.planner.specs.Both.{both_call}
-use borrow.Author.Rules.{rules}
 use Rattle.planner.proofs.both.Goals as goal
 
 pub returns : goal.returns

@@ -2,14 +2,13 @@
 use mathlib.Core.List.{[], ◌∷◌}
 use native.Mathlib.Omega.{arith}
 use Rattle.checks.specs.Outcome.{load_shortest}
-use borrow.Author.Rules.{rules}
 use Rattle.program.proofs.write_text.Goals as goal
 
 pub returns : goal.returns
 returns c =
     record {
       answers = c.both-both.result;
-      c = _;
+      lent = _;
       lent' = _;
       given = _;
       given' = _;
@@ -17,5 +16,5 @@ returns c =
       sweep_space = load_shortest c.args.chart.now c.args.rules.now 4096 (4096 ∷ 4096 ∷ []) 255;
       guided_space = load_shortest c.args.chart.now c.args.rules.now 4096 (4096 ∷ 4096 ∷ 4096 ∷ 4096 ∷ 4096 ∷ []) 255;
       text = c.write_answers.ensures.appended;
-      short = omega (arith, c.write_answers.ensures.sweep_len_bound, c.plan-2-1.given);
+      short = omega (arith, c.write_answers.ensures.sweep_len_bound);
     }
