@@ -4,12 +4,11 @@ use mathlib.Core.List.{List}
 use Prim.Native.Nat.{min}
 use lib.ListN.{length}
 use Rattle.buffer.specs.Appending.{Appended}
-use borrow.Author.Rules.{rules}
 use Rattle.planner_c.proofs.planner_refused_field.Goals as goal
 
 pub returns : goal.returns
 returns c =
     let field = c.args.field.now in
-    let field' = c.store_field.last.1.0 in
+    let field' = c.store_field.new.buffer in
     let r = c.store_field.result in
     subst (λ (bytes : List _). (r ≡ length bytes) × Appended field 0 bytes field' (min r (length field))) c.refused_field-bytes.ensures.result_value c.store_field.ensures

@@ -2,7 +2,6 @@
 use mathlib.Core.Path.{◌∙◌, ap}
 use Rattle.space.specs.declared.Space.{Space}
 use Rattle.answer_arrays.specs.Numbers.{space_numbers}
-use borrow.Author.Rules.{rules}
 use Rattle.planner_c.proofs.planner_space_needed.Goals as goal
 
 pub returns : goal.returns
