@@ -10,7 +10,7 @@ use Rattle.theory.specs.Basics.{pick_false}
 use Rattle.definitions.specs.Basics.{pick, above}
 use Rattle.definitions.specs.Fields.{two, four, part, is_foreign, only, or_remark, field_at, first_field, on_field}
 use Rattle.definitions.specs.Charts.{Chart, ChartStep, ChartRead, no_step, plain, grouped, head_fault, step_of, last_from, last_group, step_fault_after, step_kind, chart_refused, with_steps, step_grammar, scan_steps, read_chart, group_count}
-use Rattle.definitions.specs.Ticks.{rounded_whole}
+use Rattle.definitions.proofs.Ticks.{rounded_whole}
 use Rattle.theory.specs.Variables.{groups_below, groups_within}
 use Rattle.theory.specs.Limits.{Small, Ticked, OneKind, Valid}
 use Rattle.definitions.specs.Plans.{graph}

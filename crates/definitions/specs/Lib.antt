@@ -9,15 +9,4 @@ pub mod Plans
 pub mod Reductions
 pub mod Answers
 pub mod Promises
-pub mod Examples
 pub mod Marked
-pub mod Logs
-pub mod Slices
-pub mod Corners
-pub mod Remarks
-pub mod Ticks
-pub mod Calls
-pub mod Cycles
-pub mod Groups
-pub mod Conjunctions
-pub mod Padding

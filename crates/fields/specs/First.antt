@@ -3,7 +3,7 @@
 use Rattle.std.specs.Prelude.{ℕ, ◌≤◌, ◌<◌, ◌≡◌, not, List, leb, length, get_or}
 use Rattle.std.proofs.Common.{sym, ◌∙◌, subst, arith}
 use Rattle.definitions.specs.Fields.{two, part, Kind, only, field_at, longest, first_field}
-use Rattle.definitions.specs.Remarks.{long_first, short_first}
+use Rattle.definitions.proofs.Remarks.{long_first, short_first}
 use Rattle.definitions.specs.declared.Field.{Field}
 use Rattle.definitions.specs.declared.Field.TheVariants.{Faulty, Whole}
 use Rattle.theory.specs.Choices.{past, both}

@@ -14,7 +14,7 @@ use Rattle.definitions.specs.Answers.{ready, accepted, read_files, LoadTwo, read
 use Rattle.definitions.specs.Promises.{ReducePromise, ConjoinPromise, conjoin_slices, written_answer, written_buffer}
 use Rattle.definitions.specs.Reductions.{accepts, alike, mk, tree_of, member, position, postorder, ref, numbered, nodes_of, diagram_of, reduced_of, conjunction, reduction}
 use Rattle.definitions.specs.Marked.{st, nd, chart, leaf}
-use Rattle.definitions.specs.Examples.{rooted, steps, chart_refusal, load_refusal}
+use Rattle.definitions.proofs.Examples.{rooted, steps, chart_refusal, load_refusal}
 
 -- a step that names its group
 abbrev pub gr : ℕ → ℕ → ℕ → ℕ → ChartStep

@@ -1,6 +1,6 @@
 -- Answers and lent slices that meet the promises of the searches, and some that do not: a changed slice, a changed entry past what is written, another answer.
 -- Assumes nothing.
-use Rattle.std.specs.Prelude.{ℕ, ◌≡◌, refl, List, [], ◌∷◌, length, get_or}
+use Rattle.std.specs.Prelude.{ℕ, ◌≡◌, refl, List, [], ◌∷◌, get_or}
 use Rattle.std.proofs.Common.{ap, arith}
 use Rattle.std.proofs.Math.Option.{none}
 use Rattle.definitions.specs.Basics.{pick, smaller}
@@ -12,7 +12,7 @@ use Rattle.definitions.specs.Answers.{ready, refused, refusal, accepted}
 use Rattle.definitions.specs.Promises.{Planned, Outcome, Scratch, least_costs, Swept, Guided}
 use Rattle.definitions.specs.declared.Answer.{Answer}
 use Rattle.definitions.specs.Marked.{chart, rules, single, leaf, backward}
-use Rattle.definitions.specs.Logs.{false_true, good_logged}
+use Rattle.definitions.proofs.Logs.{false_true, good_logged}
 
 -- two lists that differ at a place
 pub differ : {x y : List ℕ} → x ≡ y → (i : ℕ) → get_or x i 0 ≡ get_or y i 0

@@ -10,7 +10,7 @@ use Rattle.definitions.specs.Bytes.{field, body_of_step, body_of_node, head_byte
 use Rattle.definitions.specs.Answers.{read_files, load}
 use Rattle.definitions.specs.Pairs.{row_start, row_starts}
 use Rattle.definitions.specs.Marked.{st, nd, values, rules}
-use Rattle.definitions.specs.Examples.{rooted, steps, chart_refusal, rules_refusal, load_refusal}
+use Rattle.definitions.proofs.Examples.{rooted, steps, chart_refusal, rules_refusal, load_refusal}
 
 -- the smaller, the larger and the sum, where one is none
 pub options : List (Option ℕ)

@@ -12,7 +12,7 @@ use Rattle.definitions.specs.Ways.{ways_in, ways, least_way}
 use Rattle.definitions.specs.Pairs.{to_end}
 use Rattle.definitions.specs.Plans.{variable, variable_cost, says_yes, cheapest, chart_estimate, diagram_estimate}
 use Rattle.definitions.specs.Marked.{st, nd, leaf}
-use Rattle.definitions.specs.Examples.{rooted, steps, chart_refusal}
+use Rattle.definitions.proofs.Examples.{rooted, steps, chart_refusal}
 
 -- a value, and what a step costs that has it
 pub ticks : List (ℕ × ℕ)

@@ -13,7 +13,7 @@ use Rattle.definitions.specs.Reductions.{accepts, walk, Reduced, Arrives, at_roo
 use Rattle.definitions.specs.Answers.{LoadTwo, ready_two, refused_two, read_files, load_two, file_answer, file_buffer, refusal, accepted}
 use Rattle.definitions.specs.Promises.{written_answer, written_buffer, conjoin_slices, ConjoinCall}
 use Rattle.definitions.specs.Marked.{nd, rules, values, leaf}
-use Rattle.definitions.specs.Slices.{differ}
+use Rattle.definitions.proofs.Slices.{differ}
 use Rattle.definitions.specs.declared.Answer.{Answer}
 
 abbrev diagram : ℕ → List InnerNode → Diagram

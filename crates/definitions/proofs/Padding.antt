@@ -15,9 +15,9 @@ use Rattle.definitions.specs.Reductions.{accepts, alike, mk, tree_of, member, po
 use Rattle.definitions.specs.Answers.{read_files, load, load_two, file_answer, file_buffer, refusal, accepted}
 use Rattle.definitions.specs.Promises.{ReduceCall}
 use Rattle.definitions.specs.Marked.{nd, rules, values, leaf, chart as exampleChart}
-use Rattle.definitions.specs.Examples.{rooted, load_refusal}
-use Rattle.definitions.specs.Conjunctions.{shown, padded, crossed, uncrossed}
-use Rattle.definitions.specs.Slices.{differ}
+use Rattle.definitions.proofs.Examples.{rooted, load_refusal}
+use Rattle.definitions.proofs.Conjunctions.{shown, padded, crossed, uncrossed}
+use Rattle.definitions.proofs.Slices.{differ}
 use Rattle.definitions.specs.declared.Answer.{Answer}
 
 -- ---- one node behind others

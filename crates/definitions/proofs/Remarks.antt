@@ -12,7 +12,7 @@ use Rattle.definitions.specs.Diagrams.{node_fault, strict, padding, node_fault_a
 use Rattle.definitions.specs.Bytes.{head_bytes, field, step_bytes, root_bytes, node_bytes, chart_bytes, diagram_bytes}
 use Rattle.definitions.specs.Answers.{refused, read_files, load}
 use Rattle.definitions.specs.Marked.{st, nd, values, chart, rules}
-use Rattle.definitions.specs.Examples.{alike, rooted, chart_refusal, rules_refusal, load_refusal, whole_chart}
+use Rattle.definitions.proofs.Examples.{alike, rooted, chart_refusal, rules_refusal, load_refusal, whole_chart}
 use Rattle.definitions.specs.declared.Field.TheVariants.{Faulty}
 
 -- remarks of the first tag before each field after the head, and one of the last tag at the end

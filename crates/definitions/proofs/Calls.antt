@@ -14,9 +14,9 @@ use Rattle.definitions.specs.Answers.{read_files, load, accepted}
 use Rattle.definitions.specs.Promises.{least_costs, least_cost_at, sum_at, goal_at, Settled, Found, sweep_slices, sweep_load, SweepCall, guided_slices, guided_load, GuidedCall}
 use Rattle.definitions.specs.Marked.{single, leaf}
 use Rattle.definitions.specs.Bytes.{chart_bytes, diagram_bytes}
-use Rattle.definitions.specs.Examples.{load_refusal}
-use Rattle.definitions.specs.Logs.{◌also◌, each, some_same}
-use Rattle.definitions.specs.Slices.{differ}
+use Rattle.definitions.proofs.Examples.{load_refusal}
+use Rattle.definitions.proofs.Logs.{◌also◌, each, some_same}
+use Rattle.definitions.proofs.Slices.{differ}
 
 abbrev pub chart_file : List ℕ
 chart_file = chart_bytes single

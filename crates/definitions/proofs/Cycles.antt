@@ -1,26 +1,25 @@
 -- A list of starts and ends: the costs from each stage to each of the chart of REFERENCE 14, and on the files of case (g), one stage and root 1, lists that meet the promise and
 -- lists, slices and answers that do not.
 -- Assumes nothing.
-use Rattle.std.specs.Prelude.{ℕ, suc, ◌≤◌, ◌<◌, ◌≡◌, refl, List, [], ◌∷◌, ◌++◌, map, length, get_or}
-use Rattle.std.proofs.Common.{sym, ◌∙◌, ap, arith, length-take}
-use Rattle.std.proofs.Math.Option.{Option, none, some}
-use Rattle.definitions.specs.Basics.{pick, smaller, larger, sum_of, upto}
+use Rattle.std.specs.Prelude.{ℕ, ◌≡◌, refl, List, [], ◌∷◌, ◌++◌, map, length, get_or}
+use Rattle.std.proofs.Common.{ap, arith, length-take}
+use Rattle.definitions.specs.Basics.{pick, smaller, upto}
 use Rattle.definitions.specs.Fields.{only, or_remark, field_at, first_field, on_field, scan}
-use Rattle.definitions.specs.Charts.{Chart, headed, head_fault, step_fault, read_chart, group_count, group_fault, step_kind}
-use Rattle.definitions.specs.Diagrams.{node_fault, padding, node_fault_after, read_diagram, descend, descend_in, advance, finish, verdict}
+use Rattle.definitions.specs.Charts.{headed, head_fault, step_fault, read_chart, group_count, group_fault, step_kind}
+use Rattle.definitions.specs.Diagrams.{node_fault, padding, node_fault_after, read_diagram, descend, descend_in, advance, verdict}
 use Rattle.definitions.specs.Ways.{ways_in, ways, least_way}
-use Rattle.definitions.specs.Pairs.{stands, least_cost, reached, goal, reached_pairs, to_end, sum}
-use Rattle.definitions.specs.Plans.{graph, variable, variable_cost, automaton, says_yes, cheapest, chart_estimate, diagram_estimate, estimate}
+use Rattle.definitions.specs.Pairs.{stands, least_cost, reached, reached_pairs}
+use Rattle.definitions.specs.Plans.{graph, variable, automaton, says_yes, cheapest, estimate}
 use Rattle.definitions.specs.Answers.{ready, refused, read_files, load_work, refusal, accepted}
 use Rattle.definitions.specs.Promises.{Logged, found_number, found_cost, no_cycle, Cycled, Listed, CycleSlices, cycle_slices, cycles_load, CyclesPromise, CyclesCall}
 use Rattle.definitions.specs.declared.Answer.{Answer}
 use Rattle.definitions.specs.declared.Cycle.{Cycle}
 use Rattle.definitions.specs.Marked.{st, nd, chart, rules, single, backward, leaf}
 use Rattle.definitions.specs.Bytes.{chart_bytes, diagram_bytes}
-use Rattle.definitions.specs.Examples.{load_refusal}
-use Rattle.definitions.specs.Logs.{◌also◌, each}
-use Rattle.definitions.specs.Slices.{differ}
-use Rattle.definitions.specs.Calls.{w, w', bad, short, chart_file, rules_file, two_file, v, seven, one_settled, one_found}
+use Rattle.definitions.proofs.Examples.{load_refusal}
+use Rattle.definitions.proofs.Logs.{◌also◌, each}
+use Rattle.definitions.proofs.Slices.{differ}
+use Rattle.definitions.proofs.Calls.{w, w', bad, short, chart_file, rules_file, two_file, v, seven, one_settled, one_found}
 
 -- ---- from each stage to each: a row for each start, number and cost for each end
 

@@ -1,0 +1,12 @@
+pub mod Marked
+pub mod Examples
+pub mod Logs
+pub mod Slices
+pub mod Corners
+pub mod Remarks
+pub mod Ticks
+pub mod Calls
+pub mod Cycles
+pub mod Groups
+pub mod Conjunctions
+pub mod Padding
