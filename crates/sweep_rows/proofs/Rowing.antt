@@ -12,7 +12,7 @@ use Rattle.theory.specs.Pairs.{pair_inside}
 use Rattle.sweep_model.specs.Model.{Rows, cost_at, node_at, count_at, relax_steps, relax_node, relax_nodes, relax_rows}
 use Rattle.sweep_model.specs.Rows.{Table, table_more, count_fits}
 use Rattle.sweep_model.specs.Sweeps.{steps_made, nodes_made}
-use Rattle.checks.specs.Ready.{Walk, Ready, graph_in, automaton_in, width_is, lawful_in, few_stages, few_nodes, row_start_lem}
+use Rattle.checks.specs.Ready.{Walk, Ready, graph_in, automaton_in, width_is, lawful_in, few_nodes, row_start_lem}
 use Rattle.definitions.specs.declared.Shape.{Shape}
 use Rattle.sweep_rows.specs.Standing.{Standing, Stands, Row, at}
 use Rattle.sweep_rows.specs.Leaving.{first_steps}
@@ -49,21 +49,9 @@ module _ (z : Shape) (on : Walk) where
   w = a.size
 
   module _ (y : Ready z on) where
-    pub small_stage : (s : ℕ) → s < z.stages → s < 256
-    small_stage s h = omega (arith, few_stages z on.read y.tables)
-
     base_at : (s base : ℕ) → s < z.stages → base ≡ get_or row s 0 → base ≡ s * w
     base_at s base h e =
         e ∙ row_start_lem z on y s h ∙ ap (λ (k : ℕ). s * k) (sym (width_is z on.read y.tables))
-
-  pub row_begins : {s count : ℕ} {r : Rows} → Row z on s r → s < z.stages → count ≡ count_at r s → Rowing z on s count r r 0
-  row_begins {s} {count} {r} x h e = record {
-    ready = x.ready;
-    table = table_more g a s (suc s) r (omega arith) x.table;
-    stage = h;
-    counted = sym e;
-    same = let q : count - 0 ≡ count = omega arith in ap (λ (i : ℕ). relax_nodes g a (at first) s 0 i r) (sym q);
-  }
 
   module _ {s count : ℕ} {r₀ r : Rows} {k : ℕ} (x : Rowing z on s count r₀ r k) {base : ℕ} (eb : base ≡ get_or row s 0) where
     base_is : base ≡ s * w
@@ -138,9 +126,6 @@ module _ (z : Shape) (on : Walk) where
     row_done h {c} e =
         let q : count - k ≡ 0 = omega arith in
         sym (x.same ∙ ap (λ (i : ℕ). relax_nodes g a (at first) s k i r) q) ∙ ap (λ (i : ℕ). relax_nodes g a (at first) s 0 i r₀) e
-
-  pub sweep_begins : {start stages : ℕ} {r : Rows} → Row z on start r → Sweeping z on start stages r r start
-  sweep_begins x = record { stands = x; same = refl }
 
   pub sweep_more : {start stages : ℕ} {r₀ r r' : Rows} {s : ℕ} → Sweeping z on start stages r₀ r s → stages ≡ z.stages → s < stages
       → r' ≡ relax_nodes g a (at first) s 0 (count_at r s) r → Sweeping z on start stages r₀ r' (s + 1)

@@ -25,11 +25,11 @@ use Rattle.sweep_model.specs.Model.{Rows, cost_at, count_at, offer, relax_step, 
 use Rattle.sweep_model.specs.Rows.{Entry, entry_low}
 use Rattle.sweep_model.specs.Offers.{pair_fits, roomy, place_fits}
 use Rattle.sweep_model.specs.Sweeps.{step_made}
-use Rattle.checks.specs.Ready.{Walk, walk, graph_in, automaton_in, count_is, width_is, lawful_in, few_stages, few_nodes, few_steps, to_at, cost_at_lem, group_at, named_at, own_at, first_leave, first_order, row_start_lem}
-use Rattle.checks.specs.Tables.{Read, Named, Tables, chart_in, diagram_in}
+use Rattle.checks.specs.Ready.{Walk, graph_in, automaton_in, count_is, width_is, lawful_in, few_stages, few_nodes, few_steps, to_at, cost_at_lem, group_at, named_at, own_at, first_leave, first_order, row_start_lem}
+use Rattle.checks.specs.Tables.{Named, Tables, chart_in, diagram_in}
 use Rattle.definitions.specs.declared.Shape.{Shape}
 use Rattle.sweep_offers.specs.Offers.{Open, Offering, stepped}
-use Rattle.sweep_rows.specs.Standing.{Standing, Stands}
+use Rattle.sweep_rows.specs.Standing.{Standing}
 
 -- Such a loop before step e, with the node carried down to m: what is left to do comes to the same as the whole
 pub record Walking (z : Shape) (on : Walk) (s n v begin until : ℕ) (r₀ r : Rows) (e m : ℕ) : Type 0 where
@@ -237,18 +237,3 @@ module _ {z : Shape} {on : Walk} {s n v begin until : ℕ} {r₀ r : Rows} {e m 
   pub walk_done : until ≤ e → r ≡ relax_steps g a n v begin (until - begin) r₀
   unfolding relax_steps
   walk_done h = let k : until - e ≡ 0 = omega arith in sym (w.same ∙ ap (λ (i : ℕ). relax_steps g a n v e i r) k)
-
-module _ {t : Read} {row : List ℕ} {n v begin until : ℕ} {r : Rows} (x : Stands t row n v begin until r) where
-  pub walk_node : n < 512
-  walk_node = omega (arith, x.standing.node, width_is x.z t x.standing.ready.tables, few_nodes x.z t x.standing.ready.tables)
-
-  pub walk_start : {m : ℕ} → m ≡ n → Walking x.z (walk t x.first row) x.s n v begin until r r begin m
-  walk_start q = record {
-    begins = x.begins;
-    ends = x.ends;
-    standing = x.standing;
-    same = refl;
-    later = omega arith;
-    carried = λ f h l. ap (advance (diagram_in x.z t) ((graph_in x.z t).group f)) q;
-    down = omega (arith, q);
-  }

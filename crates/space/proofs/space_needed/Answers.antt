@@ -21,10 +21,6 @@ pub overflow_mul-result : goal.overflow_mul-result
 overflow_mul-result c =
     omega (arith, (small _ _ (load c.args.chart.now c.args.rules.now (131072 ∷ []) 255) c.load-got.ensures c.if-got-ne0.false).few_pairs)
 
-pub overflow_sub-result : goal.overflow_sub-result
-overflow_sub-result c =
-    omega (arith, (small _ _ (load c.args.chart.now c.args.rules.now (131072 ∷ []) 255) c.load-got.ensures c.if-got-ne0.false).one_stage)
-
 pub returns : goal.returns
 returns c =
     let outcome = load c.args.chart.now c.args.rules.now (131072 ∷ []) 255 in

@@ -1,13 +1,9 @@
 -- `sweep_offers::relax_step` meets its contract: to node 0 nothing is offered, else the pair is.
-use Rattle.sweep_offers.proofs.Stepping.{offers, stepped_none, stepped_offer}
+use Rattle.sweep_offers.proofs.Stepping.{stepped_none, stepped_offer}
 use Rattle.sweep_offers.proofs.relax_step.Goals as goal
 
 pub returns-then-t-eq0 : goal.returns-then-t-eq0
 returns-then-t-eq0 c = stepped_none _ _ _ _ _ _ _ c.if-t-eq0.true
-
-pub offer-requires : goal.offer-requires
-offer-requires c =
-    offers c.requires c.if-t-eq0.false _ _ c.to_at-s.ensures c.wide-base.ensures.0
 
 pub returns : goal.returns
 returns c =

@@ -18,13 +18,10 @@ pub returns-then-best : goal.returns-then-best
 returns-then-best c =
     concludes_none c.requires.done c.wide-base.ensures.0 c.wide-listed.ensures.0 c.fill_finishing.ensures c.cheapest_goal-best.ensures c.total_count-count.ensures c.if-best.true c.refusal.ensures
 
-pub write_plan-length-requires : goal.write_plan-length-requires
-write_plan-length-requires c =
+pub write_plan-length-requires-clause-traceable : goal.write_plan-length-requires-clause-traceable
+write_plan-length-requires-clause-traceable c =
     let cheap : c.cheapest_goal-best.result.cost < NONE = omega (arith, c.cheapest_goal-best.ensures.bounded, c.if-best.false) in
-    record {
-      traceable = end_traceable c.requires.done c.wide-base.ensures.0 c.wide-listed.ensures.0 c.fill_finishing.ensures c.cheapest_goal-best.ensures cheap;
-      start_in_bounds = omega (arith, c.requires.done.tables.valid.end_inside);
-    }
+    end_traceable c.requires.done c.wide-base.ensures.0 c.wide-listed.ensures.0 c.fill_finishing.ensures c.cheapest_goal-best.ensures cheap
 
 pub returns : goal.returns
 returns c =
