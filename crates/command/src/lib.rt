@@ -4,7 +4,7 @@
 ghost use Rattle.std.specs.Prelude.{◌≤◌, length};
 
 use std::fs::File;
-use std::io::{Eprint, Print, Read};
+use std::io::Read;
 use std::rt::Files;
 use std::str;
 
