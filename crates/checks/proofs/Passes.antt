@@ -18,7 +18,6 @@ use Rattle.definitions.specs.Answers.{load, space_fits, work_need}
 use Rattle.chart.specs.Tables as chart
 use Rattle.chart.specs.Accepted.{Within, chart_accepted}
 use Rattle.chart.specs.declared.reader.ChartRead.{ChartRead}
-use Rattle.diagram.specs.Tables as diagram
 use Rattle.diagram.specs.Files as files
 use Rattle.diagram.specs.Held.{held_tables}
 use Rattle.diagram.specs.Accepted.{diagram_accepted}

@@ -3,7 +3,7 @@
 use Rattle.std.specs.Prelude.{ℕ, ◌≤◌, min, ◌≡◌, refl, Bool, true, false, ◌&&◌, cond, List, [], ◌∷◌, ◌⊎◌, leb}
 use Rattle.std.proofs.Common.{sym, ◌∙◌, ap₂, inl, inr, arith, le-leb, eq-eqb, ne_eqb, eqb-true, leb-true, leb-false}
 use Rattle.std.proofs.Math.Path.{ap}
-use Rattle.std.proofs.Math.Bool.{not, and_true}
+use Rattle.std.proofs.Math.Bool.{not, and-true}
 use Rattle.std.proofs.lemmas.Bool.{lt-leb, eqb-false, not-true, not-false}
 use Rattle.definitions.specs.Basics.{pick, every}
 use Rattle.definitions.specs.Charts.{Chart, group_count, read_chart}
@@ -182,4 +182,4 @@ load_work_lem s t works = go (read_files strict s t) refl
   where
     go : (o : Load) → read_files strict s t ≡ o → with_space works 255 o ≡ with_work works o
     go (refused number file place) e = refl
-    go (ready c d) e = ap (λ (b : Bool). pick b (ready c d) (refused 7 0 0)) (ap (λ (b : Bool). work_fits c d works && b) (le-leb (plan_need c) 255 (files_few s t c d e)) ∙ and_true (work_fits c d works))
+    go (ready c d) e = ap (λ (b : Bool). pick b (ready c d) (refused 7 0 0)) (ap (λ (b : Bool). work_fits c d works && b) (le-leb (plan_need c) 255 (files_few s t c d e)) ∙ and-true (work_fits c d works))

@@ -4,7 +4,6 @@ use Rattle.std.specs.Prelude.{ℕ, zero, suc, ◌+◌, ◌*◌, ◌≤◌, ◌<�
 use Rattle.std.proofs.Common.{sym, ◌∙◌, ap, ap₂, subst, mul-le-mul_right, arith, Fits}
 use Rattle.std.specs.Int.{w64}
 use Rattle.definitions.specs.Charts.{Chart, read_chart, group_count}
-use Rattle.definitions.specs.Charts as charts
 use Rattle.definitions.specs.Diagrams.{Diagram, size, strict, read_diagram}
 use Rattle.definitions.specs.Diagrams as diagrams
 use Rattle.definitions.specs.Answers.{LoadTwo, ready_two, refused_two, pair_need, load_two}

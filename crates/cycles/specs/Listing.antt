@@ -13,7 +13,7 @@ use Rattle.definitions.specs.declared.Cycle.{Cycle}
 use Rattle.definitions.specs.declared.Shape.{Shape}
 use Rattle.theory.specs.Basics.{true_not_false, pick_true, pick_false, pick_cases, same_or_not, either}
 use Rattle.checks.specs.declared.Loaded.{Loaded}
-use Rattle.checks.specs.Tables.{Read, chart_in, diagram_in, pairs_in}
+use Rattle.checks.specs.Tables.{chart_in, diagram_in, pairs_in}
 use Rattle.checks.specs.Ready.{Walk, width_is}
 use Rattle.checks.specs.Outcome.{refused_not_ready, ready_left, ready_right}
 use Rattle.guided_offers.specs.Work.{past_same, past_more}

@@ -6,7 +6,7 @@ use Rattle.std.proofs.Common.{sym, ◌∙◌, ap, ap₂, subst, inl, inr, arith,
 use Rattle.std.proofs.Math.Decide.{dec_lt}
 use Rattle.definitions.specs.Basics.{pick}
 use Rattle.definitions.specs.Charts.{Chart, ChartStep, plain, grouped, no_step, rounded, read_chart}
-use Rattle.definitions.specs.Bytes.{step_back, steps_back, chart_back, chart_bytes}
+use Rattle.definitions.specs.Bytes.{step_back, steps_back, chart_bytes}
 use Rattle.definitions.specs.Ways.{Graph}
 use Rattle.definitions.specs.Plans.{graph}
 use Rattle.theory.specs.Limits.{Valid, Small, Ticked, OneKind}

@@ -1,14 +1,13 @@
 -- Laws of a file in a lent buffer (`Filed` in `definitions`): what is answered and what the buffer then holds, where it is too short and where it is not.
 -- Assumes nothing.
-use Rattle.std.specs.Prelude.{ℕ, ◌≤◌, ◌<◌, ◌≡◌, List, ◌++◌, take, drop}
+use Rattle.std.specs.Prelude.{ℕ, ◌≤◌, ◌<◌, ◌≡◌, List}
 use Rattle.std.proofs.Math.Path.{sym}
-use Rattle.std.proofs.Common.{◌∙◌, ap, ap₂, lt-ltb, le-ltb}
+use Rattle.std.proofs.Common.{◌∙◌, ap, lt-ltb, le-ltb}
 use native.Mathlib.Omega.{arith}
 use Rattle.std.proofs.Math.ListN.{length}
-use Rattle.std.proofs.Math.Seq.{take-append_seam}
 use Rattle.definitions.specs.Answers.{refusal, accepted, file_answer, file_buffer, Filed}
 use Rattle.definitions.specs.declared.Answer.{Answer}
-use Rattle.theory.specs.Basics.{pick_true, pick_false, either, lt_or_le}
+use Rattle.theory.specs.Basics.{pick_true, pick_false}
 use Rattle.buffer.specs.Appending.{Appended}
 use Rattle.buffer.specs.Appends.{append_front}
 

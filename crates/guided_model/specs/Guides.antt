@@ -1,6 +1,6 @@
 -- The estimates of pairs (the larger of the chart's and the diagram's) guide a search.
 -- Assumes nothing.
-use Rattle.std.specs.Prelude.{ℕ, ◌≤◌, ◌≡◌, length}
+use Rattle.std.specs.Prelude.{ℕ, ◌≤◌, ◌≡◌}
 use Rattle.std.proofs.Math.Option.{some}
 use Rattle.std.proofs.Common.{arith, eqb-true}
 use Rattle.definitions.specs.Charts.{Chart, group_count}

@@ -8,7 +8,7 @@ use mathlib.Core.Option.{Option, none, some}
 use mathlib.Core.Logic.{◌⊎◌, inl, inr}
 use native.Mathlib.Omega.{arith}
 use native.Mathlib.Decide.{dec_lt}
-use lib.ListN.{length, get_or}
+use lib.ListN.{get_or}
 use Rattle.definitions.specs.Basics.{NONE, larger}
 use Rattle.definitions.specs.Charts.{Chart, no_step, plain, group_count}
 use Rattle.definitions.specs.Diagrams.{Diagram, size}

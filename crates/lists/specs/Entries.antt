@@ -9,7 +9,7 @@ use Rattle.definitions.specs.Diagrams.{Diagram, strict, read_diagram}
 use Rattle.definitions.specs.Ways.{way_cost}
 use Rattle.definitions.specs.Plans.{graph, automaton, Legal, cheapest, estimate}
 use Rattle.definitions.specs.Answers.{Load, ready, refused, read_files, with_work, load, load_work, space_fits, refusal, accepted}
-use Rattle.definitions.specs.Promises.{Outcome, Logged, Guided, GuidedSlices, guided_slices, guided_load, GuidedPromise, GuidedCall, on_chart, answered_by, found_number, found_cost, CycleSearched, CycledIf, Cycled, no_cycle, EachCycled, Listed, CycleSlices, cycles_load, CyclesPromise, CyclesCall}
+use Rattle.definitions.specs.Promises.{Outcome, Logged, Guided, GuidedSlices, guided_slices, guided_load, GuidedPromise, GuidedCall, on_chart, answered_by, found_number, found_cost, CycleSearched, CycledIf, no_cycle, EachCycled, Listed, CycleSlices, cycles_load, CyclesCall}
 use Rattle.definitions.specs.declared.Answer.{Answer}
 use Rattle.definitions.specs.declared.Cycle.{Cycle}
 use Rattle.theory.specs.Basics.{pick_cases, same_or_not, either}

@@ -3,14 +3,13 @@
 use Rattle.std.specs.Prelude.{ℕ, ◌+◌, ◌*◌, ◌/◌, ◌%◌, ◌≤◌, ◌<◌, ◌≡◌, Bool, true, false, not, List, [], ◌∷◌, ◌++◌, leb, eqb, length, get_or, take, drop}
 use Rattle.std.proofs.Math.Path.{refl, ap, subst}
 use Rattle.std.proofs.Common.{sym, ◌∙◌, arith, eq-eqb, eqb-true}
-use Rattle.std.proofs.lemmas.Bool.{eqb-false}
 use Rattle.definitions.specs.Basics.{pick}
-use Rattle.definitions.specs.Fields.{two, part, only, field_at, longest, first_field, on_field, Scan}
-use Rattle.definitions.specs.Charts.{Chart, ChartStep, ChartRead, headed, head_fault, chart_refused, with_steps, step_grammar, scan_steps, read_chart}
+use Rattle.definitions.specs.Fields.{two, part, only, field_at, longest, first_field, on_field}
+use Rattle.definitions.specs.Charts.{ChartRead, headed, head_fault, chart_refused, with_steps, step_grammar, scan_steps, read_chart}
 use Rattle.definitions.specs.Bytes.{le2}
 use Rattle.definitions.specs.declared.Field.{Field}
 use Rattle.definitions.specs.declared.Field.TheVariants.{Absent, Faulty, Passed, Whole}
-use Rattle.theory.specs.Basics.{pick_true, pick_false}
+use Rattle.theory.specs.Basics.{pick_true}
 use Rattle.theory.specs.Choices.{tests, past}
 use Rattle.fields.specs.Positions.{unlike_faulty, within, only_length}
 use Rattle.fields.specs.First.{first_number, first_fits}

@@ -10,7 +10,7 @@ use native.Mathlib.Omega.{arith}
 use borrow.Author.Count.{below_more}
 use Rattle.definitions.specs.Basics.{NONE, smaller, sum_of}
 use Rattle.definitions.specs.Charts.{Chart, group_count}
-use Rattle.definitions.specs.Diagrams.{Diagram, size, inner}
+use Rattle.definitions.specs.Diagrams.{Diagram, size}
 use Rattle.theory.specs.Limits.{Ordered, Sound}
 use Rattle.theory.specs.Limits as limits
 use Rattle.theory.specs.Variables.{variable_cost_cheap}

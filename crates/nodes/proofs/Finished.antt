@@ -8,7 +8,7 @@ use lib.ListN.{length, get_or, set, length-set}
 use lib.Seq.{get_or-set_same, get_or-set_other}
 use native.Mathlib.Omega.{arith}
 use borrow.Author.Count.{below_more}
-use Rattle.definitions.specs.Diagrams.{Diagram, size, inner, finish}
+use Rattle.definitions.specs.Diagrams.{Diagram, size, finish}
 use Rattle.theory.specs.Limits.{Ordered}
 use Rattle.theory.specs.Diagrams.{finish_leaf, finish_inner}
 use Rattle.diagram.specs.Tables.{Held}

@@ -28,7 +28,7 @@ module _ {keys heap pos stack : List ℕ} {c : Counts} {q v : ℕ} (d : Decreasi
   in_the_heap = go d.here
     where
       go : Contains (state keys heap pos stack c) q → In heap pos (heaped c) q
-      go (Contains.in_heap_lem i) = i
+      go (Contains.in_heap i) = i
       go (Contains.on_stack i h e) = absurd (omega (arith, x.level i h, ap (λ (k : ℕ). get_or keys k 0) e, d.above, d.lower))
 
   -- what `decrease_key` asks
@@ -62,9 +62,9 @@ module _ {keys heap pos stack : List ℕ} {c : Counts} {q v : ℕ} (d : Decreasi
     }
       where
         kept : (k : ℕ) → Contains (state keys heap pos stack c) k → Contains (state keys' heap' pos' stack c) k
-        kept k (Contains.in_heap_lem i) = Contains.in_heap_lem (u.kept k i)
+        kept k (Contains.in_heap i) = Contains.in_heap (u.kept k i)
         kept k (Contains.on_stack i h e) = Contains.on_stack i h e
 
         only : (k : ℕ) → Contains (state keys' heap' pos' stack c) k → Contains (state keys heap pos stack c) k
-        only k (Contains.in_heap_lem i) = Contains.in_heap_lem (u.only k i)
+        only k (Contains.in_heap i) = Contains.in_heap (u.only k i)
         only k (Contains.on_stack i h e) = Contains.on_stack i h e

@@ -36,30 +36,30 @@ module _ {p floor : ℕ} {x : State} (y : Queue p floor x) where
 
   -- a queue that holds no pair contains none
   pub contains_none : {q : ℕ} → x.counts.held ≡ 0 → Contains x q → ⊥
-  contains_none e (Contains.in_heap_lem w) = omega (arith, w.place)
+  contains_none e (Contains.in_heap w) = omega (arith, w.place)
   contains_none e (Contains.on_stack i l d) = omega (arith, y.top_held)
 
   -- what is in the queue is a pair
   pub contains_pair : {q : ℕ} → Contains x q → q < p
-  contains_pair {q} (Contains.in_heap_lem w) = in_pair y.ordered.indexed q w
+  contains_pair {q} (Contains.in_heap w) = in_pair y.ordered.indexed q w
   contains_pair (Contains.on_stack i l d) = omega (arith, y.pairs i l)
 
   -- and its key is at least the one last taken
   pub floor_le : {q : ℕ} → Contains x q → floor ≤ get_or x.keys q 0
-  floor_le {q} (Contains.in_heap_lem w) = y.above q w
+  floor_le {q} (Contains.in_heap w) = y.above q w
   floor_le (Contains.on_stack i l d) = omega (arith, y.level i l, ap (λ (k : ℕ). get_or x.keys k 0) d)
 
 -- the keys of pairs that are not in the queue may change
 module _ {keys heap pos stack : List ℕ} {c : Counts} (keys' : List ℕ) where
   pub contains_keys : {q : ℕ} → Contains (state keys heap pos stack c) q → Contains (state keys' heap pos stack c) q
-  contains_keys (Contains.in_heap_lem w) = Contains.in_heap_lem w
+  contains_keys (Contains.in_heap w) = Contains.in_heap w
   contains_keys (Contains.on_stack i l d) = Contains.on_stack i l d
 
   module _ {p floor : ℕ} (y : Queue p floor (state keys heap pos stack c)) (fits : p ≤ length keys')
       (same : (q : ℕ) → Contains (state keys heap pos stack c) q → get_or keys' q 0 ≡ get_or keys q 0) where
     same_key : (i : ℕ) → i < heaped c → key keys' heap i ≡ key keys heap i
     unfolding key
-    same_key i l = same (get_or heap i 0) (Contains.in_heap_lem (stands y.ordered.indexed i (get_or heap i 0) l refl))
+    same_key i l = same (get_or heap i 0) (Contains.in_heap (stands y.ordered.indexed i (get_or heap i 0) l refl))
 
     pub queue_keys : Queue p floor (state keys' heap pos stack c)
     queue_keys = record {
@@ -74,5 +74,5 @@ module _ {keys heap pos stack : List ℕ} {c : Counts} (keys' : List ℕ) where
       distinct = y.distinct;
       level = λ i l. same (get_or stack i 0) (Contains.on_stack i l refl) ∙ y.level i l;
       apart = y.apart;
-      above = λ q w. omega (arith, y.above q w, same q (Contains.in_heap_lem w));
+      above = λ q w. omega (arith, y.above q w, same q (Contains.in_heap w));
     }

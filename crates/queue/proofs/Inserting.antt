@@ -75,14 +75,14 @@ module _ {keys heap pos stack : List ℕ} {floor : ℕ} {c : Counts} {q v : ℕ}
 
   stack_queue : v ≡ floor → Queue p floor (state (set keys q v) heap pos entries pushed)
   stack_queue e = record {
-    ordered = rw same_heap (heap_other x.ordered q v (λ w. out (Contains.in_heap_lem w)));
+    ordered = rw same_heap (heap_other x.ordered q v (λ w. out (Contains.in_heap w)));
     top_held = omega (arith, x.top_held);
     stack_fits = simp length-set x.stack_fits;
     pairs = λ i h. pair i (entry i h);
     distinct = λ i j h g d. apart₂ i j d (entry i h) (entry j g);
     level = λ i h. level' i (entry i h);
     apart = λ i h w. apart' i (was_in w) (entry i h);
-    above = λ k w. omega (arith, x.above k (was_in w), old_key k (λ d. out (Contains.in_heap_lem (rw d at (was_in w)))));
+    above = λ k w. omega (arith, x.above k (was_in w), old_key k (λ d. out (Contains.in_heap (rw d at (was_in w)))));
   }
     where
       pair : (i : ℕ) → Entry stack c.top q i → get_or entries i 0 < p
@@ -100,7 +100,7 @@ module _ {keys heap pos stack : List ℕ} {floor : ℕ} {c : Counts} {q v : ℕ}
       level' i (Entry.old a b) = rw b (old_key (get_or stack i 0) (not_q i a) ∙ x.level i a)
 
       apart' : (i : ℕ) → In heap pos (heaped c) (get_or entries i 0) → Entry stack c.top q i → ⊥
-      apart' i w (Entry.new a b) = out (Contains.in_heap_lem (rw b at w))
+      apart' i w (Entry.new a b) = out (Contains.in_heap (rw b at w))
       apart' i w (Entry.old a b) = x.apart i a (rw b at w)
 
   pub insert_stack : v ≡ floor → Inserted p floor q v (state keys heap pos stack c) (state (set keys q v) heap pos entries pushed)
@@ -117,7 +117,7 @@ module _ {keys heap pos stack : List ℕ} {floor : ℕ} {c : Counts} {q v : ℕ}
   }
     where
       kept : (k : ℕ) → Contains (state keys heap pos stack c) k → Contains (state (set keys q v) heap pos entries pushed) k
-      kept k (Contains.in_heap_lem w) = Contains.in_heap_lem (still_in w)
+      kept k (Contains.in_heap w) = Contains.in_heap (still_in w)
       kept k (Contains.on_stack i h d) = Contains.on_stack i (omega arith) (get_or-set_other stack c.top i q 0 (omega arith) ∙ d)
 
       from : (k i : ℕ) → get_or entries i 0 ≡ k → k ≢ q → Entry stack c.top q i → Contains (state keys heap pos stack c) k
@@ -125,7 +125,7 @@ module _ {keys heap pos stack : List ℕ} {floor : ℕ} {c : Counts} {q v : ℕ}
       from k i d ne (Entry.old a b) = Contains.on_stack i a (sym b ∙ d)
 
       only : (k : ℕ) → Contains (state (set keys q v) heap pos entries pushed) k → k ≢ q → Contains (state keys heap pos stack c) k
-      only k (Contains.in_heap_lem w) ne = Contains.in_heap_lem (was_in w)
+      only k (Contains.in_heap w) ne = Contains.in_heap (was_in w)
       only k (Contains.on_stack i h d) ne = from k i d ne (entry i h)
 
   -- ---- above the floor: in the heap
@@ -134,7 +134,7 @@ module _ {keys heap pos stack : List ℕ} {floor : ℕ} {c : Counts} {q v : ℕ}
 
   -- what `push` asks
   abbrev pub insert_pushing : Pushing (heaped c) q (slices keys heap pos)
-  insert_pushing = record { p = p; ordered = x.ordered; pair = asks.pair; outside = λ w. out (Contains.in_heap_lem w) }
+  insert_pushing = record { p = p; ordered = x.ordered; pair = asks.pair; outside = λ w. out (Contains.in_heap w) }
 
   module _ {keys' heap' pos' : List ℕ} (ne : v ≢ floor) (u : Pushed p (heaped c) q v (slices keys heap pos) (slices keys' heap' pos')) where
     one_more : heaped c + 1 ≡ heaped added
@@ -167,7 +167,7 @@ module _ {keys heap pos stack : List ℕ} {floor : ℕ} {c : Counts} {q v : ℕ}
       stored = u.stored;
       queue = heap_queue;
       one_more = refl;
-      here = Contains.in_heap_lem (now_in u.here);
+      here = Contains.in_heap (now_in u.here);
       kept = kept;
       only = only;
       newest = λ e. absurd (ne e);
@@ -176,9 +176,9 @@ module _ {keys heap pos stack : List ℕ} {floor : ℕ} {c : Counts} {q v : ℕ}
     }
       where
         kept : (k : ℕ) → Contains (state keys heap pos stack c) k → Contains (state keys' heap' pos' stack added) k
-        kept k (Contains.in_heap_lem w) = Contains.in_heap_lem (now_in (u.kept k w))
+        kept k (Contains.in_heap w) = Contains.in_heap (now_in (u.kept k w))
         kept k (Contains.on_stack i h d) = Contains.on_stack i h d
 
         only : (k : ℕ) → Contains (state keys' heap' pos' stack added) k → k ≢ q → Contains (state keys heap pos stack c) k
-        only k (Contains.in_heap_lem w) nd = Contains.in_heap_lem (u.only k (in_before w) nd)
+        only k (Contains.in_heap w) nd = Contains.in_heap (u.only k (in_before w) nd)
         only k (Contains.on_stack i h d) nd = Contains.on_stack i h d

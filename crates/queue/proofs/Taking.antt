@@ -38,11 +38,11 @@ module _ {keys heap pos stack : List ℕ} {p floor : ℕ} {c : Counts} (x : Queu
     was = Contains.on_stack (c.top - 1) (omega arith) (sym e)
 
     gone : Contains (state keys heap pos stack popped) r → ⊥
-    gone (Contains.in_heap_lem w) = x.apart (c.top - 1) (omega arith) (rw e at (was_in w))
+    gone (Contains.in_heap w) = x.apart (c.top - 1) (omega arith) (rw e at (was_in w))
     gone (Contains.on_stack i h d) = omega (arith, x.distinct i (c.top - 1) (omega arith) (omega arith) (d ∙ e))
 
     kept : (k : ℕ) → Contains (state keys heap pos stack c) k → k ≢ r → Contains (state keys heap pos stack popped) k
-    kept k (Contains.in_heap_lem w) ne = Contains.in_heap_lem (rw same_heap w)
+    kept k (Contains.in_heap w) ne = Contains.in_heap (rw same_heap w)
     kept k (Contains.on_stack i h d) ne = go (ℕ_discrete i (c.top - 1))
       where
         go : Dec (i ≡ c.top - 1) → Contains (state keys heap pos stack popped) k
@@ -50,7 +50,7 @@ module _ {keys heap pos stack : List ℕ} {p floor : ℕ} {c : Counts} (x : Queu
         go (no a) = Contains.on_stack i (omega arith) d
 
     only : (k : ℕ) → Contains (state keys heap pos stack popped) k → Contains (state keys heap pos stack c) k
-    only k (Contains.in_heap_lem w) = Contains.in_heap_lem (was_in w)
+    only k (Contains.in_heap w) = Contains.in_heap (was_in w)
     only k (Contains.on_stack i h d) = Contains.on_stack i (omega arith) d
 
     list : recent stack c ≡ r ∷ recent stack popped
@@ -101,19 +101,19 @@ module _ {keys heap pos stack : List ℕ} {p floor : ℕ} {c : Counts} (x : Queu
     was_in' {k} w = u.only k (rw others at w)
 
     kept' : (k : ℕ) → Contains (state keys heap pos stack c) k → k ≢ r → Contains (state keys heap' pos' stack left) k
-    kept' k (Contains.in_heap_lem w) ne = Contains.in_heap_lem (rw others (u.kept k (rw (all z) at w) ne))
+    kept' k (Contains.in_heap w) ne = Contains.in_heap (rw others (u.kept k (rw (all z) at w) ne))
     kept' k (Contains.on_stack i h d) ne = absurd (omega arith)
 
     only' : (k : ℕ) → Contains (state keys heap' pos' stack left) k → Contains (state keys heap pos stack c) k
-    only' k (Contains.in_heap_lem w) = Contains.in_heap_lem (rw (all z) (was_in' w))
+    only' k (Contains.in_heap w) = Contains.in_heap (rw (all z) (was_in' w))
     only' k (Contains.on_stack i h d) = absurd (omega arith)
 
     gone' : Contains (state keys heap' pos' stack left) r → ⊥
-    gone' (Contains.in_heap_lem w) = u.gone (rw others at w)
+    gone' (Contains.in_heap w) = u.gone (rw others at w)
     gone' (Contains.on_stack i h d) = omega arith
 
     least : (k : ℕ) → Contains (state keys heap pos stack c) k → get_or keys r 0 ≤ get_or keys k 0
-    least k (Contains.in_heap_lem w) = u.least k (rw (all z) at w)
+    least k (Contains.in_heap w) = u.least k (rw (all z) at w)
     least k (Contains.on_stack i h d) = absurd (omega arith)
 
     none : recent stack c ≡ []
@@ -124,7 +124,7 @@ module _ {keys heap pos stack : List ℕ} {p floor : ℕ} {c : Counts} (x : Queu
 
     pub take_heap : 0 < c.held → Taken p floor r (get_or keys r 0) (state keys heap pos stack c) (state keys heap' pos' stack left)
     take_heap y = record {
-      was = Contains.in_heap_lem (rw (all z) u.was);
+      was = Contains.in_heap (rw (all z) u.was);
       pair = u.pair;
       least = least;
       queue = record {
@@ -139,7 +139,7 @@ module _ {keys heap pos stack : List ℕ} {p floor : ℕ} {c : Counts} (x : Queu
       };
       one_fewer = omega arith;
       its_key = refl;
-      rises = floor_le x (Contains.in_heap_lem (rw (all z) u.was));
+      rises = floor_le x (Contains.in_heap (rw (all z) u.was));
       gone = gone';
       kept = kept';
       only = only';

@@ -24,8 +24,8 @@ pub fn conclude<'a>(
     inner: &'a [u32; 512],
     plan: &mut [u16],
 ) -> Answer
-    requires fact { Final z (read steps.now inner.now) row.now (rows costs.now via.now nodes.now counts.now) }
-    requires stages_in_bounds { z.stages - 1 ≤ length plan.old }
+    requires done { Final z (read steps.now inner.now) row.now (rows costs.now via.now nodes.now counts.now) }
+    requires plan_fits { z.stages - 1 ≤ length plan.old }
     ensures { Concludes z (read steps.now inner.now) plan.old plan.new result }
 {
     let count = total_count(counts, z.stages as usize);

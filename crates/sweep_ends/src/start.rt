@@ -14,7 +14,9 @@ pub fn begin(
     start: Stage,
     root: Node,
 )
-    requires { (start.0 < 256) × (base + root.0 < length costs.old) × (base < length nodes.old) }
+    requires stage_in { start.0 < 256 }
+    requires pair_in { base + root.0 < length costs.old }
+    requires list_in { base < length nodes.old }
     ensures { (via : List ℕ) → rows costs.new via nodes.new counts.new
         ≡ begun_at base start.0 root.0 (rows costs.old via nodes.old counts.old) }
 {

@@ -34,8 +34,9 @@ fn relax_plain<'a>(
     v: u32,
     leaving: Span,
 )
-    requires { let t = read steps.now inner.now in
-        Stands t row.now n.0 v leaving.begin.0 leaving.until.0 (rows costs.old via.old nodes.old counts.old) × (Named t → ⊥) }
+    requires stands { let t = read steps.now inner.now in
+        Stands t row.now n.0 v leaving.begin.0 leaving.until.0 (rows costs.old via.old nodes.old counts.old) }
+    requires plain { Named (read steps.now inner.now) → ⊥ }
     ensures { let before = rows costs.old via.old nodes.old counts.old in
         let after = rows costs.new via.new nodes.new counts.new in
         let t = read steps.now inner.now in
@@ -71,8 +72,9 @@ fn relax_grouped<'a>(
     v: u32,
     leaving: Span,
 )
-    requires { let t = read steps.now inner.now in
-        Stands t row.now n.0 v leaving.begin.0 leaving.until.0 (rows costs.old via.old nodes.old counts.old) × Named t }
+    requires stands { let t = read steps.now inner.now in
+        Stands t row.now n.0 v leaving.begin.0 leaving.until.0 (rows costs.old via.old nodes.old counts.old) }
+    requires named { Named (read steps.now inner.now) }
     ensures { let before = rows costs.old via.old nodes.old counts.old in
         let after = rows costs.new via.new nodes.new counts.new in
         let t = read steps.now inner.now in
@@ -140,7 +142,7 @@ fn relax_row<'a>(
     ensures { let before = rows costs.old via.old nodes.old counts.old in
         let after = rows costs.new via.new nodes.new counts.new in
         let t = read steps.now inner.now in
-        let first = first.entry.now in
+        let first = first.now in
         (x : InRow (walk t first row.now) s.0 before)
         → after ≡ relax_nodes (graph_in x.z t) (automaton_in x.z t) (at first) s.0 0 (at before.counts s.0) before }
 {

@@ -1,7 +1,6 @@
 -- `answer_arrays::store_field` meets its contract.
 use mathlib.Core.Path.{refl}
 use Rattle.answer_arrays.proofs.Copied.{copied}
-use borrow.Author.Rules.{rules}
 use Rattle.answer_arrays.proofs.store_field.Goals as goal
 
 pub returns : goal.returns

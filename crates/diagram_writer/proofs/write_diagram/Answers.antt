@@ -3,7 +3,6 @@ use Rattle.diagram_writer.specs.Files.{diagram_short, diagram_whole}
 use Prim.Native.Nat.{ℕ, ◌+◌, ◌*◌}
 use mathlib.Core.Path.{◌≡◌, ap}
 use Rattle.unique_table.specs.Tables.{unique_table, count_in}
-use borrow.Author.Rules.{rules}
 use Rattle.diagram_writer.proofs.write_diagram.Goals as goal
 
 pub returns-then-out-bytes : goal.returns-then-out-bytes

@@ -1,17 +1,13 @@
 -- `diagram_writer::write_nodes` meets its contract.
 use Rattle.diagram_writer.specs.Files.{node_appended}
 use Rattle.unique_table.specs.Nodes.{nodes_long}
-use Prim.Native.Nat.{◌+◌, ◌-◌, ◌*◌, ◌≤◌}
-use mathlib.Core.Path.{◌≡◌, refl}
+use mathlib.Core.Path.{refl}
 use native.Mathlib.Omega.{arith}
-use lib.ListN.{length, take}
-use Rattle.definitions.specs.Basics.{each}
 use Rattle.definitions.specs.Bytes.{node_bytes}
 use Rattle.definitions.specs.Diagrams.{no_node}
-use Rattle.buffer.specs.Appending.{Appended}
 use Rattle.buffer.specs.Appends.{append_none}
 use Rattle.buffer.specs.Members.{append_next, append_all}
-use Rattle.unique_table.specs.Tables.{unique_table, count_in, nodes_in}
+use Rattle.unique_table.specs.Tables.{unique_table}
 use borrow.Author.Rules.{rules}
 use Rattle.diagram_writer.proofs.write_nodes.Goals as goal
 
@@ -25,7 +21,7 @@ loop-k-preserved c = (
   search rules,
   search rules,
   append_next node_bytes _ c.loop-k.k no_node (search rules) (omega (arith, nodes_long (unique_table c.args.nodes.now c.args.chains.now), c.loop-k.invariant.1)) c.loop-k.invariant.4
-      (node_appended (unique_table c.args.nodes.now c.args.chains.now) c.loop-k.k (search rules) _ _ _ c.step_of_lem.ensures c.lo_of_lem.ensures c.hi_of.ensures c.write_node-end.ensures),
+      (node_appended (unique_table c.args.nodes.now c.args.chains.now) c.loop-k.k (search rules) _ _ _ c.step_of.ensures c.lo_of.ensures c.hi_of.ensures c.write_node-end.ensures),
 )
 
 pub returns : goal.returns

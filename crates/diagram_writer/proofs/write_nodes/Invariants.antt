@@ -1,18 +1,11 @@
 -- `diagram_writer::write_nodes` meets its contract.
-use Rattle.diagram_writer.specs.Files.{node_appended}
-use Rattle.unique_table.specs.Nodes.{nodes_long}
 use Prim.Native.Nat.{◌+◌, ◌-◌, ◌*◌, ◌≤◌}
-use mathlib.Core.Path.{◌≡◌, refl}
-use native.Mathlib.Omega.{arith}
+use mathlib.Core.Path.{◌≡◌}
 use lib.ListN.{length, take}
 use Rattle.definitions.specs.Basics.{each}
 use Rattle.definitions.specs.Bytes.{node_bytes}
-use Rattle.definitions.specs.Diagrams.{no_node}
 use Rattle.buffer.specs.Appending.{Appended}
-use Rattle.buffer.specs.Appends.{append_none}
-use Rattle.buffer.specs.Members.{append_next, append_all}
 use Rattle.unique_table.specs.Tables.{unique_table, count_in, nodes_in}
-use borrow.Author.Rules.{rules}
 use Rattle.diagram_writer.proofs.write_nodes.Given as goal
 
 abbrev pub invariant-loop-k : goal.invariant-loop-k

@@ -1,6 +1,5 @@
 -- `digits::write_number` meets its contract.
-use borrow.Author.Rules.{rules}
-use Rattle.digits.proofs.Decimals.{Spelled, spell_start, spell_more, spelled_long, number_written}
+use Rattle.digits.proofs.Decimals.{spell_start, spell_more, spelled_long, number_written}
 use Rattle.digits.proofs.write_number.Goals as goal
 
 pub loop-left-init : goal.loop-left-init

@@ -1,6 +1,5 @@
 -- `digits::write_number` meets its contract.
-use borrow.Author.Rules.{rules}
-use Rattle.digits.proofs.Decimals.{Spelled, spell_start, spell_more, spelled_long, number_written}
+use Rattle.digits.proofs.Decimals.{Spelled}
 use Rattle.digits.proofs.write_number.Given as goal
 
 abbrev pub invariant-loop-left : goal.invariant-loop-left

@@ -1,10 +1,10 @@
 -- `entries::clear` meets its contract.
-use Prim.Native.Nat.{ℕ, ◌-◌, ◌≤◌}
+use Prim.Native.Nat.{ℕ}
 use mathlib.Core.Path.{◌≡◌, refl, ◌∙◌, ap}
 use mathlib.Core.List.{◌++◌}
 use native.Mathlib.Omega.{arith}
 use borrow.Author.Rules.{rules}
-use lib.ListN.{length, drop, replicate, set}
+use lib.ListN.{drop, replicate, set}
 use borrow.Author.Fill.{fill_none, fill_more}
 use Rattle.definitions.specs.Basics.{NONE}
 use Rattle.entries.proofs.clear.Goals as goal

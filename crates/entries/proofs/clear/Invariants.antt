@@ -1,11 +1,8 @@
 -- `entries::clear` meets its contract.
-use Prim.Native.Nat.{ℕ, ◌-◌, ◌≤◌}
-use mathlib.Core.Path.{◌≡◌, refl, ◌∙◌, ap}
+use Prim.Native.Nat.{◌-◌, ◌≤◌}
+use mathlib.Core.Path.{◌≡◌}
 use mathlib.Core.List.{◌++◌}
-use native.Mathlib.Omega.{arith}
-use borrow.Author.Rules.{rules}
-use lib.ListN.{length, drop, replicate, set}
-use borrow.Author.Fill.{fill_none, fill_more}
+use lib.ListN.{length, drop, replicate}
 use Rattle.definitions.specs.Basics.{NONE}
 use Rattle.entries.proofs.clear.Given as goal
 

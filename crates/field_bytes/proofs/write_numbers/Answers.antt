@@ -1,12 +1,8 @@
 -- `field_bytes::write_numbers` meets its contract.
-use Prim.Native.Nat.{◌+◌, ◌-◌, ◌*◌, ◌≤◌}
-use mathlib.Core.Path.{◌≡◌, refl}
-use lib.ListN.{length, take}
+use mathlib.Core.Path.{refl}
 use borrow.Author.Rules.{rules}
-use Rattle.definitions.specs.Basics.{each}
 use Rattle.definitions.specs.Bytes.{le2}
 use Rattle.buffer.specs.Members.{append_next, append_all}
-use Rattle.buffer.specs.Appending.{Appended}
 use Rattle.buffer.specs.Appends.{append_none}
 use Rattle.field_bytes.proofs.write_numbers.Goals as goal
 

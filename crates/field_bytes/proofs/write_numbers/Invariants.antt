@@ -1,13 +1,10 @@
 -- `field_bytes::write_numbers` meets its contract.
 use Prim.Native.Nat.{◌+◌, ◌-◌, ◌*◌, ◌≤◌}
-use mathlib.Core.Path.{◌≡◌, refl}
+use mathlib.Core.Path.{◌≡◌}
 use lib.ListN.{length, take}
-use borrow.Author.Rules.{rules}
 use Rattle.definitions.specs.Basics.{each}
 use Rattle.definitions.specs.Bytes.{le2}
-use Rattle.buffer.specs.Members.{append_next, append_all}
 use Rattle.buffer.specs.Appending.{Appended}
-use Rattle.buffer.specs.Appends.{append_none}
 use Rattle.field_bytes.proofs.write_numbers.Given as goal
 
 abbrev pub invariant-loop-i : goal.invariant-loop-i

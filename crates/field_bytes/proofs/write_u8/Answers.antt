@@ -1,6 +1,5 @@
 -- `field_bytes::write_u8` meets its contract.
 use Rattle.buffer.specs.Appends.{append_byte}
-use borrow.Author.Rules.{rules}
 use Rattle.field_bytes.proofs.write_u8.Goals as goal
 
 pub returns : goal.returns

@@ -1,10 +1,8 @@
 -- `guided_keys::fill_keys` meets its contract.
-use mathlib.Core.Path.{◌≡◌, refl}
-use Prim.Native.Nat.{◌-◌, ◌≤◌}
+use mathlib.Core.Path.{refl}
 use native.Mathlib.Omega.{arith}
-use lib.ListN.{length, length-set}
-use Rattle.guided_keys.proofs.Filling.{Filling, fill_none, fill_more, fill_all}
-use borrow.Author.Rules.{rules}
+use lib.ListN.{length-set}
+use Rattle.guided_keys.proofs.Filling.{fill_none, fill_more, fill_all}
 use Rattle.guided_keys.proofs.fill_keys.Goals as goal
 
 pub loop-k-init : goal.loop-k-init

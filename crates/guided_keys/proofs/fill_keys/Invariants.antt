@@ -1,10 +1,8 @@
 -- `guided_keys::fill_keys` meets its contract.
-use mathlib.Core.Path.{◌≡◌, refl}
+use mathlib.Core.Path.{◌≡◌}
 use Prim.Native.Nat.{◌-◌, ◌≤◌}
-use native.Mathlib.Omega.{arith}
-use lib.ListN.{length, length-set}
-use Rattle.guided_keys.proofs.Filling.{Filling, fill_none, fill_more, fill_all}
-use borrow.Author.Rules.{rules}
+use lib.ListN.{length}
+use Rattle.guided_keys.proofs.Filling.{Filling}
 use Rattle.guided_keys.proofs.fill_keys.Given as goal
 
 abbrev pub invariant-loop-k : goal.invariant-loop-k

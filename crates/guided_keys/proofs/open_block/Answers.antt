@@ -1,5 +1,4 @@
 -- `guided_keys::open_block` meets its contract.
-use borrow.Author.Rules.{rules}
 use Rattle.guided_keys.proofs.Filling.{block_was, block_new}
 use Rattle.guided_keys.proofs.open_block.Goals as goal
 
@@ -10,4 +9,4 @@ returns-then-filled-b c =
 pub returns : goal.returns
 returns c =
     block_new c.args.x c.args.pairs c.args.keys.now c.args.filled.now c.requires.0 c.requires.1 c.requires.3
-    c.if-filled-b.false c.lesser.result c.lesser.ensures c.fill_keys.last.0 c.fill_keys.ensures
+    c.if-filled-b.false c.lesser.result c.lesser.ensures c.fill_keys.new.keys c.fill_keys.ensures

@@ -1,7 +1,6 @@
 -- `guided_offers::relax` meets its contract: one law for each way.
 use native.Mathlib.Omega.{arith}
 use Rattle.guided_offers.proofs.Relaxing.{relax_none, relax_inserts, relax_decreases, relax_opens, relax_lowers}
-use borrow.Author.Rules.{rules}
 use Rattle.guided_offers.proofs.relax.Goals as goal
 
 pub returns-then-old-v : goal.returns-then-old-v

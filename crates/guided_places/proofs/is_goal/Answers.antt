@@ -1,6 +1,5 @@
 -- `guided_places::is_goal` meets its contract.
 use Rattle.guided_places.proofs.Placing.{goal_there, goal_elsewhere}
-use borrow.Author.Rules.{rules}
 use Rattle.guided_places.proofs.is_goal.Goals as goal
 
 pub returns-then-at-end : goal.returns-then-at-end

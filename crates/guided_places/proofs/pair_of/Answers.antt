@@ -1,7 +1,6 @@
 -- `guided_places::pair_of` meets its contract.
 use mathlib.Core.Path.{sym, ◌∙◌}
 use Rattle.guided_places.proofs.Placing.{at_begin, placed_begin, placed_mark, placed_stage}
-use borrow.Author.Rules.{rules}
 use Rattle.guided_places.proofs.pair_of.Goals as goal
 
 pub pair_in-requires : goal.pair_in-requires

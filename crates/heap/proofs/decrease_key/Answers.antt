@@ -1,7 +1,6 @@
 -- `decrease_key` meets its contract. A pair that is in the heap is below p.
 -- Assumes nothing.
 use native.Mathlib.Omega.{arith}
-use borrow.Author.Rules.{rules}
 use Rattle.heap.proofs.Decreasing.{decrease_pair, decrease_sifting, decrease_done}
 use Rattle.heap.proofs.decrease_key.Goals as goal
 

@@ -2,7 +2,6 @@
 -- Assumes nothing.
 use Prim.Native.Nat.{◌-◌}
 use native.Mathlib.Omega.{arith}
-use borrow.Author.Rules.{rules}
 use Rattle.heap_sift.proofs.Places.{entry, key_within}
 use Rattle.heap.proofs.Popping.{pop_sifting, pop_done}
 use Rattle.heap.proofs.pop_min.Goals as goal

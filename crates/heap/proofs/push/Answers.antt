@@ -1,9 +1,6 @@
 -- `push` meets its contract. That there is room is `push_room`.
 -- Assumes nothing.
-use mathlib.Core.Path.{◌∙◌}
 use native.Mathlib.Omega.{arith}
-use lib.ListN.{length-set}
-use borrow.Author.Rules.{rules}
 use Rattle.heap.proofs.Pushing.{push_room, push_sifting, push_done}
 use Rattle.heap.proofs.push.Goals as goal
 
@@ -18,14 +15,6 @@ overflow_cast-pos c =
 pub sift_up-requires : goal.sift_up-requires
 sift_up-requires c =
     push_sifting c.requires c.args.v
-
-pub shape_of-heap : goal.shape_of-heap
-shape_of-heap c =
-    c.sift_up.KEPT.1.0 ∙ simp length-set
-
-pub shape_of-pos : goal.shape_of-pos
-shape_of-pos c =
-    c.sift_up.KEPT.1.1.0 ∙ simp length-set
 
 pub returns : goal.returns
 returns c =

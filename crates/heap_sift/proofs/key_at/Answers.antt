@@ -3,7 +3,6 @@
 use mathlib.Core.Path.{ap}
 use Prim.Native.Nat.{ℕ}
 use lib.ListN.{get_or}
-use borrow.Author.Rules.{rules}
 use Rattle.heap_sift.specs.Heap.{key}
 use Rattle.heap_sift.proofs.key_at.Goals as goal
 

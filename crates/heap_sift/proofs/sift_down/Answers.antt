@@ -1,24 +1,15 @@
 -- `sift_down` meets its contract. The loop: all is in order but between x and its children, and v is the key at x. The measure is n - x.
 -- Assumes nothing.
-use mathlib.Core.Path.{◌≡◌, refl}
-use Prim.Native.Nat.{◌-◌, ◌≤◌}
+use mathlib.Core.Path.{refl}
 use native.Mathlib.Omega.{arith}
-use lib.ListN.{length}
 use borrow.Author.Rules.{rules}
-use Rattle.heap_sift.specs.Heap.{slices}
-use Rattle.heap_sift.specs.Sift.{SiftingDown}
 use Rattle.heap_sift.proofs.Places.{entry, key_within}
-use Rattle.heap_sift.proofs.Loops.{Dropping, drop_start, drop_end, drop_stop, drop_turn}
+use Rattle.heap_sift.proofs.Loops.{drop_start, drop_end, drop_stop, drop_turn}
 use Rattle.heap_sift.proofs.sift_down.Goals as goal
 
 pub loop-x-init : goal.loop-x-init
 loop-x-init c =
     (refl, refl, c.requires.place, drop_start)
-
-pub least_child-c-requires : goal.least_child-c-requires
-least_child-c-requires c =
-    let dropping = c.loop-x.invariant.3 c.requires in
-    ((omega (arith, dropping.moved.indexed), omega arith), λ i h. (key_within dropping.moved.indexed c.args.keys.now c.requires.keys_fit i h).1)
 
 pub key_at-below-requires : goal.key_at-below-requires
 key_at-below-requires c =
@@ -44,3 +35,7 @@ loop-x-preserved c = (
 pub returns : goal.returns
 returns c =
     λ a. drop_end (c.loop-x.invariant.3 a) c.loop-x-test.false
+
+pub least_child-c-requires-clause-by_index : goal.least_child-c-requires-clause-by_index
+least_child-c-requires-clause-by_index c =
+    λ i h. (key_within (c.loop-x.invariant.3 c.requires).moved.indexed c.args.keys.now c.requires.keys_fit i h).1

@@ -1,14 +1,11 @@
 -- `sift_down` meets its contract. The loop: all is in order but between x and its children, and v is the key at x. The measure is n - x.
 -- Assumes nothing.
-use mathlib.Core.Path.{◌≡◌, refl}
+use mathlib.Core.Path.{◌≡◌}
 use Prim.Native.Nat.{◌-◌, ◌≤◌}
-use native.Mathlib.Omega.{arith}
 use lib.ListN.{length}
-use borrow.Author.Rules.{rules}
 use Rattle.heap_sift.specs.Heap.{slices}
 use Rattle.heap_sift.specs.Sift.{SiftingDown}
-use Rattle.heap_sift.proofs.Places.{entry, key_within}
-use Rattle.heap_sift.proofs.Loops.{Dropping, drop_start, drop_end, drop_stop, drop_turn}
+use Rattle.heap_sift.proofs.Loops.{Dropping}
 use Rattle.heap_sift.proofs.sift_down.Given as goal
 
 abbrev pub invariant-loop-x : goal.invariant-loop-x

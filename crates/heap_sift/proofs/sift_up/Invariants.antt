@@ -1,13 +1,10 @@
 -- `sift_up` meets its contract. The loop: all is in order but between x and its parent, and v is the key at x. The measure is x.
 -- Assumes nothing.
-use mathlib.Core.Path.{◌≡◌, refl}
-use native.Mathlib.Omega.{arith}
+use mathlib.Core.Path.{◌≡◌}
 use lib.ListN.{length}
-use borrow.Author.Rules.{rules}
 use Rattle.heap_sift.specs.Heap.{slices}
 use Rattle.heap_sift.specs.Sift.{SiftingUp}
-use Rattle.heap_sift.proofs.Places.{entry, key_within}
-use Rattle.heap_sift.proofs.Loops.{Lifting, lift_start, lift_top, lift_stop, lift_turn}
+use Rattle.heap_sift.proofs.Loops.{Lifting}
 use Rattle.heap_sift.proofs.sift_up.Given as goal
 
 abbrev pub invariant-loop-x : goal.invariant-loop-x

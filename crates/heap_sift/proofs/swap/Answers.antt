@@ -2,7 +2,6 @@
 -- Assumes nothing.
 use native.Mathlib.Omega.{arith}
 use lib.ListN.{length-set}
-use borrow.Author.Rules.{rules}
 use Rattle.heap_sift.proofs.Places.{swap_done}
 use Rattle.heap_sift.proofs.swap.Goals as goal
 

@@ -1,11 +1,9 @@
 -- `node_estimates::fill_diagram_estimates` meets its contract.
 use borrow.Author.Rules.{rules}
-use Prim.Native.Nat.{◌+◌, ◌-◌, ◌<◌}
-use mathlib.Core.Path.{◌≡◌}
+use Prim.Native.Nat.{◌+◌, ◌<◌}
 use native.Mathlib.Omega.{arith}
-use Rattle.diagram_fields.specs.Words.{nodes_in}
 use Rattle.nodes.proofs.Children.{child_inside}
-use Rattle.node_estimates.proofs.Estimating.{Estimating, estimating_step, estimating-laws}
+use Rattle.node_estimates.proofs.Estimating.{estimating_step, estimating-laws}
 use Rattle.node_estimates.proofs.fill_diagram_estimates.Goals as goal
 
 pub loop-n-init : goal.loop-n-init
@@ -15,9 +13,9 @@ pub inner_estimate-requires : goal.inner_estimate-requires
 inner_estimate-requires c =
     let found = c.loop-n.invariant.1 in
     let below : c.loop-n.n < c.args.z.nodes + 2 = omega (arith, c.loop-n-test.true, c.loop-n.invariant.0) in (
-      estimating_step _ _ _ _ _ _ _ found c.requires.0.2 below _ c.step_at_lem.ensures,
-      child_inside _ _ _ c.requires.0.0 found.inner below _ c.lo_at-lo.ensures,
-      child_inside _ _ _ c.requires.0.1 found.inner below _ c.hi_at-hi.ensures,
+      estimating_step _ _ _ _ _ _ _ found c.requires.fact.2 below _ c.step_at-e.ensures,
+      child_inside _ _ _ c.requires.fact.0 found.inner below _ c.lo_at-lo.ensures,
+      child_inside _ _ _ c.requires.fact.1 found.inner below _ c.hi_at-hi.ensures,
     )
 
 pub loop-n-preserved : goal.loop-n-preserved

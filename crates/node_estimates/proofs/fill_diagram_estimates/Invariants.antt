@@ -1,11 +1,8 @@
 -- `node_estimates::fill_diagram_estimates` meets its contract.
-use borrow.Author.Rules.{rules}
-use Prim.Native.Nat.{◌+◌, ◌-◌, ◌<◌}
+use Prim.Native.Nat.{◌+◌, ◌-◌}
 use mathlib.Core.Path.{◌≡◌}
-use native.Mathlib.Omega.{arith}
 use Rattle.diagram_fields.specs.Words.{nodes_in}
-use Rattle.nodes.proofs.Children.{child_inside}
-use Rattle.node_estimates.proofs.Estimating.{Estimating, estimating_step, estimating-laws}
+use Rattle.node_estimates.proofs.Estimating.{Estimating}
 use Rattle.node_estimates.proofs.fill_diagram_estimates.Given as goal
 
 abbrev pub invariant-loop-n : goal.invariant-loop-n

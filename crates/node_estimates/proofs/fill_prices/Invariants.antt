@@ -1,10 +1,7 @@
 -- `node_estimates::fill_prices` meets its contract.
-use Prim.Native.Nat.{◌-◌, ◌≤◌, ◌<◌}
-use mathlib.Core.Path.{◌≡◌}
-use native.Mathlib.Omega.{arith}
-use borrow.Author.Rules.{rules}
+use Prim.Native.Nat.{◌-◌, ◌≤◌}
 use Rattle.chart.specs.Tables.{steps_in}
-use Rattle.node_estimates.proofs.Pricing.{Pricing, pricing_start, pricing_step, pricing_group, pricing_more, pricing_done}
+use Rattle.node_estimates.proofs.Pricing.{Pricing}
 use Rattle.node_estimates.proofs.fill_prices.Given as goal
 
 abbrev pub invariant-loop-e : goal.invariant-loop-e

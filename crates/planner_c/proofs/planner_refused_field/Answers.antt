@@ -12,4 +12,4 @@ returns c =
     let field = c.args.field.now in
     let field' = c.store_field.last.1.0 in
     let r = c.store_field.result in
-    subst (λ (bytes : List _). (r ≡ length bytes) × Appended field 0 bytes field' (min r (length field))) c.refused_field-bytes.ensures.0 c.store_field.ensures
+    subst (λ (bytes : List _). (r ≡ length bytes) × Appended field 0 bytes field' (min r (length field))) c.refused_field-bytes.ensures.result_value c.store_field.ensures

@@ -5,13 +5,8 @@ use Rattle.checks.specs.Outcome.{load_shortest}
 use borrow.Author.Rules.{rules}
 use Rattle.program.proofs.write_text.Goals as goal
 
--- the start, before both searches
-abbrev start_of : tie.After-both → tie.Start
-start_of c = search
-
 pub returns : goal.returns
 returns c =
-    let start = start_of c in
     record {
       answers = c.both-both.result;
       c = _;
@@ -19,8 +14,8 @@ returns c =
       given = _;
       given' = _;
       both = c.both-both.ensures;
-      sweep_space = load_shortest start.args.chart.now start.args.rules.now 4096 (4096 ∷ 4096 ∷ []) 255;
-      guided_space = load_shortest start.args.chart.now start.args.rules.now 4096 (4096 ∷ 4096 ∷ 4096 ∷ 4096 ∷ 4096 ∷ []) 255;
-      text = c.write_answers.ensures.0;
-      short = omega (arith, c.write_answers.ensures.1, c.plan-2-1.given);
+      sweep_space = load_shortest c.args.chart.now c.args.rules.now 4096 (4096 ∷ 4096 ∷ []) 255;
+      guided_space = load_shortest c.args.chart.now c.args.rules.now 4096 (4096 ∷ 4096 ∷ 4096 ∷ 4096 ∷ 4096 ∷ []) 255;
+      text = c.write_answers.ensures.appended;
+      short = omega (arith, c.write_answers.ensures.sweep_len_bound, c.plan-2-1.given);
     }

@@ -1,6 +1,5 @@
 -- `decrease` meets its contract. A pair whose key is above the floor is in the heap.
 -- Assumes nothing.
-use borrow.Author.Rules.{rules}
 use Rattle.queue.proofs.Decreasing.{decrease_heaped, decrease_done}
 use Rattle.queue.proofs.decrease.Goals as goal
 

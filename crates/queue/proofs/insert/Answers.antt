@@ -1,7 +1,6 @@
 -- `insert` meets its contract. That there is room is `stack_room` and, in the heap, shown by `push` itself.
 -- Assumes nothing.
 use native.Mathlib.Omega.{arith}
-use borrow.Author.Rules.{rules}
 use Rattle.queue.proofs.Inserting.{stack_room, held_room, insert_stack, insert_pushing, insert_heap}
 use Rattle.queue.proofs.insert.Goals as goal
 

@@ -1,7 +1,6 @@
 -- `take` meets its contract, from the stack and from the heap.
 -- Assumes nothing.
 use native.Mathlib.Omega.{arith}
-use borrow.Author.Rules.{rules}
 use Rattle.queue.proofs.Taking.{stack_within, all_heaped, take_within, take_stack, take_heap}
 use Rattle.queue.proofs.take.Goals as goal
 

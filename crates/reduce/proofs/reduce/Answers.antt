@@ -3,7 +3,6 @@ use lib.ListN.{length-replicate}
 use Prim.Native.Nat.{ℕ}
 use Rattle.conjoin.specs.Loads.{few_groups}
 use Rattle.reduce.specs.Reducing.{chart_out, rules_out, nodes_fit, pairs_fit, asked, reduced}
-use borrow.Author.Rules.{rules}
 use Rattle.reduce.proofs.reduce.Goals as goal
 
 pub returns-then-c-ne0 : goal.returns-then-c-ne0

@@ -1,6 +1,5 @@
 -- `report::write_item` meets its contract.
 use Rattle.report.proofs.Lines.{item_written}
-use borrow.Author.Rules.{rules}
 use Rattle.report.proofs.write_item.Goals as goal
 
 pub returns : goal.returns

@@ -1,6 +1,5 @@
 -- `report::write_last_item` meets its contract.
 use Rattle.report.proofs.Lines.{last_item_written}
-use borrow.Author.Rules.{rules}
 use Rattle.report.proofs.write_last_item.Goals as goal
 
 pub returns : goal.returns

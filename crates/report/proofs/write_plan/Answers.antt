@@ -1,6 +1,5 @@
 -- `report::write_plan` meets its contract.
 use Rattle.report.proofs.Lines.{plan_written}
-use borrow.Author.Rules.{rules}
 use Rattle.report.proofs.write_plan.Goals as goal
 
 pub returns : goal.returns

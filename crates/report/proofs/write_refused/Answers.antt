@@ -1,6 +1,5 @@
 -- `report::write_refused` meets its contract.
 use Rattle.report.proofs.Lines.{refused_written}
-use borrow.Author.Rules.{rules}
 use Rattle.report.proofs.write_refused.Goals as goal
 
 pub returns : goal.returns

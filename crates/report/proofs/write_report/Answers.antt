@@ -1,6 +1,5 @@
 -- `report::write_report` meets its contract.
 use Rattle.report.proofs.Lines.{report_plan, report_refused}
-use borrow.Author.Rules.{rules}
 use Rattle.report.proofs.write_report.Goals as goal
 
 pub returns-then-guided-eq0 : goal.returns-then-guided-eq0

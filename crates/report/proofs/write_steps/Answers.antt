@@ -1,7 +1,6 @@
 -- `report::write_steps` meets its contract.
-use Prim.Native.Nat.{◌-◌, ◌≤◌}
 use borrow.Author.Rules.{rules}
-use Rattle.report.proofs.Lines.{Stepped, steps_none, steps_more, steps_written}
+use Rattle.report.proofs.Lines.{steps_none, steps_more, steps_written}
 use Rattle.report.proofs.write_steps.Goals as goal
 
 pub loop-i-init : goal.loop-i-init

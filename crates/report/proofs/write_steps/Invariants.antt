@@ -1,7 +1,6 @@
 -- `report::write_steps` meets its contract.
 use Prim.Native.Nat.{◌-◌, ◌≤◌}
-use borrow.Author.Rules.{rules}
-use Rattle.report.proofs.Lines.{Stepped, steps_none, steps_more, steps_written}
+use Rattle.report.proofs.Lines.{Stepped}
 use Rattle.report.proofs.write_steps.Given as goal
 
 abbrev pub invariant-loop-i : goal.invariant-loop-i

@@ -1,7 +1,6 @@
 -- `rows::fill_row_starts` meets its contract: the rows below s are filled.
 use Prim.Native.Nat.{◌-◌, ◌≤◌}
-use borrow.Author.Rules.{rules}
-use Rattle.rows.specs.Rows.{Filled, filled_none, filled_more, filled_all}
+use Rattle.rows.specs.Rows.{Filled}
 use Rattle.rows.proofs.fill_row_starts.Given as goal
 
 abbrev pub invariant-loop-s : goal.invariant-loop-s

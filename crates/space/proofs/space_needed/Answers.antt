@@ -6,7 +6,6 @@ use Rattle.definitions.specs.Answers.{Load, load}
 use Rattle.space.specs.Space.{space_needed}
 use Rattle.space.specs.Enough.{load_most}
 use Rattle.space.proofs.Needed.{needed_refused, needed_ready, small}
-use borrow.Author.Rules.{rules}
 use Rattle.space.proofs.space_needed.Goals as goal
 
 pub returns-then-got-ne0 : goal.returns-then-got-ne0

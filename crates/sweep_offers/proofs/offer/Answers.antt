@@ -3,7 +3,6 @@ use Prim.Native.Nat.{◌+◌}
 use mathlib.Core.Path.{refl, ap}
 use native.Mathlib.Omega.{arith}
 use Rattle.sweep_offers.proofs.Offering.{offer_kept, offer_new, offer_lower}
-use borrow.Author.Rules.{rules}
 use Rattle.sweep_offers.proofs.offer.Goals as goal
 
 pub returns-then-old-v : goal.returns-then-old-v

@@ -1,6 +1,5 @@
 -- `sweep_offers::relax_step` meets its contract: to node 0 nothing is offered, else the pair is.
 use Rattle.sweep_offers.proofs.Stepping.{offers, stepped_none, stepped_offer}
-use borrow.Author.Rules.{rules}
 use Rattle.sweep_offers.proofs.relax_step.Goals as goal
 
 pub returns-then-t-eq0 : goal.returns-then-t-eq0

@@ -1,23 +1,22 @@
 -- `sweep_rows::relax_row` meets its contract: what is left of the row's list comes to the same as all of it.
 use Prim.Native.Nat.{◌-◌}
-use mathlib.Core.Path.{◌≡◌, refl}
-use native.Mathlib.Omega.{arith}
+use mathlib.Core.Path.{◌≡◌}
 use lib.ListN.{length}
-use borrow.Author.Rules.{rules}
 use Rattle.checks.specs.Tables.{read}
 use Rattle.checks.specs.Ready.{walk}
 use Rattle.sweep_model.specs.Model.{rows}
 use Rattle.sweep_rows.specs.Standing.{InRow}
-use Rattle.sweep_rows.proofs.Rowing.{Rowing, small_stage, row_begins, row_place, row_small, row_cost, row_stands, row_more, row_done}
+use Rattle.sweep_rows.proofs.Rowing.{Rowing}
 use Rattle.sweep_rows.proofs.relax_row.Given as goal
 
 abbrev pub invariant-loop-k : goal.invariant-loop-k
-invariant-loop-k l =
-    ((x : InRow (walk (read l.steps l.inner) l.first l.row) l.stage (rows l.initial.costs l.initial.via l.initial.nodes l.initial.counts))
-    → Rowing x.z (walk (read l.steps l.inner) l.first l.row) l.stage l.count (rows l.initial.costs l.initial.via l.initial.nodes l.initial.counts) (rows l.costs l.via l.nodes l.counts) l.k)
-    × (length l.costs ≡ length l.initial.costs)
-    × (length l.via ≡ length l.initial.via)
-    × (length l.nodes ≡ length l.initial.nodes)
+invariant-loop-k l = record {
+  rowing : (x : InRow (walk (read l.steps l.inner) l.first l.row) l.stage (rows l.initial.costs l.initial.via l.initial.nodes l.initial.counts))
+      → Rowing x.z (walk (read l.steps l.inner) l.first l.row) l.stage l.count (rows l.initial.costs l.initial.via l.initial.nodes l.initial.counts) (rows l.costs l.via l.nodes l.counts) l.k;
+  costs : length l.costs ≡ length l.initial.costs;
+  via : length l.via ≡ length l.initial.via;
+  nodes : length l.nodes ≡ length l.initial.nodes;
+}
 
 abbrev pub decreases-loop-k : goal.decreases-loop-k
 decreases-loop-k l = l.count - l.k

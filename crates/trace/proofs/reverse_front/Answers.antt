@@ -1,10 +1,8 @@
 -- `trace::reverse_front` meets its contract.
-use Prim.Native.Nat.{◌≤◌, ◌-◌}
-use mathlib.Core.Path.{◌≡◌, refl}
+use mathlib.Core.Path.{refl}
 use native.Mathlib.Omega.{arith}
-use lib.ListN.{length, length-set}
-use borrow.Author.Rules.{rules}
-use Rattle.trace.proofs.Reversing.{Reversing, reversing_start, reversing_more, reversing_done}
+use lib.ListN.{length-set}
+use Rattle.trace.proofs.Reversing.{reversing_start, reversing_more, reversing_done}
 use Rattle.trace.proofs.reverse_front.Goals as goal
 
 pub loop-low-init : goal.loop-low-init

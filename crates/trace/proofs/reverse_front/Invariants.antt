@@ -1,10 +1,8 @@
 -- `trace::reverse_front` meets its contract.
 use Prim.Native.Nat.{◌≤◌, ◌-◌}
-use mathlib.Core.Path.{◌≡◌, refl}
-use native.Mathlib.Omega.{arith}
-use lib.ListN.{length, length-set}
-use borrow.Author.Rules.{rules}
-use Rattle.trace.proofs.Reversing.{Reversing, reversing_start, reversing_more, reversing_done}
+use mathlib.Core.Path.{◌≡◌}
+use lib.ListN.{length}
+use Rattle.trace.proofs.Reversing.{Reversing}
 use Rattle.trace.proofs.reverse_front.Given as goal
 
 abbrev pub invariant-loop-low : goal.invariant-loop-low

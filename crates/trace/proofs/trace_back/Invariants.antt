@@ -1,13 +1,11 @@
 -- `trace::trace_back` meets its contract: the plan begins with the steps taken back so far, the last one first.
-use Prim.Native.Nat.{ℕ, ◌+◌, ◌≤◌, ◌<◌}
-use mathlib.Core.Path.{◌≡◌, refl, sym, ◌∙◌, ap}
-use mathlib.Core.List.{List, [], ◌∷◌, ◌++◌, reverse, reverse-cons}
-use native.Mathlib.Omega.{arith}
-use lib.ListN.{length, drop, length-reverse}
-use borrow.Author.Rules.{rules}
+use Prim.Native.Nat.{ℕ, ◌+◌, ◌≤◌}
+use mathlib.Core.Path.{◌≡◌}
+use mathlib.Core.List.{List, ◌++◌, reverse}
+use lib.ListN.{length, drop}
 use Rattle.chart_fields.specs.Ends.{froms}
 use Rattle.trace.specs.Trails.{Traceable}
-use Rattle.trace.proofs.Steps.{Follows, follow_start, follow_stage, follow_fits, follow_less, follow_more, follow_done, put_on}
+use Rattle.trace.proofs.Steps.{Follows}
 use Rattle.trace.proofs.trace_back.Given as goal
 
 abbrev pub invariant-loop-s : goal.invariant-loop-s

@@ -1,15 +1,14 @@
 -- `trace::write_plan` meets its contract: the trail's steps are no more than the stages that they pass.
 use mathlib.Core.Path.{◌∙◌}
 use native.Mathlib.Omega.{arith}
-use borrow.Author.Rules.{rules}
 use Rattle.trace.proofs.Steps.{steps_few}
 use Rattle.trace.proofs.Reversing.{reversed_back}
 use Rattle.trace.proofs.write_plan.Goals as goal
 
 pub reverse_front-requires : goal.reverse_front-requires
 reverse_front-requires c =
-    let trail = c.requires.0 in
-    omega (arith, (c.trace_back-length.ensures trail).0, c.trace_back-length.KEPT, steps_few trail, c.requires.1)
+    let trail = c.requires.traceable in
+    omega (arith, (c.trace_back-length.ensures trail).0, steps_few trail, c.requires.start_in_bounds)
 
 pub returns : goal.returns
 returns c =

@@ -1,6 +1,5 @@
 -- `apply::hi_half` meets its contract.
 use Rattle.apply.specs.Operands.{child-laws}
-use borrow.Author.Rules.{rules}
 use Rattle.apply.proofs.pairs.hi_half.Goals as goal
 
 pub returns-then-step_of-step : goal.returns-then-step_of-step

@@ -1,6 +1,5 @@
 -- `apply::known` meets its contract.
 use Rattle.apply.specs.Walks.{known-laws}
-use borrow.Author.Rules.{rules}
 use Rattle.apply.proofs.pairs.known.Goals as goal
 
 pub returns-then-a-eq0 : goal.returns-then-a-eq0

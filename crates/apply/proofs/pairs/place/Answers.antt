@@ -1,6 +1,5 @@
 -- `apply::place` meets its contract.
 use Rattle.apply.specs.Pairs.{place-laws}
-use borrow.Author.Rules.{rules}
 use Rattle.apply.proofs.pairs.place.Goals as goal
 
 pub overflow_mul-start : goal.overflow_mul-start

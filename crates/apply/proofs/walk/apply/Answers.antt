@@ -1,12 +1,9 @@
 -- `apply::apply` meets its contract.
-use Rattle.unique_table.specs.Tables.{unique_table}
-use Rattle.apply.specs.Walks.{Walking}
-use Rattle.apply.specs.Weights.{weights}
-use Rattle.apply.specs.Whole.{Going, going_start, going_on, going_turn, going_less, first_descending, first_walking, walked_end, walked_full}
+use Rattle.apply.specs.Whole.{going_start, going_on, going_turn, going_less, first_descending, first_walking, walked_end, walked_full}
 use Prim.Native.Nat.{ℕ}
-use mathlib.Core.Path.{◌≡◌, refl}
+use mathlib.Core.Path.{refl}
 use native.Mathlib.Omega.{arith}
-use lib.ListN.{length, length-replicate}
+use lib.ListN.{length-replicate}
 use borrow.Author.Rules.{rules}
 use Rattle.apply.proofs.walk.apply.Goals as goal
 

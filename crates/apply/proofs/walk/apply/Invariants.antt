@@ -2,12 +2,9 @@
 use Rattle.unique_table.specs.Tables.{unique_table}
 use Rattle.apply.specs.Walks.{Walking}
 use Rattle.apply.specs.Weights.{weights}
-use Rattle.apply.specs.Whole.{Going, going_start, going_on, going_turn, going_less, first_descending, first_walking, walked_end, walked_full}
-use Prim.Native.Nat.{ℕ}
-use mathlib.Core.Path.{◌≡◌, refl}
-use native.Mathlib.Omega.{arith}
-use lib.ListN.{length, length-replicate}
-use borrow.Author.Rules.{rules}
+use Rattle.apply.specs.Whole.{Going}
+use mathlib.Core.Path.{◌≡◌}
+use lib.ListN.{length}
 use Rattle.apply.proofs.walk.apply.Given as goal
 
 abbrev pub invariant-loop-k : goal.invariant-loop-k

@@ -1,8 +1,5 @@
 -- `apply::descend` meets its contract.
-use Rattle.apply.specs.Walks.{Descending, known_in}
-use Rattle.apply.specs.Turns.{Onward, onward_start, onward_placed, onward_few, onward_next, onward_falls, onward_end}
-use Prim.Native.Nat.{◌+◌}
-use mathlib.Core.Path.{◌≡◌}
+use Rattle.apply.specs.Turns.{onward_start, onward_placed, onward_few, onward_next, onward_falls, onward_end}
 use native.Mathlib.Omega.{arith}
 use Rattle.apply.proofs.walk.descend.Goals as goal
 

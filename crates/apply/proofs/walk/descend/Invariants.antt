@@ -1,9 +1,8 @@
 -- `apply::descend` meets its contract.
 use Rattle.apply.specs.Walks.{Descending, known_in}
-use Rattle.apply.specs.Turns.{Onward, onward_start, onward_placed, onward_few, onward_next, onward_falls, onward_end}
+use Rattle.apply.specs.Turns.{Onward}
 use Prim.Native.Nat.{◌+◌}
 use mathlib.Core.Path.{◌≡◌}
-use native.Mathlib.Omega.{arith}
 use Rattle.apply.proofs.walk.descend.Given as goal
 
 abbrev pub invariant-loop-r : goal.invariant-loop-r

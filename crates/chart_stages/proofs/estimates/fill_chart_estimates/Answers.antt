@@ -1,42 +1,12 @@
 -- `chart_stages::fill_chart_estimates` meets its contract: the entries of the stages from s on are told.
 use Prim.Native.Nat.{ℕ, ◌+◌, ◌-◌, ◌≤◌, ◌<◌}
-use mathlib.Core.Path.{◌≡◌, refl, ◌∙◌, ap}
+use mathlib.Core.Path.{refl, ◌∙◌, ap}
 use lib.ListN.{length, length-set, length-replicate}
 use native.Mathlib.Omega.{arith}
 use Rattle.definitions.specs.Basics.{NONE}
-use Rattle.definitions.specs.Plans.{graph}
-use Rattle.definitions.specs.declared.Shape.{Shape}
-use Rattle.chart.specs.Tables.{steps_in, chart_in}
-use Rattle.chart_stages.specs.Estimates.{Told}
-use Rattle.chart_stages.specs.Leaving.{Staged}
 use Rattle.chart_stages.proofs.Estimating.{end_below, first_small, stages_start, stage_leaving, stage_turn, stages_done}
 use borrow.Author.Rules.{rules}
 use Rattle.chart_stages.proofs.estimates.fill_chart_estimates.Goals as goal
-
-pub offset_bounds-estimates-s : goal.offset_bounds-estimates-s
-offset_bounds-estimates-s c =
-    omega (arith, end_below c.requires.1)
-
-pub bounds-estimates-s : goal.bounds-estimates-s
-bounds-estimates-s c =
-    omega (arith, end_below c.requires.1)
-
-pub loop-s-init : goal.loop-s-init
-loop-s-init c =
-    let long = length-set c.args.estimates.now _ 0 ∙ ap length c.requires.0 ∙ length-replicate {A = ℕ} 256 NONE in
-    (search rules, end_below c.requires.1, long, λ z on q. rw c.requires.0 (stages_start on q))
-
-pub overflow_cast-first : goal.overflow_cast-first
-overflow_cast-first c =
-    omega (arith, first_small c.requires.1 (c.loop-s.s - 1) (omega arith))
-
-pub overflow_cast-first-in-loop-s : goal.overflow_cast-first-in-loop-s
-overflow_cast-first-in-loop-s c =
-    omega (arith, first_small c.requires.1 (c.loop-s.s - 1 + 1) (omega arith))
-
-pub least_through-requires : goal.least_through-requires
-least_through-requires c =
-    stage_leaving c.requires.1 (omega (arith, c.loop-s-test.true)) c.loop-s.invariant.0 (c.loop-s.invariant.3 c.args.z c.requires.1 refl)
 
 pub loop-s-preserved : goal.loop-s-preserved
 loop-s-preserved c = (
@@ -50,6 +20,31 @@ loop-s-preserved c = (
       stage_turn on some late told c.loop-s.invariant.2 (c.least_through.ensures (stage_leaving on some late told)),
 )
 
+pub offset_bounds-estimates-s : goal.offset_bounds-estimates-s
+offset_bounds-estimates-s c =
+    omega (arith, end_below c.requires.staged)
+
+pub bounds-estimates-s : goal.bounds-estimates-s
+bounds-estimates-s c =
+    omega (arith, end_below c.requires.staged)
+
+pub loop-s-init : goal.loop-s-init
+loop-s-init c =
+    let long = length-set c.args.estimates.now _ 0 ∙ ap length c.requires.estimates_value ∙ length-replicate {A = ℕ} 256 NONE in
+    (search rules, end_below c.requires.staged, long, λ z on q. rw c.requires.estimates_value (stages_start on q))
+
+pub overflow_cast-first : goal.overflow_cast-first
+overflow_cast-first c =
+    omega (arith, first_small c.requires.staged (c.loop-s.s - 1) (omega arith))
+
+pub overflow_cast-first-in-loop-s : goal.overflow_cast-first-in-loop-s
+overflow_cast-first-in-loop-s c =
+    omega (arith, first_small c.requires.staged (c.loop-s.s - 1 + 1) (omega arith))
+
+pub least_through-requires : goal.least_through-requires
+least_through-requires c =
+    stage_leaving c.requires.staged (omega (arith, c.loop-s-test.true)) c.loop-s.invariant.0 (c.loop-s.invariant.3 c.args.z c.requires.staged refl)
+
 pub returns : goal.returns
 returns c =
-    stages_done c.requires.1 (omega (arith, c.loop-s-test.false)) c.loop-s.invariant.2 (c.loop-s.invariant.3 c.args.z c.requires.1 refl)
+    stages_done c.requires.staged (omega (arith, c.loop-s-test.false)) c.loop-s.invariant.2 (c.loop-s.invariant.3 c.args.z c.requires.staged refl)

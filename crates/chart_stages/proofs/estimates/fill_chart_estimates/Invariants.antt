@@ -1,16 +1,12 @@
 -- `chart_stages::fill_chart_estimates` meets its contract: the entries of the stages from s on are told.
-use Prim.Native.Nat.{ℕ, ◌+◌, ◌-◌, ◌≤◌, ◌<◌}
-use mathlib.Core.Path.{◌≡◌, refl, ◌∙◌, ap}
-use lib.ListN.{length, length-set, length-replicate}
-use native.Mathlib.Omega.{arith}
-use Rattle.definitions.specs.Basics.{NONE}
+use Prim.Native.Nat.{◌≤◌, ◌<◌}
+use mathlib.Core.Path.{◌≡◌}
+use lib.ListN.{length}
 use Rattle.definitions.specs.Plans.{graph}
 use Rattle.definitions.specs.declared.Shape.{Shape}
 use Rattle.chart.specs.Tables.{steps_in, chart_in}
 use Rattle.chart_stages.specs.Estimates.{Told}
 use Rattle.chart_stages.specs.Leaving.{Staged}
-use Rattle.chart_stages.proofs.Estimating.{end_below, first_small, stages_start, stage_leaving, stage_turn, stages_done}
-use borrow.Author.Rules.{rules}
 use Rattle.chart_stages.proofs.estimates.fill_chart_estimates.Given as goal
 
 abbrev pub invariant-loop-s : goal.invariant-loop-s

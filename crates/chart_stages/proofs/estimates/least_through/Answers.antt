@@ -1,12 +1,5 @@
 -- `chart_stages::least_through` meets its contract: what is known shows the least cost of the ways by the steps below e.
-use Prim.Native.Nat.{◌-◌, ◌≤◌}
 use native.Mathlib.Omega.{arith}
-use Rattle.definitions.specs.Basics.{NONE}
-use Rattle.definitions.specs.Plans.{graph}
-use Rattle.chart.specs.Tables.{steps_in, chart_in}
-use Rattle.chart_stages.specs.Estimates.{WayBy}
-use Rattle.theory.specs.Least.{Shows}
-use Rattle.chart_stages.specs.Leaving.{Leaving}
 use Rattle.chart_stages.proofs.Estimating.{steps_rise, steps_end, none_yet, to_below, step_turn, steps_done}
 use borrow.Author.Rules.{rules}
 use Rattle.chart_stages.proofs.estimates.least_through.Goals as goal

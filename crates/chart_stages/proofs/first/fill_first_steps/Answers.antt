@@ -1,11 +1,8 @@
 -- `chart_stages::fill_first_steps` meets its contract: the entries of the stages below s are right.
-use Prim.Native.Nat.{◌+◌, ◌-◌, ◌≤◌}
-use mathlib.Core.Path.{◌≡◌, ◌∙◌}
-use lib.ListN.{length, length-set}
+use mathlib.Core.Path.{◌∙◌}
+use lib.ListN.{length-set}
 use borrow.Author.Rules.{rules}
-use Rattle.chart_fields.specs.Ends.{froms}
-use Rattle.chart_stages.specs.FirstSteps.{SortedTable, EndTable}
-use Rattle.chart_stages.proofs.Firsts.{FirstsBefore, firsts_start, firsts_turn, firsts_done}
+use Rattle.chart_stages.proofs.Firsts.{firsts_start, firsts_turn, firsts_done}
 use Rattle.chart_stages.proofs.first.fill_first_steps.Goals as goal
 
 pub loop-s-init : goal.loop-s-init

@@ -1,7 +1,4 @@
 -- `chart_stages::mark_ends` meets its contract: the steps before e have left their marks.
-use Prim.Native.Nat.{◌-◌, ◌≤◌}
-use mathlib.Core.Path.{◌≡◌}
-use lib.ListN.{length}
 use native.Mathlib.Omega.{arith}
 use borrow.Author.Rules.{rules}
 use Rattle.chart_fields.specs.Ends.{froms}

@@ -2,11 +2,8 @@
 use Prim.Native.Nat.{◌-◌, ◌≤◌}
 use mathlib.Core.Path.{◌≡◌}
 use lib.ListN.{length}
-use native.Mathlib.Omega.{arith}
-use borrow.Author.Rules.{rules}
 use Rattle.chart_fields.specs.Ends.{froms}
 use Rattle.chart_stages.specs.FirstSteps.{EndTable}
-use Rattle.chart_stages.proofs.Firsts.{ends_none, ends_more, ends_all}
 use Rattle.chart_stages.proofs.first.mark_ends.Given as goal
 
 abbrev pub invariant-loop-e : goal.invariant-loop-e

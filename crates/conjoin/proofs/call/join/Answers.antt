@@ -1,6 +1,5 @@
 -- `conjoin::join` meets its contract.
 use Rattle.conjoin.specs.Joins.{pairs_inside, walk_ready, walk_entries, joins_full, joins_made}
-use borrow.Author.Rules.{rules}
 use Rattle.conjoin.proofs.call.join.Goals as goal
 
 pub clear-requires : goal.clear-requires

@@ -1,6 +1,5 @@
 -- `conjoin::load_two` meets its contract.
 use Rattle.conjoin.specs.Loads.{few_groups, chart_out, rules_out, more_out, space_out, all_pass, first_few, second_few, fits_add, pairs_fit}
-use borrow.Author.Rules.{rules}
 use Rattle.conjoin.proofs.load.load_two.Goals as goal
 
 pub returns-then-c-ne0 : goal.returns-then-c-ne0

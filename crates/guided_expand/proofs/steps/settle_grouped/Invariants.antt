@@ -1,7 +1,6 @@
 -- `guided_expand::settle_grouped` meets its contract: the steps before e have been offered.
-use mathlib.Core.Path.{◌≡◌, refl}
+use mathlib.Core.Path.{◌≡◌}
 use Prim.Native.Nat.{◌-◌, ◌≤◌}
-use native.Mathlib.Omega.{arith}
 use lib.ListN.{length}
 use Rattle.nodes.specs.Walks.{Tests}
 use Rattle.checks.specs.Tables.{read}
@@ -10,8 +9,7 @@ use Rattle.guided_offers.specs.Estimates.{estimates}
 use Rattle.guided_offers.specs.Work.{work}
 use Rattle.guided_expand.specs.Progress.{progress}
 use Rattle.guided_expand.specs.Opening.{Opening}
-use Rattle.guided_expand.proofs.Walking.{Walking, settles_stage, settles_node, settles_order, walk_start, walk_falls, walk_step, walk_named, walk_branches, walk_dead, walk_leading, walk_more, walk_done}
-use borrow.Author.Rules.{rules}
+use Rattle.guided_expand.proofs.Walking.{Walking}
 use Rattle.guided_expand.proofs.steps.settle_grouped.Given as goal
 
 abbrev pub invariant-loop-e : goal.invariant-loop-e

@@ -1,22 +1,8 @@
 -- `guided_expand::settle_plain` meets its contract: the steps before e have been offered.
-use mathlib.Core.Path.{◌≡◌, refl}
-use Prim.Native.Nat.{◌-◌, ◌≤◌}
+use mathlib.Core.Path.{refl}
 use native.Mathlib.Omega.{arith}
-use lib.ListN.{length}
-use Rattle.nodes.specs.Walks.{Tests}
-use Rattle.checks.specs.Tables.{read}
-use Rattle.checks.specs.Ready.{walk}
-use Rattle.guided_offers.specs.Estimates.{estimates}
-use Rattle.guided_offers.specs.Work.{work}
-use Rattle.guided_expand.specs.Progress.{progress}
-use Rattle.guided_expand.specs.Opening.{Opening}
-use Rattle.guided_expand.proofs.Walking.{Walking, settles_stage, settles_node, settles_order, walk_start, walk_falls, walk_step, walk_own, walk_branches, walk_dead, walk_leading, walk_more, walk_done}
-use borrow.Author.Rules.{rules}
+use Rattle.guided_expand.proofs.Walking.{settles_stage, settles_node, settles_order, walk_start, walk_falls, walk_step, walk_own, walk_branches, walk_dead, walk_leading, walk_more, walk_done}
 use Rattle.guided_expand.proofs.steps.settle_plain.Goals as goal
-
--- the place before a place
-abbrev start_of : tie.At-loop invariant-loop decreases-loop → tie.Start invariant-loop decreases-loop
-start_of c = search
 
 pub overflow_add-until : goal.overflow_add-until
 overflow_add-until c =
@@ -49,90 +35,44 @@ loop-e-init c =
 
 pub descend_to-m-requires : goal.descend_to-m-requires
 descend_to-m-requires c =
-    let start = start_of c in
-    let w = c.loop-e.invariant.0 start.pre.0 in
-    let f = walk_falls w c.loop-e-test.true (walk_own w c.loop-e-test.true start.pre.1) in
+    let w = c.loop-e.invariant.0 c.requires.0 in
+    let f = walk_falls w c.loop-e-test.true (walk_own w c.loop-e-test.true c.requires.1) in
     (f.0, f.1, f.2, c.loop-e.invariant.7)
-
-pub shape_of-keys-then-m-eq0 : goal.shape_of-keys-then-m-eq0
-shape_of-keys-then-m-eq0 c =
-    c.loop-e.invariant.2
-
-pub shape_of-via-then-m-eq0 : goal.shape_of-via-then-m-eq0
-shape_of-via-then-m-eq0 c =
-    c.loop-e.invariant.3
-
-pub shape_of-heap-then-m-eq0 : goal.shape_of-heap-then-m-eq0
-shape_of-heap-then-m-eq0 c =
-    c.loop-e.invariant.4
-
-pub shape_of-pos-then-m-eq0 : goal.shape_of-pos-then-m-eq0
-shape_of-pos-then-m-eq0 c =
-    c.loop-e.invariant.5
-
-pub shape_of-stack-then-m-eq0 : goal.shape_of-stack-then-m-eq0
-shape_of-stack-then-m-eq0 c =
-    c.loop-e.invariant.6
 
 pub returns-then-m-eq0 : goal.returns-then-m-eq0
 returns-then-m-eq0 c =
-    let start = start_of c in
-    λ x. let w = c.loop-e.invariant.0 x in walk_dead w c.loop-e-test.true (walk_own w c.loop-e-test.true start.pre.1) c.descend_to-m.ensures.0 c.if-m-eq0.true
+    λ x. let w = c.loop-e.invariant.0 x in walk_dead w c.loop-e-test.true (walk_own w c.loop-e-test.true c.requires.1) c.descend_to-m.ensures.0 c.if-m-eq0.true
 
 pub branch-t-requires : goal.branch-t-requires
 branch-t-requires c =
-    let start = start_of c in
-    let w = c.loop-e.invariant.0 start.pre.0 in
-    let b = walk_branches w c.loop-e-test.true (walk_own w c.loop-e-test.true start.pre.1) c.descend_to-m.ensures.0 in
+    let w = c.loop-e.invariant.0 c.requires.0 in
+    let b = walk_branches w c.loop-e-test.true (walk_own w c.loop-e-test.true c.requires.1) c.descend_to-m.ensures.0 in
     (b.0, b.1, b.2, c.descend_to-m.ensures.1)
 
 pub offer-left-requires : goal.offer-left-requires
 offer-left-requires c =
-    let start = start_of c in
-    let w = c.loop-e.invariant.0 start.pre.0 in
-    walk_leading w c.loop-e-test.true (walk_own w c.loop-e-test.true start.pre.1) c.descend_to-m.ensures.0 c.branch-t.ensures
+    let w = c.loop-e.invariant.0 c.requires.0 in
+    walk_leading w c.loop-e-test.true (walk_own w c.loop-e-test.true c.requires.1) c.descend_to-m.ensures.0 c.branch-t.ensures
 
 pub overflow_add-e : goal.overflow_add-e
 overflow_add-e c =
     omega (arith, walk_step (c.loop-e.invariant.0 c.requires.0) c.loop-e-test.true)
 
 pub loop-e-preserved : goal.loop-e-preserved
-loop-e-preserved c =
-    let start = start_of c in
-    let kept = c.offer-left.KEPT in (
-      (λ x.
-          let w = c.loop-e.invariant.0 x in
-          let own = walk_own w c.loop-e-test.true start.pre.1 in
-          let led-to = walk_leading w c.loop-e-test.true own c.descend_to-m.ensures.0 c.branch-t.ensures in
-          walk_more w c.loop-e-test.true own c.descend_to-m.ensures.0 c.branch-t.ensures kept.1.0 (c.offer-left.ensures led-to)),
-      omega (arith, c.loop-e-test.true),
-      omega (arith, c.loop-e.invariant.2, kept.0),
-      omega (arith, c.loop-e.invariant.3, kept.1.0),
-      omega (arith, c.loop-e.invariant.4, kept.1.1.0),
-      omega (arith, c.loop-e.invariant.5, kept.1.1.1.0),
-      omega (arith, c.loop-e.invariant.6, kept.1.1.1.1.0),
-      c.descend_to-m.ensures.1,
-    )
-
-pub shape_of-keys : goal.shape_of-keys
-shape_of-keys c =
-    c.loop-e.invariant.2
-
-pub shape_of-via : goal.shape_of-via
-shape_of-via c =
-    c.loop-e.invariant.3
-
-pub shape_of-heap : goal.shape_of-heap
-shape_of-heap c =
-    c.loop-e.invariant.4
-
-pub shape_of-pos : goal.shape_of-pos
-shape_of-pos c =
-    c.loop-e.invariant.5
-
-pub shape_of-stack : goal.shape_of-stack
-shape_of-stack c =
-    c.loop-e.invariant.6
+loop-e-preserved c = (
+  (λ x.
+      let w = c.loop-e.invariant.0 x in
+      let own = walk_own w c.loop-e-test.true c.requires.1 in
+      let led-to = walk_leading w c.loop-e-test.true own c.descend_to-m.ensures.0 c.branch-t.ensures in
+      walk_more w c.loop-e-test.true own c.descend_to-m.ensures.0 c.branch-t.ensures c.offer-left.auto.via (c.offer-left.ensures led-to)),
+  omega (arith, c.loop-e-test.true),
+  omega (arith, c.loop-e.invariant.2, c.offer-left.auto.keys),
+  omega (arith, c.loop-e.invariant.3, c.offer-left.auto.via),
+  omega (arith, c.loop-e.invariant.4, c.offer-left.auto.heap),
+  omega (arith, c.loop-e.invariant.5, c.offer-left.auto.pos),
+  omega (arith, c.loop-e.invariant.6, c.offer-left.auto.stack),
+  c.descend_to-m.ensures.1,
+)
 
 pub returns : goal.returns
 returns c =

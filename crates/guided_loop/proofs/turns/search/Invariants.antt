@@ -1,20 +1,15 @@
 -- `guided_loop::search` meets its contract: the pair of start and root is opened, then open pairs are settled.
 -- the loop was begun, and whatever it was begun by, this many turns are done
-use mathlib.Core.Path.{◌≡◌, refl, ◌∙◌}
+use mathlib.Core.Path.{◌≡◌}
 use mathlib.Core.Bool.{false}
 use Prim.Native.Nat.{◌-◌, ◌≤◌}
-use native.Mathlib.Omega.{arith}
-use borrow.Author.Rules.{rules}
 use lib.ListN.{length}
 use Rattle.checks.specs.Tables.{read, pairs_in}
 use Rattle.checks.specs.Ready.{walk}
 use Rattle.guided_offers.specs.Estimates.{estimates}
 use Rattle.guided_offers.specs.Work.{work}
 use Rattle.guided_expand.specs.Progress.{progress}
-use Rattle.guided_expand.specs.Guides.{few_pairs}
 use Rattle.guided_loop.specs.Search.{Turning, Begun}
-use Rattle.guided_loop.proofs.Beginning.{narrow, start_small, begin_block, begin_asks, begin_begun, begin_searched}
-use Rattle.guided_loop.proofs.Turning.{turn_takes, turn_none, turn_room, turn_logs, turn_placed, turn_inside, turn_falls, turn_estimate, turn_asks, turn_goal, turn_more}
 use Rattle.guided_loop.proofs.turns.search.Given as goal
 
 abbrev pub invariant-search : goal.invariant-search

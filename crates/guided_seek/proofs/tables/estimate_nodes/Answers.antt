@@ -1,16 +1,13 @@
 -- `guided_seek::estimate_nodes` meets its contract.
 use Rattle.guided_seek.proofs.Preparing.{plain_costs, run_nodes}
-use borrow.Author.Rules.{rules}
 use Rattle.guided_seek.proofs.tables.estimate_nodes.Goals as goal
 
 pub fill_diagram_estimates-requires : goal.fill_diagram_estimates-requires
-fill_diagram_estimates-requires c =
-    (run_nodes c.requires.1 _ c.fill_prices.ensures, c.requires.0)
+fill_diagram_estimates-requires c = record { fact = run_nodes c.requires.tables _ c.fill_prices.ensures; estimates_len = c.requires.by_node_len }
 
 pub fill_diagram_estimates-requires-2 : goal.fill_diagram_estimates-requires-2
-fill_diagram_estimates-requires-2 c =
-    (run_nodes c.requires.1 _ (plain_costs c.requires.1 _ c.tag_at.ensures c.if-tag_at-eq3.false), c.requires.0)
+fill_diagram_estimates-requires-2 c = record { fact = run_nodes c.requires.tables _ (plain_costs c.requires.tables _ c.tag_at.ensures c.if-tag_at-eq3.false); estimates_len = c.requires.by_node_len }
 
 pub returns : goal.returns
 returns c =
-    record { prices = _; costs = plain_costs c.requires.1 _ c.tag_at.ensures c.if-tag_at-eq3.false; by = c.fill_diagram_estimates-2.ensures }
+    record { prices = _; costs = plain_costs c.requires.tables _ c.tag_at.ensures c.if-tag_at-eq3.false; by = c.fill_diagram_estimates-2.ensures }

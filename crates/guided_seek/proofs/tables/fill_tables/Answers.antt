@@ -5,23 +5,21 @@ use mathlib.Core.List.{List}
 use native.Mathlib.Omega.{arith}
 use lib.ListN.{length}
 use Rattle.guided_seek.proofs.Preparing.{run_sorted, run_narrow}
-use borrow.Author.Rules.{rules}
 use Rattle.guided_seek.proofs.tables.fill_tables.Goals as goal
 
 pub fill_first_steps-requires : goal.fill_first_steps-requires
 fill_first_steps-requires c =
-    let sorted = run_sorted c.requires.1.1.1 in
-    (c.requires.0, sorted.0, sorted.1)
+    let sorted = run_sorted c.requires.tables in
+    (c.requires.first_value, sorted.0, sorted.1)
 
 pub estimate_nodes-requires : goal.estimate_nodes-requires
-estimate_nodes-requires c =
-    (ap (λ (l : List ℕ). length l) c.requires.1.1.0, c.requires.1.1.1)
+estimate_nodes-requires c = record { by_node_len = ap (λ (l : List ℕ). length l) c.requires.by_node_value; tables = c.requires.tables }
 
 pub overflow_add-z : goal.overflow_add-z
 overflow_add-z c =
-    omega (arith, run_narrow c.requires.1.1.1)
+    omega (arith, run_narrow c.requires.tables)
 
 pub fill_row_starts-requires : goal.fill_row_starts-requires
 fill_row_starts-requires c =
-    let narrow = run_narrow c.requires.1.1.1 in
-    (c.requires.1.0, narrow.0, narrow.1)
+    let narrow = run_narrow c.requires.tables in
+    (c.requires.row_value, narrow.0, narrow.1)

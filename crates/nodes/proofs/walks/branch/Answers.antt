@@ -1,6 +1,5 @@
 -- `nodes::branch` meets its contract.
 use Rattle.nodes.specs.Advancing.{advancing_hi, advancing_stays}
-use borrow.Author.Rules.{rules}
 use Rattle.nodes.proofs.walks.branch.Goals as goal
 
 pub returns-then-at-e : goal.returns-then-at-e

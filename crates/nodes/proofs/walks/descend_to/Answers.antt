@@ -1,10 +1,7 @@
 -- `nodes::descend_to` meets its contract.
-use mathlib.Core.Path.{◌≡◌, refl}
+use mathlib.Core.Path.{refl}
 use native.Mathlib.Omega.{arith}
-use lib.ListN.{get_or}
-use borrow.Author.Rules.{rules}
-use Rattle.diagram_fields.specs.Words.{nodes_in}
-use Rattle.nodes.proofs.Lowering.{Lowering, entry_step, entry_lo, lowering_start, lowering_less, lowering_next, lowering_done}
+use Rattle.nodes.proofs.Lowering.{entry_step, entry_lo, lowering_start, lowering_less, lowering_next, lowering_done}
 use Rattle.nodes.proofs.walks.descend_to.Goals as goal
 
 pub returns-then-key-step : goal.returns-then-key-step
@@ -24,28 +21,28 @@ pub loop-step-init : goal.loop-step-init
 loop-step-init c =
     (lowering_start _ _ _ _, refl, c.requires.3)
 
+pub returns : goal.returns
+returns c =
+    (lowering_done _ _ _ _ _ c.requires.0 c.requires.1 c.loop-step.invariant.0 _ c.loop-step.invariant.2 (omega (arith, c.loop-step-test.false)), c.loop-step.invariant.2)
+
 pub offset_bounds-inner-m-in-loop-step : goal.offset_bounds-inner-m-in-loop-step
 offset_bounds-inner-m-in-loop-step c =
-    omega (arith, c.lo_of_lem.ensures)
+    omega (arith, c.lo_of-m.ensures)
 
 pub bounds-inner-m-in-loop-step : goal.bounds-inner-m-in-loop-step
 bounds-inner-m-in-loop-step c =
-    omega (arith, c.lo_of_lem.ensures)
+    omega (arith, c.lo_of-m.ensures)
 
 pub loop-step-smaller : goal.loop-step-smaller
 loop-step-smaller c =
     lowering_less _ _ _ _ _ c.requires.0 c.requires.1 c.loop-step.invariant.0 _ c.loop-step.invariant.2 c.requires.2 c.loop-step-test.true _
-    (entry_lo c.args.inner.now c.loop-step.m c.loop-step.invariant.1 c.lo_of_lem.ensures)
+    (entry_lo c.args.inner.now c.loop-step.m c.loop-step.invariant.1 c.lo_of-m.ensures)
 
 pub loop-step-preserved : goal.loop-step-preserved
 loop-step-preserved c =
     let words = c.args.inner.now in (
       lowering_next _ _ _ _ _ c.requires.0 c.requires.1 c.loop-step.invariant.0 _ c.loop-step.invariant.2 c.requires.2 c.loop-step-test.true _
-          (entry_lo words c.loop-step.m c.loop-step.invariant.1 c.lo_of_lem.ensures),
+          (entry_lo words c.loop-step.m c.loop-step.invariant.1 c.lo_of-m.ensures),
       refl,
-      entry_step words c.lo_of_lem.result refl c.step_of_lem.ensures,
+      entry_step words c.lo_of-m.result refl c.step_of-step.ensures,
     )
-
-pub returns : goal.returns
-returns c =
-    (lowering_done _ _ _ _ _ c.requires.0 c.requires.1 c.loop-step.invariant.0 _ c.loop-step.invariant.2 (omega (arith, c.loop-step-test.false)), c.loop-step.invariant.2)

@@ -1,10 +1,8 @@
 -- `nodes::descend_to` meets its contract.
-use mathlib.Core.Path.{◌≡◌, refl}
-use native.Mathlib.Omega.{arith}
+use mathlib.Core.Path.{◌≡◌}
 use lib.ListN.{get_or}
-use borrow.Author.Rules.{rules}
 use Rattle.diagram_fields.specs.Words.{nodes_in}
-use Rattle.nodes.proofs.Lowering.{Lowering, entry_step, entry_lo, lowering_start, lowering_less, lowering_next, lowering_done}
+use Rattle.nodes.proofs.Lowering.{Lowering}
 use Rattle.nodes.proofs.walks.descend_to.Given as goal
 
 abbrev pub invariant-loop-step : goal.invariant-loop-step

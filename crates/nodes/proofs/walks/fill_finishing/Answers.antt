@@ -1,9 +1,6 @@
 -- `nodes::fill_finishing` meets its contract.
-use borrow.Author.Rules.{rules}
-use Prim.Native.Nat.{◌+◌, ◌-◌}
-use Rattle.diagram_fields.specs.Words.{nodes_in}
 use Rattle.nodes.proofs.Children.{child-laws}
-use Rattle.nodes.proofs.Finished.{Passed, passed-laws}
+use Rattle.nodes.proofs.Finished.{passed-laws}
 use Rattle.nodes.proofs.walks.fill_finishing.Goals as goal
 
 pub loop-n-init : goal.loop-n-init

@@ -1,8 +1,7 @@
 -- `nodes::finishes` meets its contract.
 use native.Mathlib.Omega.{arith}
 use borrow.Author.Rules.{rules}
-use Rattle.diagram_fields.specs.Words.{nodes_in}
-use Rattle.nodes.proofs.Finished.{Walked, walk_start, walk_next, walk_less, walk_done}
+use Rattle.nodes.proofs.Finished.{walk_start, walk_next, walk_less, walk_done}
 use Rattle.nodes.proofs.walks.finishes.Goals as goal
 
 pub loop-m-init : goal.loop-m-init

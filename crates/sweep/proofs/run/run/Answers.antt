@@ -1,51 +1,36 @@
 -- `sweep::run` meets its contract: the finished tables give the promise.
--- the places before a place
 use mathlib.Core.Path.{refl}
 use native.Mathlib.Omega.{arith}
-use borrow.Author.Rules.{rules}
 use Rattle.sweep.proofs.Whole.{run_sorted, run_narrow, run_ready, run_blank, run_final, run_promised}
 use Rattle.sweep.proofs.run.run.Goals as goal
 
-abbrev start_of : tie.After-fill-first-steps → tie.Start
-start_of c = search
-
-abbrev first_of : tie.After-fill-row-starts → tie.After-fill-first-steps
-first_of c = search
-
-abbrev row_of : tie.After-least-costs → tie.After-fill-row-starts
-row_of c = search
-
-abbrev done-of : tie.After-conclude → tie.After-least-costs
-done-of c = search
-
 pub fill_first_steps-requires : goal.fill_first_steps-requires
 fill_first_steps-requires c =
-    let sorted = run_sorted c.requires.0 in
+    let sorted = run_sorted c.requires.tables in
     (refl, sorted.0, sorted.1)
 
 pub overflow_add-z : goal.overflow_add-z
 overflow_add-z c =
-    omega (arith, run_narrow c.requires.0)
+    omega (arith, run_narrow c.requires.tables)
 
 pub fill_row_starts-requires : goal.fill_row_starts-requires
 fill_row_starts-requires c =
-    let narrow = run_narrow c.requires.0 in
+    let narrow = run_narrow c.requires.tables in
     (refl, narrow.0, narrow.1)
 
 pub least_costs-requires : goal.least_costs-requires
 least_costs-requires c =
     let firsts = c.fill_first_steps.ensures in
     let starts = c.fill_row_starts.ensures in
-    (run_ready c.requires.0 firsts starts, run_blank c.requires.0 firsts starts c.requires.1)
+    record { ready = run_ready c.requires.tables firsts starts; blank = run_blank c.requires.tables firsts starts c.requires.space }
 
 pub conclude-requires : goal.conclude-requires
 conclude-requires c =
-    (run_final c.requires.0 c.fill_first_steps.ensures c.fill_row_starts.ensures c.requires.1 c.least_costs.ensures, c.requires.1.plan_fits)
+    record {
+      done = run_final c.requires.tables c.fill_first_steps.ensures c.fill_row_starts.ensures c.requires.space c.least_costs.ensures;
+      plan_fits = c.requires.space.plan_fits;
+    }
 
 pub returns : goal.returns
 returns c =
-    let done = done-of c in
-    let row = row_of done in
-    let first = first_of row in
-    let start = start_of first in
-    run_promised start.pre.0 first.fill-first-steps.ensures row.fill-row-starts.ensures start.pre.1 done.least-costs.ensures c.conclude.ensures
+    run_promised c.requires.tables c.fill_first_steps.ensures c.fill_row_starts.ensures c.requires.space c.least_costs.ensures c.conclude.ensures

@@ -1,6 +1,5 @@
 -- `sweep_ends::better` meets its contract.
 use mathlib.Core.Path.{refl}
-use borrow.Author.Rules.{rules}
 use Rattle.sweep_ends.proofs.Leaves.{better_taken, better_no}
 use Rattle.sweep_ends.proofs.goals.better.Goals as goal
 

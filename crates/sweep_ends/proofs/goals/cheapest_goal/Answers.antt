@@ -1,5 +1,4 @@
 -- `sweep_ends::cheapest_goal` meets its contract.
-use Prim.Native.Nat.{◌-◌, ◌≤◌}
 use mathlib.Core.Path.{refl}
 use native.Mathlib.Omega.{arith}
 use borrow.Author.Rules.{rules}
@@ -7,7 +6,7 @@ use Rattle.sweep_ends.proofs.Leaves.{chosen_none, chosen_more, chosen_all}
 use Rattle.sweep_ends.proofs.goals.cheapest_goal.Goals as goal
 
 pub loop-k-init : goal.loop-k-init
-loop-k-init c = (search rules, chosen_none _ _ _ _ _ refl)
+loop-k-init c = record { within = search rules; chosen = chosen_none _ _ _ _ _ refl }
 
 pub overflow_add-base : goal.overflow_add-base
 overflow_add-base c =
@@ -43,8 +42,8 @@ bounds-yes-n c =
 
 pub loop-k-preserved : goal.loop-k-preserved
 loop-k-preserved c =
-    (search rules, chosen_more _ _ _ _ _ _ _ c.loop-k.invariant.1 _ _ _ c.wide-n.ensures.0 refl refl c.better-best.ensures)
+    record { within = search rules; chosen = chosen_more _ _ _ _ _ _ _ c.loop-k.invariant.chosen _ _ _ c.wide-n.ensures.0 refl refl c.better-best.ensures }
 
 pub returns : goal.returns
 returns c =
-    chosen_all _ _ _ _ _ _ _ c.loop-k.invariant.1 (omega (arith, c.loop-k.invariant.0))
+    chosen_all _ _ _ _ _ _ _ c.loop-k.invariant.chosen (omega arith)

@@ -1,5 +1,4 @@
 -- `sweep_ends::total_count` meets its contract.
-use Prim.Native.Nat.{◌-◌, ◌*◌, ◌≤◌}
 use mathlib.Core.Path.{◌≡◌, ◌∙◌, ap}
 use native.Mathlib.Omega.{arith}
 use borrow.Author.Rules.{rules}
@@ -9,16 +8,16 @@ use Rattle.sweep_ends.proofs.Leaves.{total_none, total_more}
 use Rattle.sweep_ends.proofs.goals.total_count.Goals as goal
 
 pub loop-s-init : goal.loop-s-init
-loop-s-init c = (search rules, total_none _, search rules)
+loop-s-init c = record { within = search rules; summed = total_none _; small = search rules }
 
 pub overflow_add-sum : goal.overflow_add-sum
 overflow_add-sum c =
-    omega (arith, c.wide-sum.ensures.1, c.loop-s.invariant.2, c.requires)
+    omega arith
 
 pub loop-s-preserved : goal.loop-s-preserved
 loop-s-preserved c =
-    (search rules, total_more _ _ _ _ c.loop-s.invariant.1 c.wide-sum.ensures.0, omega (arith, c.wide-sum.ensures.1, c.loop-s.invariant.2))
+    record { within = search rules; summed = total_more _ _ _ _ c.loop-s.invariant.summed c.wide-sum.ensures.0; small = omega arith }
 
 pub returns : goal.returns
 returns c =
-    let e : c.loop-s.s ≡ c.args.stages = omega (arith, c.loop-s.invariant.0) in c.loop-s.invariant.1 ∙ ap (total (at c.args.counts.now)) e
+    let e : c.loop-s.s ≡ c.args.stages = omega arith in c.loop-s.invariant.summed ∙ ap (total (at c.args.counts.now)) e

@@ -1,5 +1,4 @@
 -- `sweep_ends::begin` meets its contract: a root that is 0 changes nothing.
-use borrow.Author.Rules.{rules}
 use Rattle.sweep_model.specs.Model.{rows}
 use Rattle.sweep_ends.proofs.Leaves.{begun_none, begun_one}
 use Rattle.sweep_ends.proofs.start.begin.Goals as goal
