@@ -1,7 +1,7 @@
 /*
  * The socket-cycle planner: the cheapest chain of steps from a start stage to an end stage that a rule diagram allows.
  *
- * Link with target/staticlib/libplanner_c.a, which `rt staticlib planner_c` proves and writes. docs/LIBRARY.md has
+ * Link with target/staticlib/libplanner_c.a, which `tools/build-library` proves and writes. docs/LIBRARY.md has
  * the commands and examples.
  *
  * Every call

@@ -41,7 +41,7 @@ fn missing(path: &Path, given: bool) -> ! {
         eprintln!("{NAME} names it; a relative path counts from the folder of this crate.");
     }
     eprintln!("To make it, run in the repository's root (it needs the Rattle toolchain):");
-    eprintln!("    rt staticlib planner_c");
+    eprintln!("    tools/build-library");
     eprintln!("which writes target/staticlib/libplanner_c.a. To use another file, set {NAME}.");
     exit(1);
 }

@@ -1,5 +1,4 @@
-# Read by example/run, examples/run and bench/with-library, which set `script` to their name and `root` to the
-# repository's root.
+# Read by the scripts that need the library or the program, which set `script` to their name and `root` to the repository's root.
 unset CDPATH
 
 # fail TEXT: says why, and ends with status 2.
@@ -13,32 +12,44 @@ need() {
     command -v "$1" >/dev/null 2>&1 || fail "$2 is missing: no '$1' on the PATH."
 }
 
-# build FILE WORD...: `rt WORD...` in the root, which proves and writes FILE. Shows rt's own lines alone.
+# build FILE COMMAND CRATE: `rt COMMAND` in the folder of the crate, which proves and writes its out/, and copies what is made there
+# to FILE. Shows rt's own lines alone.
 build() {
-    local file=$1
-    shift
-    need rt "the Rattle toolchain, which makes $file by 'rt $*',"
-    echo "rt $* (proves what it builds; some minutes from nothing)" >&2
-    (cd "$root" && rt "$@" 2>&1) | grep -a --line-buffered '^rt: ' >&2
-    [ "${PIPESTATUS[0]}" = 0 ] || fail "the build failed; 'rt $*' shows why."
-    [ -f "$root/$file" ] || fail "'rt $*' wrote no $file."
+    local file=$1 command=$2 crate=$3
+    local made=crates/$crate/out/${file##*/}
+    need rt "the Rattle toolchain, which makes $made by 'rt $command' in crates/$crate,"
+    echo "rt $command in crates/$crate (proves what it builds; some minutes from nothing)" >&2
+    (cd "$root/crates/$crate" && rt "$command" 2>&1 </dev/null) | grep -a --line-buffered '^rt: ' >&2
+    [ "${PIPESTATUS[0]}" = 0 ] || fail "the build failed; 'rt $command' in crates/$crate shows why."
+    [ -f "$root/$made" ] || fail "'rt $command' wrote no $made."
+    mkdir -p "$root/${file%/*}" && cp "$root/$made" "$root/$file" || fail "no $file can be written."
 }
 
 # is_new FILE: the file is there and no source is newer.
 is_new() {
-    [ -f "$root/$1" ] && [ -z "$(find "$root/crates" "$root/crates.txt" -newer "$root/$1" -print -quit)" ]
+    [ -f "$root/$1" ] &&
+        [ -z "$(find "$root/crates" "$root/crates.txt" -name out -prune -o -newer "$root/$1" -print -quit)" ]
 }
 
-# obtain NAME FILE WORD...: sets `obtained` to the file that the variable NAME of the environment names, from the current
+# obtain NAME FILE COMMAND CRATE: sets `obtained` to the file that the variable NAME of the environment names, from the current
 # folder; where NAME is not set, to FILE of the repository, built where it is not new.
 obtain() {
     local name=$1 file=$2
     shift 2
     if [ -n "${!name-}" ]; then
         obtained=$(realpath -e -- "${!name}" 2>/dev/null) && [ -f "$obtained" ] ||
-            fail "$name names no file: ${!name} ('rt $*' in the repository makes $file)."
+            fail "$name names no file: ${!name} (unset it, and $file of the repository is made and taken)."
     else
         is_new "$file" || build "$file" "$@"
         obtained=$root/$file
     fi
+}
+
+# The static library, for C and Rust, and the program `plan`: obtain_library and obtain_program set `obtained`.
+obtain_library() {
+    obtain PLANNER_LIBRARY target/staticlib/libplanner_c.a lib planner_c
+}
+
+obtain_program() {
+    obtain PLANNER_PROGRAM target/bin/plan run plan
 }

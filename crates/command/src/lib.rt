@@ -1,37 +1,56 @@
 // The program's input and output: both files by their paths, and the text to standard output.
 #![tactic(auto)]
 
-ghost use Rattle.io.specs.Counts.{IsPrefixLen};
+ghost use Rattle.std.specs.Prelude.{◌≤◌, length};
+
+use std::fs::File;
+use std::io::Read;
+use std::rt::Files;
+use std::str;
+
+// Reads until the buffer is full, the input ends or a read fails, and returns how many bytes it put at the buffer's start.
+fn read_full<F: Read>(file: &mut F, buf: &mut [u8]) -> usize
+    ensures { result ≤ length buf.new }
+{
+    let mut done = 0;
+    while done < buf.len() {
+        match file.read(&mut buf[done..]) {
+            Ok(n) if n > 0 => done += n,
+            _ => break,
+        }
+    }
+    done
+}
 
 // Reads the start of a file, as far as the buffer goes, and returns how many bytes it put there: 0 where the file can't
 // be opened or read.
-fn read_file(path: &[u8], buf: &mut [u8]) -> usize
-    ensures { IsPrefixLen result buf.new }
+fn read_file<R: Files>(rt: &R, path: &[u8], buf: &mut [u8]) -> usize
+    ensures { result ≤ length buf.new }
 {
-    let fd = os::open_read(path);
-    if fd < 0 {
+    let Ok(path) = str::from_utf8(path) else {
         return 0;
+    };
+    match File::open(rt, path) {
+        Ok(mut file) => read_full(&mut file, buf),
+        Err(_) => 0,
     }
-    let n = io::read_full(fd, buf);
-    libc::close(fd);
-    n
 }
 
 // Reads the first 32,769 bytes of both files, one more than the longest that is taken (one that is missing or can't be read
 // counts as empty), and writes the program's text to standard output. The text has at most 2,879 bytes, so the buffer
 // holds it whole. Where it can't be written whole, a line on standard error says so.
-pub fn run(chart: &[u8], rules: &[u8]) {
+pub fn run<R: Files + Print + Eprint>(rt: &R, chart: &[u8], rules: &[u8]) {
     let mut chart_bytes = [0u8; 32769];
     let mut rules_bytes = [0u8; 32769];
     let mut out = [0u8; 4096];
-    let chart_length = read_file(chart, &mut chart_bytes);
-    let rules_length = read_file(rules, &mut rules_bytes);
+    let chart_length = read_file(rt, chart, &mut chart_bytes);
+    let rules_length = read_file(rt, rules, &mut rules_bytes);
     let length = program::write_text(
         &chart_bytes[..chart_length],
         &rules_bytes[..rules_length],
         &mut out,
     );
-    if !io::write_all(libc::STDOUT_FILENO, &out[0..length]) {
-        os::fail(b"plan: the output is not complete");
+    if let Err(e) = rt.write_all(&out[0..length]) {
+        let _ = eprintln!(rt; "plan: the output is not complete: {e}");
     }
 }

@@ -1,6 +1,6 @@
 // Plans the cycle of chart.bin under the rules of rules.bin, both in the current folder.
 #![tactic(auto)]
 
-fn main() {
-    command::run(b"chart.bin", b"rules.bin");
+fn main(rt: HostRuntime) {
+    command::run(&rt, b"chart.bin", b"rules.bin");
 }

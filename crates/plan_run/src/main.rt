@@ -1,16 +1,18 @@
 // The program `plan` on many files: the folders 001, 002 .. of data/, which tools/run_files.py writes.
 #![tactic(auto)]
 
+use std::io;
+
 // How many folders there are.
 const CASES: u8 = 173;
 
 // Plans for the files of one folder, after a line with its number.
-fn run_case(hundreds: u8, tens: u8, ones: u8) {
+fn run_case(rt: &HostRuntime, hundreds: u8, tens: u8, ones: u8) -> io::Result<()> {
     let mut line = *b"case 000\n";
     line[5] = hundreds;
     line[6] = tens;
     line[7] = ones;
-    io::write_all(libc::STDOUT_FILENO, &line);
+    rt.write_all(&line)?;
     let mut chart = *b"000/chart.bin";
     chart[0] = hundreds;
     chart[1] = tens;
@@ -19,11 +21,13 @@ fn run_case(hundreds: u8, tens: u8, ones: u8) {
     rules[0] = hundreds;
     rules[1] = tens;
     rules[2] = ones;
-    command::run(&chart, &rules);
+    command::run(rt, &chart, &rules);
+    Ok(())
 }
 
-fn main() {
+fn main(rt: HostRuntime) -> io::Result<()> {
     for n in 1..=CASES {
-        run_case(b'0' + n / 100, b'0' + n / 10 % 10, b'0' + n % 10);
+        run_case(&rt, b'0' + n / 100, b'0' + n / 10 % 10, b'0' + n % 10)?;
     }
+    Ok(())
 }

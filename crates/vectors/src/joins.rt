@@ -7,6 +7,7 @@ use crate::show::{How, each, within};
 use crate::written::{MOST_BYTES, low_byte, show_written};
 use script_files::read::Command;
 use script_files::write::times;
+use std::io;
 
 // The longest work slice: a few entries more than any files need.
 const MOST: usize = 262152;
@@ -35,7 +36,13 @@ fn own(number: u32, pairs: usize, lent: usize) -> usize {
 }
 
 // The conjunction.
-pub fn show_join<'a>(chart: &'a [u8], rules: &'a [u8], more: &'a [u8], c: Command) {
+pub fn show_join<'a>(
+    rt: &impl Print,
+    chart: &'a [u8],
+    rules: &'a [u8],
+    more: &'a [u8],
+    c: Command,
+) -> io::Result<()> {
     let full = fill(c);
     let full_byte = low_byte(c.d);
     let mut work = [full; MOST];
@@ -47,7 +54,7 @@ pub fn show_join<'a>(chart: &'a [u8], rules: &'a [u8], more: &'a [u8], c: Comman
         lend_work(&mut work, c.a as usize),
         lend_file(&mut file, c.b as usize),
     );
-    show_written(a, &file, full_byte);
+    show_written(rt, a, &file, full_byte)?;
     let first = own(a.number, pairs(chart, rules, more), c.a as usize);
-    each(&work, first, MOST, How::Changed(full));
+    each(rt, &work, first, MOST, How::Changed(full))
 }

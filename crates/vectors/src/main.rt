@@ -2,6 +2,8 @@
 // case is written; tools/vectors.py computes what must be written.
 #![tactic(auto)]
 
+ghost use Rattle.std.specs.Prelude.{◌≤◌, length, IfOk};
+
 mod joins;
 mod lend;
 mod reductions;
@@ -10,24 +12,38 @@ mod searches;
 mod show;
 mod written;
 
-// Plays one script of at most 65,536 bytes.
-fn play(path: &[u8]) {
-    let fd = os::open_read(path);
-    if fd < 0 {
-        os::fail(path);
-        return;
+use std::fs::File;
+use std::io;
+use std::io::Read;
+
+// Reads until the buffer is full or the file ends, and returns how many bytes it put at the buffer's start.
+fn read_full(file: &mut File, buf: &mut [u8]) -> io::Result<usize>
+    ensures { IfOk result (λ n. n ≤ length buf.new) }
+{
+    let mut done = 0;
+    while done < buf.len() {
+        let n = file.read(&mut buf[done..])?;
+        if n == 0 {
+            break;
+        }
+        done += n;
     }
-    let mut text = io::large_buffer();
-    let n = io::read_full(fd, &mut text);
-    libc::close(fd);
-    let mut buf = [0u8; script::BUFFER];
-    script::run(&text[..n], &mut buf);
+    Ok(done)
 }
 
-fn main() {
-    play(b"readers.txt");
-    play(b"remarks.txt");
-    play(b"searches.txt");
-    play(b"joins.txt");
-    play(b"padding.txt");
+// Plays one script of at most 65,536 bytes.
+fn play(rt: &HostRuntime, path: &str) -> io::Result<()> {
+    let mut file = File::open(rt, path)?;
+    let mut text = [0u8; 65536];
+    let n = read_full(&mut file, &mut text)?;
+    let mut buf = [0u8; script::BUFFER];
+    script::run(rt, &text[..n], &mut buf)
+}
+
+fn main(rt: HostRuntime) -> io::Result<()> {
+    play(&rt, "readers.txt")?;
+    play(&rt, "remarks.txt")?;
+    play(&rt, "searches.txt")?;
+    play(&rt, "joins.txt")?;
+    play(&rt, "padding.txt")
 }

@@ -5,6 +5,7 @@ use crate::searches::{show_guided, show_sweep};
 use crate::show::{show_chart, show_diagram, show_field};
 use script_files::read::{Command, line_end, part, read_command, rest_of_line};
 use script_files::write::{LONGEST, add, copy, put};
+use std::io;
 
 // The buffer has the file in the making at its start, and after it the chart, the diagram and the second diagram.
 const CHART: usize = LONGEST;
@@ -53,18 +54,25 @@ fn taken(c: Command, letter: u8, buf: &mut [u8], to: usize, size: usize, old: us
 }
 
 // A command that shows what a call answers: of the file in the making, or of the chart and the diagrams.
-fn shown<'a>(c: Command, file: &'a [u8], chart: &'a [u8], rules: &'a [u8], more: &'a [u8]) {
+fn shown<'a>(
+    rt: &impl Print,
+    c: Command,
+    file: &'a [u8],
+    chart: &'a [u8],
+    rules: &'a [u8],
+    more: &'a [u8],
+) -> io::Result<()> {
     let letter = c.letter;
     match letter {
-        b'C' => show_chart(file),
-        b'D' => show_diagram(file, c.a as usize, true),
-        b'L' => show_diagram(file, c.a as usize, false),
-        b'F' => show_field(chart, rules, (c.a % 4294967296) as u32, c.b as usize),
-        b'W' => show_sweep(chart, rules, c),
-        b'G' => show_guided(chart, rules, c),
-        b'J' => show_join(chart, rules, more, c),
-        b'R' => show_reduced(chart, rules, c),
-        _ => {}
+        b'C' => show_chart(rt, file),
+        b'D' => show_diagram(rt, file, c.a as usize, true),
+        b'L' => show_diagram(rt, file, c.a as usize, false),
+        b'F' => show_field(rt, chart, rules, (c.a % 4294967296) as u32, c.b as usize),
+        b'W' => show_sweep(rt, chart, rules, c),
+        b'G' => show_guided(rt, chart, rules, c),
+        b'J' => show_join(rt, chart, rules, more, c),
+        b'R' => show_reduced(rt, chart, rules, c),
+        _ => Ok(()),
     }
 }
 
@@ -77,16 +85,17 @@ fn takes_label(letter: u8) -> bool {
 }
 
 // A command with a label, which ends its line: writes the label and what the call answers.
-fn labelled(label: &[u8], c: Command, buf: &[u8], z: State) {
-    io::write_all(1, label);
+fn labelled(rt: &impl Print, label: &[u8], c: Command, buf: &[u8], z: State) -> io::Result<()> {
+    rt.write_all(label)?;
     shown(
+        rt,
         c,
         part(buf, 0, z.file),
         part(buf, CHART, z.chart),
         part(buf, RULES, z.rules),
         part(buf, MORE, z.more),
-    );
-    io::write_all(1, b"\n");
+    )?;
+    rt.write_all(b"\n")
 }
 
 // The place after a command without a label; a comment goes to the line's end.
@@ -98,15 +107,15 @@ fn after(s: &[u8], c: Command) -> usize {
 }
 
 // After a command with a label the file in the making is empty.
-fn shown_turn(s: &[u8], buf: &[u8], c: Command, z: State) -> State {
-    labelled(rest_of_line(s, c.next), c, buf, z);
-    State {
+fn shown_turn(rt: &impl Print, s: &[u8], buf: &[u8], c: Command, z: State) -> io::Result<State> {
+    labelled(rt, rest_of_line(s, c.next), c, buf, z)?;
+    Ok(State {
         at: line_end(s, c.next),
         file: 0,
         chart: z.chart,
         rules: z.rules,
         more: z.more,
-    }
+    })
 }
 
 fn made_turn(s: &[u8], buf: &mut [u8], c: Command, z: State) -> State {
@@ -120,20 +129,20 @@ fn made_turn(s: &[u8], buf: &mut [u8], c: Command, z: State) -> State {
 }
 
 // The next command, where one is left.
-fn turn(s: &[u8], buf: &mut [u8], z: State) -> State {
+fn turn(rt: &impl Print, s: &[u8], buf: &mut [u8], z: State) -> io::Result<State> {
     let at = z.at;
     if s.len() <= at {
-        return z;
+        return Ok(z);
     }
     let c = read_command(s, s[at], at + 1);
     if takes_label(c.letter) {
-        return shown_turn(s, buf, c, z);
+        return shown_turn(rt, s, buf, c, z);
     }
-    made_turn(s, buf, c, z)
+    Ok(made_turn(s, buf, c, z))
 }
 
 // Every command of a script, in order.
-pub fn run(s: &[u8], buf: &mut [u8]) {
+pub fn run(rt: &impl Print, s: &[u8], buf: &mut [u8]) -> io::Result<()> {
     let mut z = State {
         at: 0,
         file: 0,
@@ -142,6 +151,7 @@ pub fn run(s: &[u8], buf: &mut [u8]) {
         more: 0,
     };
     for _ in 0..s.len() {
-        z = turn(s, buf, z);
+        z = turn(rt, s, buf, z)?;
     }
+    Ok(())
 }

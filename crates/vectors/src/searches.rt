@@ -6,6 +6,7 @@ use crate::lend::{lend_plan, lend_work};
 use crate::show::{How, each, each_step, named, text};
 use definitions::Answer;
 use script_files::read::Command;
+use std::io;
 
 // The longest slices: a few entries more than any files need.
 const MOST: usize = 131080;
@@ -37,59 +38,82 @@ fn own<'a>(chart: &'a [u8], rules: &'a [u8], number: u32) -> usize {
 }
 
 // An answer and the plan. Where the plan is free neither its length nor its steps are shown.
-fn show_answer<'a>(a: Answer, plan: &'a [u16; MOST_STEPS], c: Command) {
-    named(b" number ", a.number as u64);
-    named(b" file ", a.file as u64);
-    named(b" place ", a.place as u64);
-    named(b" cost ", a.cost as u64);
+fn show_answer<'a>(
+    rt: &impl Print,
+    a: Answer,
+    plan: &'a [u16; MOST_STEPS],
+    c: Command,
+) -> io::Result<()> {
+    named(rt, b" number ", a.number as u64)?;
+    named(rt, b" file ", a.file as u64)?;
+    named(rt, b" place ", a.place as u64)?;
+    named(rt, b" cost ", a.cost as u64)?;
     if c.d == 0 {
-        named(b" length ", a.length as u64);
-        text(b" steps");
-        each_step(plan, 0, a.length, How::Entry);
+        named(rt, b" length ", a.length as u64)?;
+        text(rt, b" steps")?;
+        each_step(rt, plan, 0, a.length, How::Entry)?;
     }
+    Ok(())
 }
 
 // Which entries of a work slice from a position on have changed.
-fn show_changed(s: &[u32; MOST], from: usize, full: u32) {
-    each(s, from, MOST, How::Changed(full));
+fn show_changed(rt: &impl Print, s: &[u32; MOST], from: usize, full: u32) -> io::Result<()> {
+    each(rt, s, from, MOST, How::Changed(full))
 }
 
 // The same of a plan slice.
-fn show_changed_plan(s: &[u16; MOST_STEPS], from: usize, full: u32) {
-    text(b" changed");
-    each_step(s, from, MOST_STEPS, How::Changed(full % 65536));
+fn show_changed_plan(
+    rt: &impl Print,
+    s: &[u16; MOST_STEPS],
+    from: usize,
+    full: u32,
+) -> io::Result<()> {
+    text(rt, b" changed")?;
+    each_step(rt, s, from, MOST_STEPS, How::Changed(full % 65536))
 }
 
 // The sweep's answer and its cost slice, and which entries past the plan have changed.
 fn show_swept<'a>(
+    rt: &impl Print,
     a: Answer,
     cost: &'a [u32; MOST],
     pairs: usize,
     plan: &'a [u16; MOST_STEPS],
     c: Command,
-) {
-    show_answer(a, plan, c);
-    named(b" count ", a.count as u64);
-    text(b" costs");
-    each(cost, 0, pairs, How::Cost);
-    show_changed_plan(plan, a.length, fill(c));
+) -> io::Result<()> {
+    show_answer(rt, a, plan, c)?;
+    named(rt, b" count ", a.count as u64)?;
+    text(rt, b" costs")?;
+    each(rt, cost, 0, pairs, How::Cost)?;
+    show_changed_plan(rt, plan, a.length, fill(c))
 }
 
 // The guided search's answer and its log, and which entries past the plan and past the log have changed. Where the plan
 // is free the count and the log are free too, and not shown.
-fn show_found<'a>(a: Answer, log: &'a [u32; MOST], plan: &'a [u16; MOST_STEPS], c: Command) {
-    show_answer(a, plan, c);
+fn show_found<'a>(
+    rt: &impl Print,
+    a: Answer,
+    log: &'a [u32; MOST],
+    plan: &'a [u16; MOST_STEPS],
+    c: Command,
+) -> io::Result<()> {
+    show_answer(rt, a, plan, c)?;
     if c.d == 0 {
-        named(b" count ", a.count as u64);
-        text(b" log");
-        each(log, 0, a.count, How::Entry);
+        named(rt, b" count ", a.count as u64)?;
+        text(rt, b" log")?;
+        each(rt, log, 0, a.count, How::Entry)?;
     }
-    show_changed_plan(plan, a.length, fill(c));
-    show_changed(log, a.count, fill(c));
+    show_changed_plan(rt, plan, a.length, fill(c))?;
+    show_changed(rt, log, a.count, fill(c))
 }
 
 // The sweep.
-pub fn show_sweep<'a>(chart: &'a [u8], rules: &'a [u8], c: Command) {
+pub fn show_sweep<'a>(
+    rt: &impl Print,
+    chart: &'a [u8],
+    rules: &'a [u8],
+    c: Command,
+) -> io::Result<()> {
     let full = fill(c);
     let mut cost = [full; MOST];
     let mut via = [full; MOST];
@@ -104,14 +128,19 @@ pub fn show_sweep<'a>(chart: &'a [u8], rules: &'a [u8], c: Command) {
         lend_plan(&mut plan, c.b as usize),
     );
     let pairs = own(chart, rules, a.number);
-    show_swept(a, &cost, pairs, &plan, c);
-    show_changed(&cost, pairs, full);
-    show_changed(&via, pairs, full);
-    show_changed(&nodes, pairs, full);
+    show_swept(rt, a, &cost, pairs, &plan, c)?;
+    show_changed(rt, &cost, pairs, full)?;
+    show_changed(rt, &via, pairs, full)?;
+    show_changed(rt, &nodes, pairs, full)
 }
 
 // The guided search.
-pub fn show_guided<'a>(chart: &'a [u8], rules: &'a [u8], c: Command) {
+pub fn show_guided<'a>(
+    rt: &impl Print,
+    chart: &'a [u8],
+    rules: &'a [u8],
+    c: Command,
+) -> io::Result<()> {
     let full = fill(c);
     let mut keys = [full; MOST];
     let mut via = [full; MOST];
@@ -132,10 +161,10 @@ pub fn show_guided<'a>(chart: &'a [u8], rules: &'a [u8], c: Command) {
         lend_plan(&mut plan, c.b as usize),
     );
     let pairs = own(chart, rules, a.number);
-    show_found(a, &log, &plan, c);
-    show_changed(&keys, pairs, full);
-    show_changed(&via, pairs, full);
-    show_changed(&heap, pairs, full);
-    show_changed(&pos, pairs, full);
-    show_changed(&stack, pairs, full);
+    show_found(rt, a, &log, &plan, c)?;
+    show_changed(rt, &keys, pairs, full)?;
+    show_changed(rt, &via, pairs, full)?;
+    show_changed(rt, &heap, pairs, full)?;
+    show_changed(rt, &pos, pairs, full)?;
+    show_changed(rt, &stack, pairs, full)
 }

@@ -1,6 +1,6 @@
 -- `script_files::write::put_many` is safe and ends: the buffer keeps its length, and each turn leaves fewer fields.
 -- Assumes nothing.
-use Rattle.std.proofs.Common.{◌≡◌, ◌-◌, ◌≤◌, length, rules}
+use Rattle.std.proofs.Common.{◌≡◌, ◌-◌, ◌≤◌, length}
 use Rattle.script_files.proofs.write.put_many.Given as goal
 
 abbrev pub invariant-loop-i : goal.invariant-loop-i
