@@ -156,7 +156,7 @@ fn put_groupeds(
 // The steps that stand one behind the other from the read's place on, into the table.
 fn put_steps(file: &[u8], first: StepsRead, stages: u16, steps: &mut [[u32; 1024]; 2]) -> StepsRead
     requires has_field { HasField file.now first.place first.tag (step_length first.tag) }
-    requires fact { (first.tag ≡ 2) ⊎ (first.tag ≡ 3) }
+    requires kind { (first.tag ≡ 2) ⊎ (first.tag ≡ 3) }
     ensures { Takes file.now stages first steps.old steps.new result }
 {
     if first.tag == 3 {
@@ -173,7 +173,7 @@ fn take_found(
     stages: u16,
     steps: &mut [[u32; 1024]; 2],
 ) -> StepsRead
-    requires found_value { found ≡ field_at file.now read.place (or_remark (only read.tag (step_length read.tag))) }
+    requires stands { found ≡ field_at file.now read.place (or_remark (only read.tag (step_length read.tag))) }
     requires due { Due file.now read × ((read.tag ≡ 2) ⊎ (read.tag ≡ 3)) }
     ensures { Takes file.now stages read steps.old steps.new result }
 {

@@ -135,7 +135,7 @@ fn group_in(b: &[u8], tag: u8, e: usize) -> u16
 
 pub fn step_of(b: &[u8], tag: u8, e: usize) -> StepBody
     requires long { Long tag b.now × (e < 1024) }
-    requires b_bound { four b.now 4 ≤ 1000000 }
+    requires cheap { four b.now 4 ≤ 1000000 }
     ensures { result ≡ step_body tag e b.now }
 {
     StepBody {

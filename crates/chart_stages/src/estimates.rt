@@ -48,7 +48,7 @@ pub fn fill_chart_estimates<'a>(
     steps: &'a [[u32; 1024]; 2],
     first: &'a [u16; 257],
 )
-    requires estimates_value { estimates.old ≡ replicate 256 NONE }
+    requires none_yet { estimates.old ≡ replicate 256 NONE }
     requires staged { Staged z (steps_in steps.now) first.now }
     ensures { EstimateTable (chart_in z (steps_in steps.now)) estimates.new }
 {

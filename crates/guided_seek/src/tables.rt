@@ -18,7 +18,7 @@ fn estimate_nodes<'a>(
     steps: &'a [[u32; 1024]; 2],
     inner: &'a [u32; 512],
 )
-    requires by_node_len { length by_node.old ≡ 512 }
+    requires long_enough { length by_node.old ≡ 512 }
     requires tables { Tables z (read steps.now inner.now) }
     ensures { NodeEstimates z (read steps.now inner.now) by_node.new }
 {
@@ -40,9 +40,9 @@ pub fn fill_tables<'a>(
     steps: &'a [[u32; 1024]; 2],
     inner: &'a [u32; 512],
 )
-    requires first_value { first.old ≡ replicate 257 0 }
-    requires row_value { row.old ≡ replicate 256 0 }
-    requires by_node_value { by_node.old ≡ replicate 512 0 }
+    requires no_first { first.old ≡ replicate 257 0 }
+    requires no_row { row.old ≡ replicate 256 0 }
+    requires no_node { by_node.old ≡ replicate 512 0 }
     requires tables { Tables z (read steps.now inner.now) }
     ensures { Prepared z (walk (read steps.now inner.now) first.new row.new) by_node.new }
 {

@@ -62,7 +62,7 @@ pub fn sift_up(keys: &[u32], heap: &mut [u32], pos: &mut [u32], at: usize, v: u3
 
 // The child of place x with the least key.
 fn least_child<'a>(keys: &'a [u32], heap: &'a [u32], n: usize, x: usize) -> usize
-    requires n_in_bounds { (n ≤ length heap.now) × (x + x + 1 < n) }
+    requires inside { (n ≤ length heap.now) × (x + x + 1 < n) }
     requires by_index { (i : ℕ) → i < n → get_or heap.now i 0 < length keys.now }
     ensures { LeastChild (key keys.now heap.now) n x result }
 {

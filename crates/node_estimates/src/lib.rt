@@ -49,9 +49,9 @@ pub fn fill_diagram_estimates<'a>(
     inner: &'a [u32; 512],
     cost: &'a [u32; 1024],
 )
-    requires fact { let t = nodes_in inner.now in
+    requires sound { let t = nodes_in inner.now in
         Falls t.lo (z.nodes + 1) × Falls t.hi (z.nodes + 1) × Priced t.step cost.now z.nodes }
-    requires estimates_len { length estimates.old ≡ 512 }
+    requires long_enough { length estimates.old ≡ 512 }
     ensures { let t = nodes_in inner.now in
         Estimated t.step t.lo t.hi cost.now z.nodes estimates.new }
 {
@@ -78,8 +78,8 @@ fn cheaper(a: u32, b: u32) -> u32
 
 // Fills the table, which is NONE at first: for each group the smallest cost among its steps.
 pub fn fill_prices(price: &mut [u32; 1024], z: Shape, steps: &[[u32; 1024]; 2])
-    requires price_value { price.old ≡ replicate 1024 NONE }
-    requires fact { let c = chart_in z (steps_in steps.now) in Valid (graph c) × Small c }
+    requires none_yet { price.old ≡ replicate 1024 NONE }
+    requires sound { let c = chart_in z (steps_in steps.now) in Valid (graph c) × Small c }
     ensures { Costs (chart_in z (steps_in steps.now)) price.new }
 {
     for e in 0..z.steps {

@@ -12,7 +12,7 @@ use planner::Answers;
 // each entry of the plan slice and 74 more.
 fn write_answers(both: Answers, plan: &[u16], out: &mut [u8]) -> usize
     ensures appended { Appended out.old 0 (text_of both.guided plan.now both.sweep) out.new result }
-    ensures sweep_len_bound { length (text_of both.guided plan.now both.sweep) ≤ 74 + 11 * length plan.now }
+    ensures short { length (text_of both.guided plan.now both.sweep) ≤ 74 + 11 * length plan.now }
 {
     report::write_report(out, both.guided, plan, both.sweep)
 }

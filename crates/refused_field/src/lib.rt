@@ -26,7 +26,7 @@ fn field_end(s: &[u8], place: usize) -> usize
 // The bytes of the field at a place of the chart (file 1) or of the diagram (file 2). A place at or past the end,
 // or another file mark, gives an empty part of the chart.
 pub fn refused_field<'a>(chart: &'a [u8], rules: &'a [u8], file: u32, place: usize) -> &'a [u8]
-    ensures result_value { result.now ≡ refused_field chart.now rules.now file place }
+    ensures bytes { result.now ≡ refused_field chart.now rules.now file place }
     ensures lies { result.ref_ptr ≡ refused_at chart.entry.ref_ptr rules.entry.ref_ptr chart.now rules.now file place }
 {
     if file == 1 {

@@ -50,7 +50,7 @@ fn trace_back<'a>(
     plan: &mut [u16],
 ) -> usize
     requires traceable { Traceable via.now (froms ends.now) row.now start.0 stage.0 node.0 }
-    requires start_in_bounds { stage.0 - start.0 ≤ length plan.old }
+    requires fits { stage.0 - start.0 ≤ length plan.old }
     ensures { (x : Traceable via.now (froms ends.now) row.now start.0 stage.0 node.0)
         → (result ≡ length x.steps) × (plan.new ≡ reverse x.steps ++ drop result plan.old) }
 {
@@ -94,7 +94,7 @@ pub fn write_plan<'a>(
     plan: &mut [u16],
 ) -> usize
     requires traceable { Traceable via.now (froms ends.now) row.now start.0 stage.0 node.0 }
-    requires start_in_bounds { stage.0 - start.0 ≤ length plan.old }
+    requires fits { stage.0 - start.0 ≤ length plan.old }
     ensures { (x : Traceable via.now (froms ends.now) row.now start.0 stage.0 node.0)
         → (result ≡ length x.steps) × (plan.new ≡ x.steps ++ drop result plan.old) }
 {

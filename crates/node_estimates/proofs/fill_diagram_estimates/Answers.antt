@@ -13,9 +13,9 @@ pub inner_estimate-requires : goal.inner_estimate-requires
 inner_estimate-requires c =
     let found = c.loop-n.invariant.1 in
     let below : c.loop-n.n < c.args.z.nodes + 2 = omega (arith, c.loop-n-test.true, c.loop-n.invariant.0) in (
-      estimating_step _ _ _ _ _ _ _ found c.requires.fact.2 below _ c.step_at-e.ensures,
-      child_inside _ _ _ c.requires.fact.0 found.inner below _ c.lo_at-lo.ensures,
-      child_inside _ _ _ c.requires.fact.1 found.inner below _ c.hi_at-hi.ensures,
+      estimating_step _ _ _ _ _ _ _ found c.requires.sound.2 below _ c.step_at-e.ensures,
+      child_inside _ _ _ c.requires.sound.0 found.inner below _ c.lo_at-lo.ensures,
+      child_inside _ _ _ c.requires.sound.1 found.inner below _ c.hi_at-hi.ensures,
     )
 
 pub loop-n-preserved : goal.loop-n-preserved

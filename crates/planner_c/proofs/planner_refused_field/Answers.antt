@@ -11,4 +11,4 @@ returns c =
     let field = c.args.field.now in
     let field' = c.store_field.new.buffer in
     let r = c.store_field.result in
-    subst (λ (bytes : List _). (r ≡ length bytes) × Appended field 0 bytes field' (min r (length field))) c.refused_field-bytes.ensures.result_value c.store_field.ensures
+    subst (λ (bytes : List _). (r ≡ length bytes) × Appended field 0 bytes field' (min r (length field))) c.refused_field-bytes.ensures.bytes c.store_field.ensures

@@ -6,7 +6,7 @@ use Rattle.program.proofs.write_answers.Goals as goal
 pub returns : goal.returns
 returns c = record {
   appended = c.write_report.ensures;
-  sweep_len_bound = report_short c.args.both.guided c.args.both.sweep c.args.plan.now
+  short = report_short c.args.both.guided c.args.both.sweep c.args.plan.now
       (record { number = omega arith; file = omega arith; place = omega arith; cost = omega arith; count = omega arith })
       (record { number = omega arith; file = omega arith; place = omega arith; cost = omega arith; count = omega arith })
       (λ k. omega (arith, c.shared_slice_known-1.given k));

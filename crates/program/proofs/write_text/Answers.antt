@@ -16,5 +16,5 @@ returns c =
       sweep_space = load_shortest c.args.chart.now c.args.rules.now 4096 (4096 ∷ 4096 ∷ []) 255;
       guided_space = load_shortest c.args.chart.now c.args.rules.now 4096 (4096 ∷ 4096 ∷ 4096 ∷ 4096 ∷ 4096 ∷ []) 255;
       text = c.write_answers.ensures.appended;
-      short = omega (arith, c.write_answers.ensures.sweep_len_bound);
+      short = omega (arith, c.write_answers.ensures.short);
     }

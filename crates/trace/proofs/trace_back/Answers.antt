@@ -28,11 +28,11 @@ bounds-via-pair_at c =
 
 pub offset_bounds-plan-count : goal.offset_bounds-plan-count
 offset_bounds-plan-count c =
-    omega (arith, c.loop-s.invariant.1, c.loop-s-test.true, c.requires.start_in_bounds)
+    omega (arith, c.loop-s.invariant.1, c.loop-s-test.true, c.requires.fits)
 
 pub bounds-plan-count : goal.bounds-plan-count
 bounds-plan-count c =
-    omega (arith, c.loop-s.invariant.1, c.loop-s.invariant.2, c.loop-s-test.true, c.requires.start_in_bounds)
+    omega (arith, c.loop-s.invariant.1, c.loop-s.invariant.2, c.loop-s-test.true, c.requires.fits)
 
 pub loop-s-smaller : goal.loop-s-smaller
 loop-s-smaller c =
@@ -42,7 +42,7 @@ loop-s-smaller c =
 pub loop-s-preserved : goal.loop-s-preserved
 loop-s-preserved c =
     let trail = c.requires.traceable in
-    let room : c.loop-s.count < length c.args.plan.now = omega (arith, c.loop-s.invariant.1, c.loop-s-test.true, c.requires.start_in_bounds) in
+    let room : c.loop-s.count < length c.args.plan.now = omega (arith, c.loop-s.invariant.1, c.loop-s-test.true, c.requires.fits) in
     let less = follow_less trail (c.loop-s.invariant.0 trail).1 c.loop-s-test.true c.pair_at.ensures c.came_from-before.ensures in (
       (λ x.
           let so_far = c.loop-s.invariant.0 x in (

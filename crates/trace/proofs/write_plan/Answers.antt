@@ -8,7 +8,7 @@ use Rattle.trace.proofs.write_plan.Goals as goal
 pub reverse_front-requires : goal.reverse_front-requires
 reverse_front-requires c =
     let trail = c.requires.traceable in
-    omega (arith, (c.trace_back-length.ensures trail).0, steps_few trail, c.requires.start_in_bounds)
+    omega (arith, (c.trace_back-length.ensures trail).0, steps_few trail, c.requires.fits)
 
 pub returns : goal.returns
 returns c =

@@ -16,7 +16,7 @@ returns-then-wrong-ne0 c = record {
 pub step_of-requires : goal.step_of-requires
 step_of-requires c = record {
   long = (long_body _ _ 3 10 c.requires.0 (omega arith) (λ q. omega arith), step_below _ _ _ _ _ _ _ c.step_fault-wrong.ensures c.if-wrong-ne0.false);
-  b_bound = step_cheap _ _ _ _ _ _ _ c.step_fault-wrong.ensures c.if-wrong-ne0.false;
+  cheap = step_cheap _ _ _ _ _ _ _ c.step_fault-wrong.ensures c.if-wrong-ne0.false;
 }
 
 pub store-requires : goal.store-requires

@@ -8,4 +8,4 @@ put_groupeds-requires c =
 
 pub put_plains-requires : goal.put_plains-requires
 put_plains-requires c =
-    as_plain _ _ _ c.requires.has_field c.requires.fact c.if-first-eq3.false
+    as_plain _ _ _ c.requires.has_field c.requires.kind c.if-first-eq3.false

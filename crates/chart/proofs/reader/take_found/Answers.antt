@@ -5,7 +5,7 @@ use Rattle.chart.proofs.reader.take_found.Goals as goal
 
 pub put_steps-requires : goal.put_steps-requires
 put_steps-requires c =
-    record { has_field = search whole_has; fact = c.requires.due.1 }
+    record { has_field = search whole_has; kind = c.requires.due.1 }
 
 pub returns-in-Absent : goal.returns-in-Absent
 returns-in-Absent c = search take-laws

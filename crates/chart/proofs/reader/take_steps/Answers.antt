@@ -6,7 +6,7 @@ pub take_found-requires : goal.take_found-requires
 take_found-requires c =
     let r = c.args.read in
     let table = c.args.steps.now in
-    record { found_value = c.look_again-here.ensures; due = (due_anew _ 0 r table _ c.due_kind-tag.ensures c.requires.1 _ c.step_length.ensures, due_known _ 0 r table _ c.due_kind-tag.ensures c.requires.1 _ c.step_length.ensures) }
+    record { stands = c.look_again-here.ensures; due = (due_anew _ 0 r table _ c.due_kind-tag.ensures c.requires.1 _ c.step_length.ensures, due_known _ 0 r table _ c.due_kind-tag.ensures c.requires.1 _ c.step_length.ensures) }
 
 pub returns : goal.returns
 returns c =

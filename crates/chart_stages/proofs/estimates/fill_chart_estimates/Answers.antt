@@ -30,8 +30,8 @@ bounds-estimates-s c =
 
 pub loop-s-init : goal.loop-s-init
 loop-s-init c =
-    let long = length-set c.args.estimates.now _ 0 ∙ ap length c.requires.estimates_value ∙ length-replicate {A = ℕ} 256 NONE in
-    (search rules, end_below c.requires.staged, long, λ z on q. rw c.requires.estimates_value (stages_start on q))
+    let long = length-set c.args.estimates.now _ 0 ∙ ap length c.requires.none_yet ∙ length-replicate {A = ℕ} 256 NONE in
+    (search rules, end_below c.requires.staged, long, λ z on q. rw c.requires.none_yet (stages_start on q))
 
 pub overflow_cast-first : goal.overflow_cast-first
 overflow_cast-first c =

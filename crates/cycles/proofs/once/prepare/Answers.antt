@@ -8,7 +8,7 @@ fill_tables-requires c =
     let a = c.args in
     let lent = shortest_of _ _ _ _ _ _ c.lesser.ensures c.lesser-2.ensures c.lesser-shorter.ensures c.lesser-3.ensures c.lesser-work.ensures in
     let tables = prepared_tables a.chart.now a.rules.now a.keys a.via a.heap a.pos a.stack a.log lent _ _ c.load-got.ensures c.if-got-eq0.true in
-    record { first_value = c.requires.no_first; row_value = c.requires.no_row; by_node_value = c.requires.no_node; tables = tables }
+    record { no_first = c.requires.no_first; no_row = c.requires.no_row; no_node = c.requires.no_node; tables = tables }
 
 pub returns-then-got-eq0 : goal.returns-then-got-eq0
 returns-then-got-eq0 c =

@@ -4,7 +4,7 @@ use Rattle.guided.proofs.Finding.{found_traceable, found_runs}
 use Rattle.guided.proofs.run.run.Goals as goal
 
 pub fill_tables-requires : goal.fill_tables-requires
-fill_tables-requires c = record { first_value = refl; row_value = refl; by_node_value = refl; tables = c.requires.tables }
+fill_tables-requires c = record { no_first = refl; no_row = refl; no_node = refl; tables = c.requires.tables }
 
 pub seek-ended-requires : goal.seek-ended-requires
 seek-ended-requires c =

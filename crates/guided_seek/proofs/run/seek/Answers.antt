@@ -4,7 +4,7 @@ use Rattle.guided_seek.proofs.Preparing.{run_staged, run_root, sought_none, run_
 use Rattle.guided_seek.proofs.run.seek.Goals as goal
 
 pub fill_chart_estimates-requires : goal.fill_chart_estimates-requires
-fill_chart_estimates-requires c = record { estimates_value = refl; staged = run_staged c.requires.prepared.ready.tables c.requires.prepared.ready.firsts }
+fill_chart_estimates-requires c = record { none_yet = refl; staged = run_staged c.requires.prepared.ready.tables c.requires.prepared.ready.firsts }
 
 pub pair_estimate-rest-requires : goal.pair_estimate-rest-requires
 pair_estimate-rest-requires c =

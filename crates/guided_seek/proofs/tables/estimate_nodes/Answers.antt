@@ -3,10 +3,10 @@ use Rattle.guided_seek.proofs.Preparing.{plain_costs, run_nodes}
 use Rattle.guided_seek.proofs.tables.estimate_nodes.Goals as goal
 
 pub fill_diagram_estimates-requires : goal.fill_diagram_estimates-requires
-fill_diagram_estimates-requires c = record { fact = run_nodes c.requires.tables _ c.fill_prices.ensures; estimates_len = c.requires.by_node_len }
+fill_diagram_estimates-requires c = record { sound = run_nodes c.requires.tables _ c.fill_prices.ensures; long_enough = c.requires.long_enough }
 
 pub fill_diagram_estimates-requires-2 : goal.fill_diagram_estimates-requires-2
-fill_diagram_estimates-requires-2 c = record { fact = run_nodes c.requires.tables _ (plain_costs c.requires.tables _ c.tag_at.ensures c.if-tag_at-eq3.false); estimates_len = c.requires.by_node_len }
+fill_diagram_estimates-requires-2 c = record { sound = run_nodes c.requires.tables _ (plain_costs c.requires.tables _ c.tag_at.ensures c.if-tag_at-eq3.false); long_enough = c.requires.long_enough }
 
 pub returns : goal.returns
 returns c =

@@ -10,10 +10,10 @@ use Rattle.guided_seek.proofs.tables.fill_tables.Goals as goal
 pub fill_first_steps-requires : goal.fill_first_steps-requires
 fill_first_steps-requires c =
     let sorted = run_sorted c.requires.tables in
-    (c.requires.first_value, sorted.0, sorted.1)
+    (c.requires.no_first, sorted.0, sorted.1)
 
 pub estimate_nodes-requires : goal.estimate_nodes-requires
-estimate_nodes-requires c = record { by_node_len = ap (λ (l : List ℕ). length l) c.requires.by_node_value; tables = c.requires.tables }
+estimate_nodes-requires c = record { long_enough = ap (λ (l : List ℕ). length l) c.requires.no_node; tables = c.requires.tables }
 
 pub overflow_add-z : goal.overflow_add-z
 overflow_add-z c =
@@ -22,4 +22,4 @@ overflow_add-z c =
 pub fill_row_starts-requires : goal.fill_row_starts-requires
 fill_row_starts-requires c =
     let narrow = run_narrow c.requires.tables in
-    (c.requires.row_value, narrow.0, narrow.1)
+    (c.requires.no_row, narrow.0, narrow.1)
