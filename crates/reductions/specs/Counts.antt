@@ -25,8 +25,8 @@ use Rattle.chart.specs.Accepted.{chart_accepted}
 use Rattle.diagram.specs.Accepted.{diagram_accepted, diagram_unpadded}
 use Rattle.demands.specs.Counted.{pairs_only, pairs_once}
 use Rattle.demands.specs.Demands.{rules_read, sweep_call, Reached, Searched}
-use Rattle.demands.specs.Demanded.{sweep_promised, swept_count}
-use Rattle.demands.specs.Results.{searched_passes}
+use Rattle.demands.proofs.Demanded.{sweep_promised, swept_count}
+use Rattle.demands.proofs.Results.{searched_passes}
 use Rattle.reduction_theory.specs.Advances.{advanced, advance_tree}
 use Rattle.reduction_theory.specs.Numbering.{get_d_member, member_position}
 use Rattle.reduction_theory.specs.Reduced.{trees_apart}

@@ -15,7 +15,7 @@ use Rattle.diagram.specs.Accepted.{diagram_accepted, strict_lenient}
 use Rattle.field_writer.specs.Sizes.{diagram_long}
 use Rattle.demands.specs.Demands.{Refusal, rules_read}
 use Rattle.demands.specs.Results.{refusal_is}
-use Rattle.demands.specs.Numbers.{files_own, lenient_own}
+use Rattle.demands.proofs.Numbers.{files_own, lenient_own}
 use Rattle.reductions.specs.Reductions.{reduction_small, SameSets, reduction_exactly}
 use Rattle.reductions.specs.Written.{Written, filed_short, filed_written, filed_number, Ended, stops, filed_ended, ended_free, ended_left, ended_long, ended_rest}
 
