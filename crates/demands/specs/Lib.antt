@@ -4,11 +4,4 @@ pub mod Checked
 pub mod Reached
 pub mod Counted
 pub mod Results
-pub mod Agreed
-pub mod Settled
-pub mod Demanded
-pub mod ConverseCall
-pub mod ConverseSweep
-pub mod ConverseLog
-pub mod Converse
 pub mod Concluded

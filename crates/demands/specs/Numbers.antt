@@ -8,7 +8,7 @@ use Rattle.std.proofs.Common.{sym, ◌∙◌, ap, subst}
 use Rattle.definitions.specs.Basics.{pick, has}
 use Rattle.definitions.specs.Fields.{two, part, Kind, only, or_remark, field_at, first_field, on_field, Grammar, Scan, stopped, scan}
 use Rattle.definitions.specs.Charts.{ChartRead, head_fault, step_fault, last_from, chart_refused, with_steps, step_grammar, scan_steps, read_chart, group_count, group_fault, last_group}
-use Rattle.definitions.specs.Diagrams.{InnerNode, no_node, node_fault, inner_node_of, strict, lenient, padding, node_fault_after, DiagramRead, diagram_refused, with_nodes, node_grammar, scan_nodes, read_diagram}
+use Rattle.definitions.specs.Diagrams.{InnerNode, no_node, node_fault, inner_node_of, padding, node_fault_after, DiagramRead, diagram_refused, with_nodes, node_grammar, scan_nodes, read_diagram}
 use Rattle.definitions.specs.Answers.{Load, ready, refused, read_files}
 use Rattle.definitions.specs.declared.Field.{Field}
 use Rattle.definitions.specs.declared.Field.TheVariants.{Absent, Faulty, Passed, Whole}
@@ -108,7 +108,7 @@ module _ (mode : Bool) where
             let body = part s a e in
             both OwnScan (eqb (g.fault before tag body) 0) (k e (before ++ g.holds before tag body ∷ [])) (fault-own before tag body)
 
-  chart_numbered : (s : List ℕ) → Own (read_chart s).number
+  pub chart_numbered : (s : List ℕ) → Own (read_chart s).number
   unfolding read_chart on_field
   chart_numbered s = go (first_field s (only 1 6)) (first_own s (only 1 6))
     where
@@ -126,7 +126,7 @@ module _ (mode : Bool) where
           both (λ (x : ChartRead). Own x.number) (eqb (head_fault b) 0)
           (scan_own s (step_grammar (two b 0)) (λ before tag b'. step_own (two b 0) tag (last_from before) (last_group before) (length before) b') (length s) e []) (head_own b)
 
-  rules_numbered : (s : List ℕ) (steps : ℕ) → Own (read_diagram mode s steps).number
+  pub rules_numbered : (s : List ℕ) (steps : ℕ) → Own (read_diagram mode s steps).number
   unfolding read_diagram on_field
   rules_numbered s steps = go (first_field s (only 17 2)) (first_own s (only 17 2))
     where
@@ -153,25 +153,3 @@ module _ (mode : Bool) where
 
   pub files_number : (chart rules : List ℕ) (number file place : ℕ) → read_files mode chart rules ≡ refused number file place → file_number mode number ≡ true
   files_number chart rules number file place e = subst OwnLoad e (load_own chart rules)
-
--- ---- so neither 7 nor 8, and 12 neither; 13 not where padding is taken
-
-after_files : (mode : Bool) → (file_number mode 7 ≡ false) × (file_number mode 8 ≡ false) × (file_number mode 12 ≡ false)
-after_files true = (refl, refl, refl)
-after_files false = (refl, refl, refl)
-
-pub chart_own : (s : List ℕ) → ((read_chart s).number ≡ 7 → ⊥) × ((read_chart s).number ≡ 8 → ⊥)
-chart_own s = let n = chart_numbered strict s in (no_file strict _ 7 n refl, no_file strict _ 8 n refl)
-
-pub rules_own : (s : List ℕ) (steps : ℕ) → ((read_diagram strict s steps).number ≡ 7 → ⊥) × ((read_diagram strict s steps).number ≡ 8 → ⊥)
-rules_own s steps = let n = rules_numbered strict s steps in (no_file strict _ 7 n refl, no_file strict _ 8 n refl)
-
-pub files_own : (mode : Bool) (chart rules : List ℕ) (number file place : ℕ) → read_files mode chart rules ≡ refused number file place
-    → (number ≡ 7 → ⊥) × (number ≡ 8 → ⊥) × (number ≡ 12 → ⊥)
-files_own mode chart rules number file place e =
-    let n = files_number mode chart rules number file place e in
-    let a = after_files mode in
-    (no_file mode number 7 n a.0, no_file mode number 8 n a.1, no_file mode number 12 n a.2)
-
-pub lenient_own : (chart rules : List ℕ) (number file place : ℕ) → read_files lenient chart rules ≡ refused number file place → number ≡ 13 → ⊥
-lenient_own chart rules number file place e = no_file lenient number 13 (files_number lenient chart rules number file place e) refl

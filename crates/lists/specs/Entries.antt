@@ -20,7 +20,7 @@ use Rattle.theory.specs.Logs.{log_long, log_alone}
 use Rattle.chart.specs.Accepted.{chart_accepted}
 use Rattle.checks.specs.Outcome.{chart_refused_lem, rules_refused, files_passed, files_numbered, refused_not_ready, ready_left, ready_right, same_number, load_ready, load_work_lem}
 use Rattle.checks.specs.Heads.{valid_headed}
-use Rattle.demands.specs.Numbers.{files_own}
+use Rattle.demands.proofs.Numbers.{files_own}
 use Rattle.lists.specs.Heads.{with_head, headed_reads}
 
 -- ---- an entry and the answer of a guided search

@@ -3,7 +3,7 @@
 use Rattle.std.specs.Prelude.{List, ℕ}
 use Rattle.definitions.specs.Promises.{SweepSlices, SweepCall, GuidedSlices, GuidedCall}
 use Rattle.demands.specs.Demands.{Demands}
-use Rattle.demands.specs.Demanded.{demanded}
+use Rattle.demands.proofs.Demanded.{demanded}
 use Rattle.planner.specs.declared.Answers.{Answers}
 
 -- both files, the slices lent to the sweep and to the guided search before and after, and both answers

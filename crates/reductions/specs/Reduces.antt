@@ -1,6 +1,6 @@
 -- What a caller concludes from the promise of a call that reduces a file (`ReduceCall`), over the files, the buffer and the answer alone.
 -- Assumes nothing.
-use Rattle.std.specs.Prelude.{ℕ, ◌≤◌, ◌<◌, ◌≡◌, refl, List, ◌↔◌, length, drop}
+use Rattle.std.specs.Prelude.{ℕ, ◌≤◌, ◌<◌, ◌≡◌, refl, List, length, drop}
 use Rattle.std.proofs.Common.{sym, ◌∙◌, subst, arith}
 use Rattle.definitions.specs.Answers.{Load, ready, refused, read_files, Filed}
 use Rattle.definitions.specs.Bytes.{diagram_bytes}
@@ -15,8 +15,8 @@ use Rattle.diagram.specs.Accepted.{diagram_accepted, strict_lenient}
 use Rattle.field_writer.specs.Sizes.{diagram_long}
 use Rattle.demands.specs.Demands.{Refusal, rules_read}
 use Rattle.demands.specs.Results.{refusal_is}
-use Rattle.demands.specs.Numbers.{files_own, lenient_own}
-use Rattle.reductions.specs.Reductions.{reduction_small, SameSets, reduction_exactly}
+use Rattle.demands.proofs.Numbers.{files_own, lenient_own}
+use Rattle.reductions.specs.Reductions.{reduction_small}
 use Rattle.reductions.specs.Written.{Written, filed_short, filed_written, filed_number, Ended, stops, filed_ended, ended_free, ended_left, ended_long, ended_rest}
 
 -- a diagram file, of which padding is taken, read for the chart of the chart file
@@ -118,13 +118,6 @@ module _ (chart rules out out' : List ℕ) (r : Answer) (promise : ReduceCall ch
       omega (arith, q, (filed_written (bytes chart rules) out out' r (filed f) (omega (arith, diagram_long (made chart rules), reduction_small _ _ sound, sound.few))).number))
       (λ b. (files_own lenient chart rules _ _ _ (rules_refused lenient chart rules c b)).0 (sym (rules_bad c b).0.number ∙ q)))
       (λ b. (files_own lenient chart rules _ _ _ (chart_refused_lem lenient chart rules b)).0 (sym (chart_bad b).0.number ∙ q))
-
--- Two files over one chart, padding aside accepted, have the same reduction, byte for byte, exactly if they say yes to the same sets of the chart's steps
-pub files_exactly : (chart rules more : List ℕ) → Files chart rules → Files chart more
-    → (bytes chart rules ≡ bytes chart more) ↔ SameSets (group_count (read_chart chart).chart) (rules_held chart rules).diagram (rules_held chart more).diagram
-files_exactly chart rules more f g =
-    let n = group_count (read_chart chart).chart in
-    reduction_exactly n (rules_held chart rules).diagram (rules_held chart more).diagram (diagram_accepted lenient rules n f.rules_pass) (diagram_accepted lenient more n g.rules_pass)
 
 -- a file that is accepted strictly holds the same diagram when padding is taken
 pub held_strict : (chart rules : List ℕ) → (rules_read chart rules).number ≡ 0 → rules_held chart rules ≡ rules_read chart rules

@@ -1,8 +1,8 @@
 -- The reduction of a diagram over a chart, for a reader: it is reduced, it says yes to the same sets, nothing else is and does, it has no more nodes than the diagram, its
 -- file is taken by every call, and it allows the same plans. The diagrams are any within the limits of the file (`Sound`), padded or not.
 -- Assumes nothing.
-use Rattle.std.specs.Prelude.{ℕ, ◌≤◌, ◌<◌, ◌≡◌, refl, Bool, true, false, ◌&&◌, List, [], map, ◌↔◌, ltb, length}
-use Rattle.std.proofs.Common.{sym, ◌∙◌, arith, lt-ltb, le-ltb}
+use Rattle.std.specs.Prelude.{ℕ, ◌≤◌, ◌<◌, ◌≡◌, refl, Bool, true, false, ◌&&◌, List, [], map, ◌↔◌, length}
+use Rattle.std.proofs.Common.{sym, ◌∙◌, arith}
 use Rattle.std.proofs.Math.Path.{ap}
 use Rattle.std.proofs.Math.Dec.{eqb}
 use Rattle.definitions.specs.Basics.{has}
@@ -17,7 +17,7 @@ use Rattle.theory.specs.Limits.{Ordered, Sound}
 use Rattle.reduction_theory.specs.Reduced.{reduced_arrives}
 use Rattle.reduction_theory.specs.Expansion.{reduced_of_ordered, reduced_of_reduced, reduced_of_steps, reduced_of_accepts, accepts_local, both_local, reduction_pruned}
 use Rattle.reduction_theory.specs.Sizes.{pruned_small}
-use Rattle.reductions.specs.Reduced.{reduced_same, reduced_read, bytes_same}
+use Rattle.reductions.specs.Reduced.{reduced_same, reduced_read}
 
 -- ---- the reduction as a diagram
 
@@ -100,32 +100,6 @@ reduction_joined n d p =
 -- they say yes to the same sets of its groups
 abbrev pub SameSets : ℕ → Diagram → Diagram → Type 0
 SameSets n d e = (s : ℕ → Bool) → ((j : ℕ) → n ≤ j → s j ≡ false) → accepts d s ≡ accepts e s
-
--- a set without what is no group of the chart
-unfoldable within : ℕ → (ℕ → Bool) → ℕ → Bool
-within n s j = ltb j n && s j
-
-within_below : (n : ℕ) (s : ℕ → Bool) (j : ℕ) → j < n → s j ≡ within n s j
-unfolding within
-within_below n s j h = rw (lt-ltb j n h)
-
-within_past : (n : ℕ) (s : ℕ → Bool) (j : ℕ) → n ≤ j → within n s j ≡ false
-unfolding within
-within_past n s j h = rw (le-ltb j n h)
-
-module _ (n : ℕ) (d e : Diagram) (p : Sound n d) (q : Sound n e) where
-  -- and so to the same sets altogether
-  pub sets_all : SameSets n d e → (s : ℕ → Bool) → accepts d s ≡ accepts e s
-  sets_all a s =
-      accepts_local n d p s (within n s) (within_below n s) ∙ a (within n s) (within_past n s) ∙ sym (accepts_local n e q s (within n s) (within_below n s))
-
-  -- the same reduction, byte for byte, exactly if they say yes to the same sets of the chart's steps
-  pub reduction_exactly : (diagram_bytes (reduction n d) ≡ diagram_bytes (reduction n e)) ↔ SameSets n d e
-  reduction_exactly = (
-    λ b s i. sym (reduction_accepts n d p s)
-        ∙ ap (λ (x : Diagram). accepts x s) (bytes_same n (reduction n d) (reduction_sound n d p) (reduction n e) (reduction_sound n e q) b) ∙ reduction_accepts n e q s,
-    λ a. ap diagram_bytes (reduction_unique n e q (reduction n d) (reduction_ordered n d) (reduction_reduced n d) (λ s. reduction_accepts n d p s ∙ sets_all a s)),
-  )
 
 -- ---- plans
 

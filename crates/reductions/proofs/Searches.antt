@@ -17,7 +17,7 @@ use Rattle.theory.specs.Basics.{either, lt_or_le, same_or_not}
 use Rattle.theory.specs.Limits.{Sound}
 use Rattle.diagram.specs.Accepted.{diagram_accepted}
 use Rattle.checks.specs.Outcome.{files_passed, load_ready}
-use Rattle.demands.specs.Demanded.{outcome_count}
+use Rattle.demands.proofs.Demanded.{outcome_count}
 use Rattle.reductions.specs.Reductions.{reduction_accepts, reduction_read, reduction_twice, reduction_legal, reduction_cheapest}
 use Rattle.reductions.specs.Written.{Written, written_is}
 use Rattle.reductions.specs.Reduces.{rules_held, made, bytes, Files, Reduces, reduces}

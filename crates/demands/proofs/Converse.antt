@@ -10,11 +10,12 @@ use Rattle.definitions.specs.Promises.{Outcome, Swept, Guided, SweepSlices, Guid
 use Rattle.definitions.specs.declared.Answer.{Answer}
 use Rattle.theory.specs.Limits.{Valid}
 use Rattle.demands.specs.Demands.{Call, sweep_call, guided_call, Passes, Demand1, Demand2, Cheapest, Sweeps, Settles, Demands}
-use Rattle.demands.specs.Checked.{ready_passes, valid}
-use Rattle.demands.specs.ConverseCall.{stopped, scratch, outcome}
-use Rattle.demands.specs.ConverseSweep.{count_is, costs_are}
-use Rattle.demands.specs.ConverseLog.{logged_is}
-use Rattle.demands.specs.Demanded.{demanded}
+use Rattle.demands.specs.Checked.{valid}
+use Rattle.demands.proofs.Checked.{ready_passes}
+use Rattle.demands.proofs.ConverseCall.{stopped, scratch, outcome}
+use Rattle.demands.proofs.ConverseSweep.{count_is, costs_are}
+use Rattle.demands.proofs.ConverseLog.{logged_is}
+use Rattle.demands.proofs.Demanded.{demanded}
 
 -- ---- the sweep
 

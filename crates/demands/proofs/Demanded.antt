@@ -12,11 +12,13 @@ use Rattle.definitions.specs.Promises.{Outcome, Scratch, SweepSlices, GuidedSlic
 use Rattle.definitions.specs.declared.Answer.{Answer}
 use Rattle.theory.specs.Limits.{Valid}
 use Rattle.demands.specs.Demands.{Call, sweep_call, guided_call, need, Passes, StaysFrom, Searched, Sweeps, Settles, Demands}
-use Rattle.demands.specs.Checked.{load_of, passes_ready, ready_passes, valid}
+use Rattle.demands.specs.Checked.{load_of, valid}
+use Rattle.demands.proofs.Checked.{passes_ready, ready_passes}
 use Rattle.demands.specs.Counted.{pairs_all, pairs_only, pairs_once, cost_least, cost_unreached, cost_past}
-use Rattle.demands.specs.Results.{Promised, demand_1, demand_2, is_cheapest}
-use Rattle.demands.specs.Agreed.{same_pass, agreed}
-use Rattle.demands.specs.Settled.{settles, log_past}
+use Rattle.demands.specs.Results.{Promised}
+use Rattle.demands.proofs.Results.{demand_1, demand_2, is_cheapest}
+use Rattle.demands.proofs.Agreed.{same_pass, agreed}
+use Rattle.demands.proofs.Settled.{settles, log_past}
 
 -- past the slices of a list there is nothing
 nothing : (n : ℕ) → StaysFrom n [] []

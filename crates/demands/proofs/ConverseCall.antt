@@ -14,8 +14,9 @@ use Rattle.theory.specs.Least.{IsLeast}
 use Rattle.checks.specs.Outcome.{refused_not_ready}
 use Rattle.theory.specs.Plans.{LegalCost, cheapest_least}
 use Rattle.demands.specs.Demands.{Call, Passes, Refusal, Demand1, Given, NoPlan, Demand2, Cheapest, Searched}
-use Rattle.demands.specs.Numbers.{chart_own, rules_own}
-use Rattle.demands.specs.Checked.{load_of, Judged, chart_bad, rules_bad, too_short, all_pass, judged, ready_passes, valid, held_alike}
+use Rattle.demands.proofs.Numbers.{chart_own, rules_own}
+use Rattle.demands.specs.Checked.{load_of, Judged, chart_bad, rules_bad, too_short, all_pass, valid, held_alike}
+use Rattle.demands.proofs.Checked.{judged, ready_passes}
 use Rattle.demands.specs.Results.{Promised}
 
 -- ---- answers and slices

@@ -25,16 +25,17 @@ use Rattle.chart.specs.Accepted.{chart_accepted}
 use Rattle.diagram.specs.Accepted.{diagram_accepted, diagram_unpadded}
 use Rattle.demands.specs.Counted.{pairs_only, pairs_once}
 use Rattle.demands.specs.Demands.{rules_read, sweep_call, Reached, Searched}
-use Rattle.demands.specs.Demanded.{sweep_promised, swept_count}
-use Rattle.demands.specs.Results.{searched_passes}
+use Rattle.demands.proofs.Demanded.{sweep_promised, swept_count}
+use Rattle.demands.proofs.Results.{searched_passes}
 use Rattle.reduction_theory.specs.Advances.{advanced, advance_tree}
 use Rattle.reduction_theory.specs.Numbering.{get_d_member, member_position}
 use Rattle.reduction_theory.specs.Reduced.{trees_apart}
 use Rattle.reduction_theory.specs.Reduction.{tree_leaf, same_trees}
 use Rattle.reduction_theory.specs.Trees.{tree}
-use Rattle.reductions.specs.Reductions.{SameSets, sets_all}
+use Rattle.reductions.specs.Reductions.{SameSets}
+use Rattle.reductions.proofs.Reductions.{sets_all}
 use Rattle.reductions.specs.Reduces.{held_strict}
-use Rattle.reductions.specs.Searches.{reduced_file, reduced_file_lem, reduced_means}
+use Rattle.reductions.proofs.Searches.{reduced_file, reduced_file_lem, reduced_means}
 
 -- the node of a tree, among a diagram's nodes
 node_of_lem : Diagram → Tree → ℕ

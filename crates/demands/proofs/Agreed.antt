@@ -5,8 +5,10 @@ use Rattle.std.proofs.Common.{sym, ◌∙◌, inl, inr, arith}
 use Rattle.definitions.specs.Charts.{Chart}
 use Rattle.definitions.specs.Diagrams.{Diagram}
 use Rattle.demands.specs.Demands.{Call, Files, Passes, Refusal, Searched, Agree}
-use Rattle.demands.specs.Checked.{load_of, Judged, chart_bad, rules_bad, too_short, all_pass, judged, chart_load, rules_load, held_alike}
-use Rattle.demands.specs.Results.{Promised, Found, Lacks, ends, searched_passes, answer_is, demand_1}
+use Rattle.demands.specs.Checked.{load_of, Judged, chart_bad, rules_bad, too_short, all_pass, chart_load, rules_load, held_alike}
+use Rattle.demands.proofs.Checked.{judged}
+use Rattle.demands.specs.Results.{Promised, Found, Lacks}
+use Rattle.demands.proofs.Results.{ends, searched_passes, answer_is, demand_1}
 
 -- both were searched
 alike : (x y : Call) (c : Chart) (d : Diagram) → Found x c d ⊎ Lacks x c d → Found y c d ⊎ Lacks y c d

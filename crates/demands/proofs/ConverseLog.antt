@@ -16,8 +16,8 @@ use Rattle.theory.specs.Limits.{Valid}
 use Rattle.demands.specs.Demands.{At, Sum, Follows, Settles}
 use Rattle.demands.specs.Reached.{reached_is, is_sum, sum_is, is_goal_pair, goal_pair_is, next_is}
 use Rattle.demands.specs.Counted.{pairs_all}
-use Rattle.demands.specs.ConverseCall.{Cut, cut}
-use Rattle.demands.specs.ConverseSweep.{apart, no_longer}
+use Rattle.demands.proofs.ConverseCall.{Cut, cut}
+use Rattle.demands.proofs.ConverseSweep.{apart, no_longer}
 
 module _ (c : Chart) (d : Diagram) (v : Valid (graph c)) (log log' : List ℕ) (r : Answer) (s : Settles c d log log' r) where
   abbrev entries : List ℕ

@@ -1,0 +1,11 @@
+pub mod Numbers
+pub mod Checked
+pub mod Results
+pub mod Agreed
+pub mod Settled
+pub mod Demanded
+pub mod ConverseCall
+pub mod ConverseSweep
+pub mod ConverseLog
+pub mod Converse
+pub mod Concluded
