@@ -14,7 +14,7 @@ is told with its page and line, and the exit status is 1. What is told apart:
     `fields::reader::next`              an item of the code of a crate (or a type or module of rust/)
     `Found.below`                       a field of a record, or a name of a file of specs/
     `Fields`: `two`, `four`             names of a file of specs/ or of a crate, where a colon follows its name
-    `scan`, `says-yes-stands`           any item, field, file or crate of the tree
+    `scan`, `says_yes_stands`           any item, field, file or crate of the tree
     `[NONE; 256]`, `plan.new`           an expression: each of its words stands somewhere in the code
 """
 import re
