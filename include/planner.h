@@ -81,7 +81,7 @@ enum {
 #define PLANNER_MOST_PAIRS 262144
 #define PLANNER_MOST_FILE 4595
 
-/* Bytes of stack that are enough for any call. Measured peaks, the same for all files (docs/PERFORMANCE-TABLES.md):
+/* Bytes of stack that are enough for any call. Peaks measured with an older kit, the same for all files (docs/PERFORMANCE-TABLES.md):
  * planner_sweep 16,136, planner_guided 18,792, planner_cycles 18,728, planner_both 19,368, planner_conjoin 21,128,
  * planner_reduce 21,000, planner_space_needed 12,792, planner_refused_field 88. */
 #define PLANNER_STACK 32768

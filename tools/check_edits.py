@@ -1,13 +1,14 @@
 #!/usr/bin/env python3
 """Checks the must-fail edits in a second, before the gate tries them: every old text stands exactly once in its file and ends no
-comment early, and after the gate, that each was refused because a fact fails.
+comment early; and after the gate, that each was refused because a fact fails.
 
-    tools/check_edits.py             the texts
-    tools/check_edits.py --refused   what the last gate left under target/must-fail
+    tools/check_edits.py                  the texts
+    tools/check_edits.py --refused FILE   what `.ci/run`, `rt ci` or `rt must-fail` of all crates printed, kept in FILE
 
-An edit whose proof file merely no longer fits the code ("has no `Need-..`") is refused as well and shows nothing. What is
+An edit that is refused only because a proof file names what it took away, or by a limit of the prover, shows nothing. What is
 wrong is told a line each, and the exit status is 1.
 """
+import re
 import sys
 from pathlib import Path
 
@@ -45,24 +46,41 @@ def faults(edit, crate):
         yield "it has no old and new text"
 
 
-def unfit(edit, crate):
-    """Whether the last gate's check of an edit says that the edited program is none, or that its proof file does not fit."""
-    log = ROOT / "target/must-fail" / crate.name / edit.stem / ".log"
-    said = log.read_text(errors="replace") if log.is_file() else ""
-    if not said:
+# What rt says of a refusal that shows nothing, and of an edit that is not refused.
+UNFIT = {
+    "refused, as it must be (only because a proof file": "refused only because a proof file names what it took away",
+    "refused, as it must be (only by a limit": "refused only by a limit of the prover",
+    "NOT REFUSED": "not refused",
+    "BAD EDIT": "it cannot be applied, or it did not reach the prover",
+    "NOT TRIED": "the gate could not try it",
+}
+
+
+def said_of(lines):
+    """What the gate said of each edit, by its crate and name."""
+    found = (re.search(r"\bmust-fail (\S+)/(\S+)\.edit: (.*)", line) for line in lines)
+    return {(it[1], it[2]): it[3] for it in found if it}
+
+
+def unfit(said, edit, crate):
+    """Why the gate's word on an edit shows nothing of its crate's contracts."""
+    text = said.get((crate.name, edit.stem))
+    if text is None:
         yield "the gate has not tried it"
-    elif "logic=not-proved" not in said:
-        yield "it did not reach the prover"
-    elif "has no `Need-" in said:
-        yield "refused only because its proof file does not fit the code"
+    yield from [what for begin, what in UNFIT.items() if text and text.startswith(begin)]
 
 
 def main(words):
-    if words not in ([], ["--refused"]):
+    if words and (len(words) != 2 or words[0] != "--refused"):
         print(__doc__, file=sys.stderr)
         return 2
-    look = unfit if words else faults
-    found = [f"{edit.relative_to(ROOT)}: {what}" for edit, crate in edits() for what in look(edit, crate)]
+    if words:
+        said = said_of(Path(words[1]).read_text(errors="replace").splitlines())
+    found = [
+        f"{edit.relative_to(ROOT)}: {what}"
+        for edit, crate in edits()
+        for what in (unfit(said, edit, crate) if words else faults(edit, crate))
+    ]
     print("\n".join(found + [f"{len(edits())} edits, {len(found)} at fault"]))
     return 1 if found else 0
 

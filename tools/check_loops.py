@@ -4,8 +4,8 @@
     tools/check_loops.py            the check, and that it tells wrong programs (trials)
     tools/check_loops.py --list     also the functions that run in the loops, with what they multiply and divide by
 
-It reads the sources as the compiler does (rt mir): there each operator and call stands by itself, with the whole name of what
-is called and the value of each constant. A search is sweep::sweep or guided::guided with all that it calls, the trace-back too,
+It reads the sources as the prover does (rt check --generated): there each operator and call stands by itself, with the whole name of
+what is called and the value of each constant. A search is sweep::sweep or guided::guided with all that it calls, the trace-back too,
 but for checks::load, which reads the files before. In its loops run the loops of these functions, and the whole of every
 function that is called in one or that calls itself. There every product, quotient and remainder is by a constant of CONSTANTS,
 on its right side; the index of an entry, times its bytes (SIZES), is left out. The table of row starts is filled outside of all
@@ -16,9 +16,13 @@ neither is reached.
 
 What is wrong is told a line each, and the exit status is 1. Needs rt.
 """
+import os
 import re
 import subprocess
 import sys
+import tempfile
+from concurrent.futures import ThreadPoolExecutor
+from functools import cache
 from pathlib import Path
 
 ROOT = Path(__file__).resolve().parent.parent
@@ -65,8 +69,40 @@ def parse(text):
             last = stack.pop()
             stack[-1].append(last)
         else:
-            stack[-1].append(word)
-    return stack[0]
+            stack[-1].append(word.removeprefix("Syntax."))
+    return stack[0][0] if len(stack[0]) == 1 else stack[0]
+
+
+def read_code(text, names):
+    """The body of a function that rt writes as definitions, each of a part of it; a call has the function's whole name."""
+    parts = {name: body for name, body in re.findall(r"^abbrev pub (\S+) : [^\n]*\n\1 =(.*?)(?=\n\n|\Z)", text, re.M | re.S)}
+    called = {}
+    for crate, at, alias in re.findall(r"^use Rattle\.(\w+)\.proofs\.(\S+)\.Symbol(?: as (\S+))?$", text, re.M):
+        called[f"{alias or 'Symbol'}.name"] = names.get((crate, at), f"{crate}::{at}")
+
+    def whole(node):
+        if isinstance(node, list):
+            return [whole(part) for part in node]
+        if node in called:
+            return ["direct", ["fnRef", f'"{called[node]}"']]
+        return whole(parse(parts[node])) if node in parts else node
+
+    function = parts.get("by_name") or parts["function"]
+    return whole(re.search(r"\bbody = (\S+);", function)[1])
+
+
+def read_names(crate, contracts):
+    """The whole name of each function of a crate, by the crate and each path by which it can be named."""
+    names, same = {}, {}
+    for file in contracts.rglob("Key.antt"):
+        text, at = file.read_text(), (crate, ".".join(file.parent.relative_to(contracts).parts))
+        named = re.search(r'^symbol = "(.*)"$', text, re.M)
+        other = re.search(r"^pub use Rattle\.(\w+)\.specs\.contracts\.(\S+)\.Key\.", text, re.M)
+        if named:
+            names[at] = named[1]
+        elif other:
+            same[at] = other.groups()
+    return names | {at: names[other] for at, other in same.items() if other in names}
 
 
 def walk(tree):
@@ -80,7 +116,7 @@ def walk(tree):
 
 
 def members(chain):
-    """The members of a list that is written (lcons a (lcons b lnil))."""
+    """The members of a list that is written (cons a (cons b nil))."""
     while isinstance(chain, list):
         yield chain[1]
         chain = chain[2]
@@ -99,7 +135,7 @@ def operator(value):
 
 
 def constant(operand):
-    return int(operand[2]) if operand[0] == "int" else None
+    return int(operand[2]) if operand[0] in ("int", "int_big") else None
 
 
 class Function:
@@ -133,8 +169,8 @@ class Function:
         found = set(tables)
         for _ in self.assigned:
             for to, value, _ in self.assigned:
-                source = value[2] if operator(value) == "offset" else value[1] if value[0] in ("addrOf", "rvOpd") else None
-                whole = source and (value[0] == "addrOf" or source[-1][-1:] == ["lnil"])
+                source = value[2] if operator(value) == "offset" else value[1] if value[0] in ("addr_of", "rv_opd") else None
+                whole = source and (value[0] == "addr_of" or source[-1][-1:] == ["List.[]"])
                 if whole and local(source) in found:
                     found.add(to)
         return found
@@ -179,7 +215,7 @@ class Search:
         """The functions that the filled table is handed to, each with its locals that hold it."""
         holder = self.program[self.holder]
         lent = self.handed(self.holder, self.fills[0])
-        tables = {self.holder: {local(value) for to, value, _ in holder.assigned if to in lent and value[0] == "addrOf"}}
+        tables = {self.holder: {local(value) for to, value, _ in holder.assigned if to in lent and value[0] == "addr_of"}}
         left = [self.holder]
         while left:
             name = left.pop()
@@ -254,7 +290,7 @@ def list_trials(codes):
 
 def trials(search, codes):
     """Changes of lists of a search, each as (function, list, place, what takes the place)."""
-    others = (["copy", ["place", "1", "lnil"]], ["int", "64", "510"])
+    others = (["copy", ["place", "1", "List.[]"]], ["int", "w64", "510"])
     for name in sorted(search.inside):
         for node, looped in walk(codes[name]):
             if not (looped or name in search.looped):
@@ -264,7 +300,7 @@ def trials(search, codes):
             elif operator(node) in ("add", "sub") and constant(node[3]) is None:
                 yield from ((name, node, 1, [factor, "unsigned"]) for factor in ("mul", "div", "rem", "shl"))
             elif operator(node) in FACTORS and constant(node[3]) in CONSTANTS:
-                sizes = [["int", "64", "4"]] if constant(node[3]) not in SIZES else []
+                sizes = [["int", "w64", str(size)] for size in SIZES - CONSTANTS.keys()] if constant(node[3]) not in SIZES else []
                 yield from ((name, node, 3, by) for by in (*others, *sizes))
     for name in sorted(search.all & set(codes)):
         outside = name not in search.looped and None in search.program[name].factors(True)
@@ -275,7 +311,7 @@ def trials(search, codes):
         leading = search.program[name].leading(search.tables[name])
         for node, _ in walk(codes[name]):
             if operator(node) == "offset" and local(node[2]) in leading:
-                yield name, node, 2, ["copy", ["place", "0", "lnil"]]
+                yield name, node, 2, ["copy", ["place", "0", "List.[]"]]
     for caller, fill in search.filling():
         for node, _ in list(walk(codes[caller])):
             if node[:1] == ["seq"] and node[1][:1] == ["call"] and fill in str(node[1][1]):
@@ -296,14 +332,41 @@ def missed(program, codes, tries, faults):
     return count, left
 
 
+def used():
+    """What each crate of crates.txt uses of this repository, by its name."""
+    lines = [line.partition(":") for line in (ROOT / "crates.txt").read_text().splitlines() if ":" in line and line[0] != "#"]
+    names = [line[0].split()[0] for line in lines]
+    return {name: [word for word in line[2].split() if word in names] for name, line in zip(names, lines)}
+
+
+@cache
+def generated(crate):
+    """What rt writes of a crate: the names of its functions, and the text of each one's code."""
+    with tempfile.TemporaryDirectory() as folder:
+        said = subprocess.run(["rt", "check", "--generated", folder], cwd=ROOT / "crates" / crate, capture_output=True, text=True)
+        proofs, contracts = (Path(folder) / f"Rattle-{crate}-{part}" for part in ("proofs", "specs/contracts"))
+        if said.returncode != 0 or not proofs.is_dir():
+            raise OSError(f"rt check --generated failed in crates/{crate}:\n{said.stdout[-2000:]}{said.stderr[-2000:]}")
+        files = {".".join(file.parent.parent.relative_to(proofs).parts): file.read_text() for file in proofs.rglob("Code/Mir.antt")}
+        return read_names(crate, contracts), files
+
+
 def code_of(crate):
     """The code of each function of a crate and of those below it."""
-    said = subprocess.run(["rt", "mir", crate], cwd=ROOT, capture_output=True, text=True)
-    if said.returncode != 0:
-        print(f"rt mir {crate} failed:\n{said.stdout[-2000:]}{said.stderr[-2000:]}", file=sys.stderr)
+    uses, crates, left = used(), [], [crate]
+    while left:
+        name = left.pop()
+        if name not in crates:
+            crates.append(name)
+            left += uses[name]
+    try:
+        with ThreadPoolExecutor(os.cpu_count()) as pool:
+            found = dict(zip(crates, pool.map(generated, crates)))
+    except OSError as error:
+        print(error, file=sys.stderr)
         sys.exit(2)
-    parts = (node for node, _ in walk(parse(said.stdout)) if node[:1] == ["fn-def"])
-    return {node[1].strip('"'): node[2][5] for node in parts}
+    names = {at: name for known, _ in found.values() for at, name in known.items()}
+    return {names[it, at]: read_code(text, names) for it in sorted(crates) for at, text in found[it][1].items()}
 
 
 def main(words):
@@ -317,7 +380,7 @@ def main(words):
         search = Search(program, crate)
         print(f"{search.root}: {len(search.inside)} functions run in its loops")
         for name, by in sorted(search.inside.items()) if words else []:
-            print(f"    {name}{'' if name in search.looped else ', its loop'}{f': by {sorted(set(by))}' if by else ''}")
+            print(f"    {name}{'' if name in search.looped else ', its loop'}{f': by {sorted(set(by), key=str)}' if by else ''}")
         count, left = missed(program, codes, trials(search, codes), lambda changed: Search(changed, crate).faults())
         faults += [*search.faults(), *left]
         tried += count

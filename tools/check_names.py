@@ -1,7 +1,8 @@
 #!/usr/bin/env python3
 """Checks that every file, function, definition and law that the pages name is in the tree.
 
-    tools/check_names.py             README.md, docs/*.md and the README.md of each folder
+    tools/check_names.py             README.md, docs/*.md and the README.md of each folder. Those that tell history
+                                     (docs/changes/, docs/PORT*.md) name what there was at their time, and are left out
     tools/check_names.py PAGE...     these pages
 
 Looked at, in each page: what stands between backquotes, the paths in blocks of code, the targets of links, and the sections
@@ -13,8 +14,8 @@ is told with its page and line, and the exit status is 1. What is told apart:
     `fields::reader::next`              an item of the code of a crate (or a type or module of rust/)
     `Found.below`                       a field of a record, or a name of a file of specs/
     `Fields`: `two`, `four`             names of a file of specs/ or of a crate, where a colon follows its name
-    `scan`, `says-yes-stands`           any item, field, file or crate of the tree
-    `take count`, `[NONE; 256]`         an expression: each of its words stands somewhere in the code
+    `scan`, `says_yes_stands`           any item, field, file or crate of the tree
+    `[NONE; 256]`, `plan.new`           an expression: each of its words stands somewhere in the code
 """
 import re
 import subprocess
@@ -29,7 +30,7 @@ COMMANDS = {"rt", "cargo", "rustc", "cc", "ulimit", "printf", "python3"}
 # words of the languages, of the machine and of the C library
 OUTSIDE = {
     "requires", "ensures", "now", "entry", "exit", "main", "match", "switch", "default", "non_exhaustive", "Vec", "Ok", "Err", "None",
-    "memcpy", "memset", "errno", "PATH", "SIGPIPE", "SIGSEGV",
+    "memcpy", "memset", "errno", "PATH", "SIGSEGV", "std",
 }
 CODE = {".rt", ".antt", ".rs", ".py", ".h", ".c", ".toml", ".bash", ""}
 COMMENT = {".antt": r"--.*", ".py": r"#.*|\"{3}[\s\S]*?\"{3}", ".toml": r"#.*", ".bash": r"#.*", "": r"#.*"}
@@ -105,7 +106,7 @@ def code_files(name):
 def crates():
     """What each crate of crates.txt uses, by its name."""
     lines = [line.partition(":") for line in (ROOT / "crates.txt").read_text().splitlines() if ":" in line and not line.startswith("#")]
-    return {name.strip(): deps.split() for name, _, deps in lines}
+    return {name.split()[0]: deps.split() for name, _, deps in lines}
 
 
 @cache
@@ -124,6 +125,11 @@ def sections():
     """The numbers of the sections and rows of docs/REFERENCE.md, by their anchors."""
     page = ROOT / "docs/REFERENCE.md"
     return set(re.findall(r'<a id="s([\d.]+)">', page.read_text())) if page.exists() else set()
+
+
+def is_history(page):
+    """Whether a page tells what was, so that its names need not be in the tree."""
+    return page.parts[:2] == ("docs", "changes") or page.match("docs/PORT*.md")
 
 
 # ---- what is wrong with a name, or None
@@ -194,6 +200,8 @@ def wrong(name, page):
         return wrong_item(name)
     if re.fullmatch(rf"[A-Z]{WORD[len('[A-Za-z_]'):]}\.{WORD}", name):
         return wrong_member(name)
+    if re.fullmatch(rf"{WORD}\.(now|old|new|entry)", name):
+        return wrong_expression(name)
     if PATH.fullmatch(name.partition(":")[0]) and ("/" in name or re.search(r"\.\w+$", name)):
         return wrong_path(name, page)
     return wrong_expression(name)
@@ -271,7 +279,7 @@ def main():
     if any(arg.startswith("-") for arg in sys.argv[1:]):
         sys.exit(__doc__)
     pages = [Path(arg).resolve() for arg in sys.argv[1:]]
-    pages = pages or [ROOT / f for f in files() if f.name == "README.md" or (f.suffix == ".md" and f.parts[0] == "docs")]
+    pages = pages or [ROOT / f for f in files() if f.name == "README.md" or (f.suffix == ".md" and f.parts[0] == "docs" and not is_history(f))]
     found = [(page.relative_to(ROOT), *entry) for page in sorted(pages) for entry in look_at(page)] + list(cited())
     of_all = [page for page in (ROOT / "README.md", ROOT / "docs/ARCHITECTURE.md") if page in pages]
     found += [(page.relative_to(ROOT), *entry) for page in of_all for entry in unnamed_crates(page)]

@@ -40,7 +40,7 @@ held_steps count t = map (held_step t) (upto count)
 abbrev pub chart_in : Shape → Steps → Chart
 chart_in z t = record { stages = z.stages; start = z.start.0; end = z.end.0; steps = held_steps z.steps t }
 
--- the table has two columns of 1,024 entries, as its type says. (Behind a reference to an array a proof does not know the length.)
+-- the table has two columns of 1,024 entries, as its type says.
 pub record Room (packed : List (List ℕ)) : Type 0 where
   pub columns : length packed ≡ 2
   pub ends : length (ends_in packed) ≡ 1024

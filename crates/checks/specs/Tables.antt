@@ -36,7 +36,7 @@ diagram_in z t = diagram.held_diagram z.root.0 z.nodes t.inner.step t.inner.lo t
 abbrev pub pairs_in : Shape → ℕ
 pairs_in z = z.stages * (z.nodes + 2)
 
--- each table has as many entries as its type says. (Behind a reference to an array a proof does not know the length.)
+-- each table has as many entries as its type says.
 pub record Room (steps : List (List ℕ)) (inner : List ℕ) : Type 0 where
   pub of_steps : chart.Room steps
   pub of_nodes : files.Room inner

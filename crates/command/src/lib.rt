@@ -1,7 +1,7 @@
 // The program's input and output: both files by their paths, and the text to standard output.
 #![tactic(auto)]
 
-ghost use Rattle.std.specs.Prelude.{◌≤◌, length};
+ghost use Rattle.std.specs.Prelude.{◌≡◌, ◌≤◌, length, take};
 
 use std::fs::File;
 use std::io::Read;
@@ -10,7 +10,8 @@ use std::str;
 
 // Reads until the buffer is full, the input ends or a read fails, and returns how many bytes it put at the buffer's start.
 fn read_full<F: Read>(file: &mut F, buf: &mut [u8]) -> usize
-    ensures { result ≤ length buf.new }
+    ensures within { result ≤ length buf.new }
+    ensures counted { result ≡ length (take result buf.new) }
 {
     let mut done = 0;
     while done < buf.len() {
@@ -25,7 +26,8 @@ fn read_full<F: Read>(file: &mut F, buf: &mut [u8]) -> usize
 // Reads the start of a file, as far as the buffer goes, and returns how many bytes it put there: 0 where the file can't
 // be opened or read.
 fn read_file<R: Files>(rt: &R, path: &[u8], buf: &mut [u8]) -> usize
-    ensures { result ≤ length buf.new }
+    ensures within { result ≤ length buf.new }
+    ensures counted { result ≡ length (take result buf.new) }
 {
     let Ok(path) = str::from_utf8(path) else {
         return 0;

@@ -13,7 +13,7 @@ use Rattle.diagram.specs.declared.reader.DiagramRead.{DiagramRead}
 abbrev pub nodes_held : ℕ → List ℕ → List InnerNode
 nodes_held count words = held_nodes count (nodes_in words).step (nodes_in words).lo (nodes_in words).hi
 
--- the table has 512 entries, as its type says. (Behind a reference to an array a proof does not know the length.)
+-- the table has 512 entries, as its type says.
 pub record Room (words : List ℕ) : Type 0 where
   pub long : length words ≡ 512
 

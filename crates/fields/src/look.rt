@@ -1,4 +1,4 @@
-// What stands at a place of a file. Plain slices and numbers, so the borrow checker covers all of it.
+// What stands at a place of a file, by functions over plain slices and numbers.
 ghost use Rattle.std.specs.Prelude.{◌≡◌, true, ℕ, ◌+◌, ◌*◌, ◌<◌, ◌^◌, length, get_or};
 ghost use Rattle.definitions.specs.Fields.{two, Kind, only, or_remark, field_at, first_field};
 ghost use Rattle.definitions.specs.declared.Field.TheVariants.{Faulty, Whole};

@@ -1,5 +1,5 @@
 // A reader of tagged fields: a file and a cursor. It is made, moved on to a place, and asked for the next field.
-// They are thin: the work is done by `next_field`, which takes a plain slice.
+// The functions here are thin: the work is done by `next_field`, which takes a plain slice.
 ghost use Rattle.std.specs.Prelude.{◌≡◌};
 ghost use Rattle.definitions.specs.Fields.{only, or_remark, field_at};
 

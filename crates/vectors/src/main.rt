@@ -6,7 +6,7 @@ ghost use Rattle.std.specs.Prelude.{◌≤◌, length, IfOk};
 
 mod joins;
 mod lend;
-mod reductions;
+mod reduced;
 mod script;
 mod searches;
 mod show;

@@ -1,6 +1,6 @@
 // A script of cases: commands that make a file, take it for the chart or a diagram, or show what a call answers.
 use crate::joins::show_join;
-use crate::reductions::show_reduced;
+use crate::reduced::show_reduced;
 use crate::searches::{show_guided, show_sweep};
 use crate::show::{show_chart, show_diagram, show_field};
 use script_files::read::{Command, line_end, part, read_command, rest_of_line};

@@ -1,4 +1,4 @@
--- `buffer::copy` meets its contract.
+-- The loop of `buffer::copy`: what holds at its head, and its measure.
 use Prim.Native.Nat.{◌-◌, ◌≤◌}
 use mathlib.Core.Path.{◌≡◌, refl}
 use borrow.Author.Rules.{rules}

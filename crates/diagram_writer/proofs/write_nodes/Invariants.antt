@@ -1,4 +1,4 @@
--- `diagram_writer::write_nodes` meets its contract.
+-- The loop of `diagram_writer::write_nodes`: what holds at its head, and its measure.
 use Prim.Native.Nat.{◌+◌, ◌-◌, ◌*◌, ◌≤◌}
 use mathlib.Core.Path.{◌≡◌}
 use lib.ListN.{length, take}

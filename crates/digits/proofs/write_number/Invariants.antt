@@ -1,4 +1,4 @@
--- `digits::write_number` meets its contract.
+-- The loop of `digits::write_number`: what holds at its head, and its measure.
 use Rattle.digits.proofs.Decimals.{Spelled}
 use Rattle.digits.proofs.write_number.Given as goal
 

@@ -1,4 +1,4 @@
--- `entries::clear` meets its contract.
+-- The loop of `entries::clear`: what holds at its head, and its measure.
 use Prim.Native.Nat.{◌-◌, ◌≤◌}
 use mathlib.Core.Path.{◌≡◌}
 use mathlib.Core.List.{◌++◌}

@@ -1,4 +1,4 @@
--- `field_bytes::write_numbers` meets its contract.
+-- The loop of `field_bytes::write_numbers`: what holds at its head, and its measure.
 use Prim.Native.Nat.{◌+◌, ◌-◌, ◌*◌, ◌≤◌}
 use mathlib.Core.Path.{◌≡◌}
 use lib.ListN.{length, take}

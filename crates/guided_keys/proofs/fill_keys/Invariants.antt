@@ -1,4 +1,4 @@
--- `guided_keys::fill_keys` meets its contract.
+-- The loop of `guided_keys::fill_keys`: what holds at its head, and its measure.
 use mathlib.Core.Path.{◌≡◌}
 use Prim.Native.Nat.{◌-◌, ◌≤◌}
 use lib.ListN.{length}

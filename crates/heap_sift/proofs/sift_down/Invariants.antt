@@ -1,4 +1,4 @@
--- `sift_down` meets its contract. The loop: all is in order but between x and its children, and v is the key at x. The measure is n - x.
+-- The loop of `sift_down`: all is in order but between x and its children, and v is the key at x. The measure is n - x.
 -- Assumes nothing.
 use mathlib.Core.Path.{◌≡◌}
 use Prim.Native.Nat.{◌-◌, ◌≤◌}

@@ -1,4 +1,4 @@
--- `sift_up` meets its contract. The loop: all is in order but between x and its parent, and v is the key at x. The measure is x.
+-- The loop of `sift_up`: all is in order but between x and its parent, and v is the key at x. The measure is x.
 -- Assumes nothing.
 use mathlib.Core.Path.{◌≡◌}
 use lib.ListN.{length}

@@ -1,4 +1,4 @@
--- `node_estimates::fill_diagram_estimates` meets its contract.
+-- The loop of `node_estimates::fill_diagram_estimates`: what holds at its head, and its measure.
 use Prim.Native.Nat.{◌+◌, ◌-◌}
 use mathlib.Core.Path.{◌≡◌}
 use Rattle.diagram_fields.specs.Words.{nodes_in}

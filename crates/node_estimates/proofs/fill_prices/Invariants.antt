@@ -1,4 +1,4 @@
--- `node_estimates::fill_prices` meets its contract.
+-- The loop of `node_estimates::fill_prices`: what holds at its head, and its measure.
 use Prim.Native.Nat.{◌-◌, ◌≤◌}
 use Rattle.chart.specs.Tables.{steps_in}
 use Rattle.node_estimates.proofs.Pricing.{Pricing}

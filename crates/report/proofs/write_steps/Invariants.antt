@@ -1,4 +1,4 @@
--- `report::write_steps` meets its contract.
+-- The loop of `report::write_steps`: what holds at its head, and its measure.
 use Prim.Native.Nat.{◌-◌, ◌≤◌}
 use Rattle.report.proofs.Lines.{Stepped}
 use Rattle.report.proofs.write_steps.Given as goal

@@ -1,4 +1,4 @@
--- `rows::fill_row_starts` meets its contract: the rows below s are filled.
+-- The loop of `rows::fill_row_starts`: the rows below s are filled.
 use Prim.Native.Nat.{◌-◌, ◌≤◌}
 use Rattle.rows.specs.Rows.{Filled}
 use Rattle.rows.proofs.fill_row_starts.Given as goal

@@ -1,4 +1,4 @@
--- `sweep_rows::relax_row` meets its contract: what is left of the row's list comes to the same as all of it.
+-- The loop of `sweep_rows::relax_row`: what is left of the row's list comes to the same as all of it.
 use Prim.Native.Nat.{◌-◌}
 use mathlib.Core.Path.{◌≡◌}
 use lib.ListN.{length}

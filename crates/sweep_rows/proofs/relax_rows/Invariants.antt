@@ -1,4 +1,4 @@
--- `sweep_rows::relax_rows` meets its contract: what is left of the rows comes to the same as all of them.
+-- The loop of `sweep_rows::relax_rows`: what is left of the rows comes to the same as all of them.
 use Prim.Native.Nat.{◌-◌}
 use mathlib.Core.Path.{◌≡◌}
 use lib.ListN.{length}

@@ -1,4 +1,4 @@
--- `trace::reverse_front` meets its contract.
+-- The loop of `trace::reverse_front`: what holds at its head, and its measure.
 use Prim.Native.Nat.{◌≤◌, ◌-◌}
 use mathlib.Core.Path.{◌≡◌}
 use lib.ListN.{length}

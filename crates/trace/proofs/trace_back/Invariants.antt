@@ -1,4 +1,4 @@
--- `trace::trace_back` meets its contract: the plan begins with the steps taken back so far, the last one first.
+-- The loop of `trace::trace_back`: the plan begins with the steps taken back so far, the last one first.
 use Prim.Native.Nat.{ℕ, ◌+◌, ◌≤◌}
 use mathlib.Core.Path.{◌≡◌}
 use mathlib.Core.List.{List, ◌++◌, reverse}

@@ -1,4 +1,4 @@
--- `unique_table::find` meets its contract.
+-- The loop of `unique_table::find`: what holds at its head, and its measure.
 use Rattle.unique_table.specs.Chains.{Seeking}
 use Rattle.unique_table.specs.Tables.{unique_table, Table}
 use Rattle.unique_table.proofs.find.Given as goal

@@ -1,4 +1,4 @@
--- `apply::apply` meets its contract.
+-- The loop of `apply::apply`: what holds at its head, and its measure.
 use Rattle.unique_table.specs.Tables.{unique_table}
 use Rattle.apply.specs.Walks.{Walking}
 use Rattle.apply.specs.Weights.{weights}

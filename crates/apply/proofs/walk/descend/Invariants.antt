@@ -1,4 +1,4 @@
--- `apply::descend` meets its contract.
+-- The loop of `apply::descend`: what holds at its head, and its measure.
 use Rattle.apply.specs.Walks.{Descending, known_in}
 use Rattle.apply.specs.Turns.{Onward}
 use Prim.Native.Nat.{◌+◌}

@@ -1,5 +1,4 @@
--- `chart::put_groupeds` meets its contract.
--- all of them are of this kind
+-- The loop of `chart::put_groupeds`: a run of grouped steps is in the table.
 use Prim.Native.Nat.{◌-◌}
 use mathlib.Core.Path.{◌≡◌}
 use mathlib.Core.Bool.{true}

@@ -12,7 +12,6 @@ returns-then-fault-ne0 c = record {
   same_kind = over_kind c.args.read _ _ _ c.stopped.ensures;
 }
 
--- a step that passed has room in the table
 pub step_of-requires : goal.step_of-requires
 step_of-requires c = record {
   long = (long_body _ _ 2 8 c.requires.0 (omega arith) (λ q. omega arith), step_below _ _ _ _ _ _ _ c.step_fault-fault.ensures c.if-fault-ne0.false);

@@ -1,5 +1,4 @@
 -- `chart::put_plains` meets its contract.
--- all of them are of this kind
 use mathlib.Core.Path.{◌∙◌}
 use Rattle.fields.specs.Positions.{goes_has}
 use Rattle.fields.specs.Turns.{run_start, run_next, run_less, run_done}

@@ -1,5 +1,4 @@
--- `chart::put_plains` meets its contract.
--- all of them are of this kind
+-- The loop of `chart::put_plains`: a run of plain steps is in the table.
 use Prim.Native.Nat.{◌-◌}
 use mathlib.Core.Path.{◌≡◌}
 use mathlib.Core.Bool.{true}

@@ -1,4 +1,4 @@
--- `chart_stages::fill_chart_estimates` meets its contract: the entries of the stages from s on are told.
+-- The loop of `chart_stages::fill_chart_estimates`: the entries of the stages from s on are told.
 use Prim.Native.Nat.{◌≤◌, ◌<◌}
 use mathlib.Core.Path.{◌≡◌}
 use lib.ListN.{length}

@@ -1,4 +1,4 @@
--- `chart_stages::least_through` meets its contract: what is known shows the least cost of the ways by the steps below e.
+-- The loop of `chart_stages::least_through`: what is known shows the least cost of the ways by the steps below e.
 use Prim.Native.Nat.{◌-◌, ◌≤◌}
 use Rattle.definitions.specs.Basics.{NONE}
 use Rattle.definitions.specs.Plans.{graph}

@@ -1,4 +1,4 @@
--- `chart_stages::fill_first_steps` meets its contract: the entries of the stages below s are right.
+-- The loop of `chart_stages::fill_first_steps`: the entries of the stages below s are right.
 use Prim.Native.Nat.{◌+◌, ◌-◌, ◌≤◌}
 use mathlib.Core.Path.{◌≡◌}
 use lib.ListN.{length}

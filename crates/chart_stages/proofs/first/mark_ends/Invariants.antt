@@ -1,4 +1,4 @@
--- `chart_stages::mark_ends` meets its contract: the steps before e have left their marks.
+-- The loop of `chart_stages::mark_ends`: the steps before e have left their marks.
 use Prim.Native.Nat.{◌-◌, ◌≤◌}
 use mathlib.Core.Path.{◌≡◌}
 use lib.ListN.{length}

@@ -1,4 +1,4 @@
--- `diagram::put_nodes` meets its contract.
+-- The loop of `diagram::put_nodes`: what holds at its head, and its measure.
 use Prim.Native.Nat.{◌-◌}
 use lib.ListN.{length}
 use Rattle.fields.specs.Scans.{left_of}

@@ -1,5 +1,4 @@
 -- `fields::look::remark_at` meets its contract.
--- the header's three bytes are there
 use mathlib.Core.Path.{◌∙◌}
 use native.Mathlib.Omega.{arith}
 use borrow.Author.Rules.{rules}

@@ -1,4 +1,4 @@
--- `guided_expand::settle_plain` meets its contract: the steps before e have been offered.
+-- The loop of `guided_expand::settle_plain`: the steps before e have been offered.
 use mathlib.Core.Path.{◌≡◌}
 use Prim.Native.Nat.{◌-◌, ◌≤◌}
 use lib.ListN.{length}

@@ -1,5 +1,4 @@
--- `guided_loop::search` meets its contract: the pair of start and root is opened, then open pairs are settled.
--- the loop was begun, and whatever it was begun by, this many turns are done
+-- The loop of `guided_loop::search`: it was begun, and whatever it was begun by, this many turns are done.
 use mathlib.Core.Path.{◌≡◌}
 use mathlib.Core.Bool.{false}
 use Prim.Native.Nat.{◌-◌, ◌≤◌}

@@ -1,4 +1,4 @@
--- `nodes::descend_to` meets its contract.
+-- The loop of `nodes::descend_to`: what holds at its head, and its measure.
 use mathlib.Core.Path.{◌≡◌}
 use lib.ListN.{get_or}
 use Rattle.diagram_fields.specs.Words.{nodes_in}

@@ -1,4 +1,4 @@
--- `nodes::fill_finishing` meets its contract.
+-- The loop of `nodes::fill_finishing`: what holds at its head, and its measure.
 use Prim.Native.Nat.{◌+◌, ◌-◌}
 use Rattle.diagram_fields.specs.Words.{nodes_in}
 use Rattle.nodes.proofs.Finished.{Passed}

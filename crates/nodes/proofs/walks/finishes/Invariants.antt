@@ -1,4 +1,4 @@
--- `nodes::finishes` meets its contract.
+-- The loop of `nodes::finishes`: what holds at its head, and its measure.
 use Rattle.diagram_fields.specs.Words.{nodes_in}
 use Rattle.nodes.proofs.Finished.{Walked}
 use Rattle.nodes.proofs.walks.finishes.Given as goal

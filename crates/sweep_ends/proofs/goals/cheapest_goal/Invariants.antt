@@ -1,4 +1,4 @@
--- `sweep_ends::cheapest_goal` meets its contract.
+-- The loop of `sweep_ends::cheapest_goal`: what holds at its head, and its measure.
 use Prim.Native.Nat.{◌-◌, ◌≤◌}
 use Rattle.sweep_ends.specs.Goals.{Chosen}
 use Rattle.sweep_ends.proofs.goals.cheapest_goal.Given as goal

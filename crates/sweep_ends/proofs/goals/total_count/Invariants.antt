@@ -1,4 +1,4 @@
--- `sweep_ends::total_count` meets its contract.
+-- The loop of `sweep_ends::total_count`: what holds at its head, and its measure.
 use Prim.Native.Nat.{◌-◌, ◌*◌, ◌≤◌}
 use mathlib.Core.Path.{◌≡◌}
 use Rattle.sweep_model.specs.Totals.{total}
