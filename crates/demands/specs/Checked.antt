@@ -1,4 +1,5 @@
--- What the checks of a call give: `load` is `ready c d` exactly where all checks pass for the chart c and the diagram d, and else it is the one refusal.
+-- What the checks of a call give: its outcomes (`Judged`), and what holds of the accepted files. That there is no other, and that `load` is `ready c d` exactly where all
+-- checks pass for the chart c and the diagram d, is proved in proofs/Checked.antt.
 -- Assumes nothing.
 use Rattle.std.specs.Prelude.{ℕ, ◌≡◌, List, map, length}
 use Rattle.std.proofs.Common.{sym, ◌∙◌, subst₂}

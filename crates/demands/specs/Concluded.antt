@@ -1,5 +1,5 @@
--- What a caller of both searches concludes, by the clauses of the demands that follow from the others and that `Converse` has no need of: `Agree`,
--- that a plan is given where one is legal, and that 8 comes where none is. And that costs are whole ticks.
+-- What a caller of both searches concludes, by the clauses of the demands that follow from the others and that `Converse` has no need of: `Agree` (`Alike`, proved in
+-- proofs/Concluded.antt), that a plan is given where one is legal, and that 8 comes where none is. And that costs are whole ticks.
 -- Assumes nothing.
 use Rattle.std.specs.Prelude.{ℕ, ◌%◌, ◌≤◌, ◌≡◌, List, ◌↔◌}
 use Rattle.std.proofs.Common.{◌∙◌, ap}

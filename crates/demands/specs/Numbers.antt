@@ -1,4 +1,5 @@
--- With which numbers a file is refused: never with those of what comes after the files (7, 8, 12), and with 13 only where it is read strictly.
+-- With which numbers a file is refused: those of `file_number`. So never with those of what comes after the files (7, 8, 12), and with 13 only where it is read strictly
+-- (proofs/Numbers.antt).
 -- Assumes nothing.
 use Prim.Native.Nat.{ℕ, zero, suc, ◌+◌, ◌-◌}
 use Rattle.std.specs.Prelude.{Bool, not, ◌&&◌, ◌||◌, ◌≡◌, List, [], ◌∷◌, ◌++◌, leb, eqb, length, get_or}

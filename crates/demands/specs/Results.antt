@@ -1,4 +1,4 @@
--- One call, by what both searches promise alike: demands 1 and 2, and that no legal plan costs less.
+-- One call: what both searches promise alike (`Promised`), and how a search ends. proofs/Results.antt has demands 1 and 2 from it, and that no legal plan costs less.
 -- Assumes nothing.
 use Rattle.std.specs.Prelude.{ℕ, ◌≤◌, ◌≡◌, List, [], ◌++◌, length, get_or, take, drop}
 use Rattle.std.proofs.Common.{sym, ◌∙◌, ap, take-append-drop}
