@@ -45,9 +45,12 @@ pub returns : goal.returns
 returns c =
     let over : turns_of c.prepare-got.result.number (length c.args.list.now) ≤ c.loop-i.i = omega arith in
     let told = c.tell.ensures in
+    let before = cycle_slices c.args.keys.now c.args.via.now c.args.heap.now c.args.pos.now c.args.stack.now c.args.log.now in
+    let after = cycle_slices c.loop-i.keys c.loop-i.via c.loop-i.heap c.loop-i.pos c.loop-i.stack c.loop-i.log in
     record {
       answer = told.answer;
-      kept = subst (λ (a : Answer). CyclesCall c.args.chart.now c.args.rules.now (cycle_slices c.args.keys.now c.args.via.now c.args.heap.now c.args.pos.now c.args.stack.now c.args.log.now) (cycle_slices c.loop-i.keys c.loop-i.via c.loop-i.heap c.loop-i.pos c.loop-i.stack c.loop-i.log) c.args.list.now c.loop-i.list a) (sym told.kept) (going_all c.loop-i.invariant.0 c.args.chart.now c.args.rules.now c.prepare-got.new.by_node c.prepare-got.ensures over);
+      kept = subst (λ (a : Answer). CyclesCall c.args.chart.now c.args.rules.now before after c.args.list.now c.loop-i.list a) (sym told.kept)
+          (going_all c.loop-i.invariant.0 c.args.chart.now c.args.rules.now c.prepare-got.new.by_node c.prepare-got.ensures over);
       held = told.held;
       returned = told.returned;
     }
