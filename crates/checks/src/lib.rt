@@ -9,6 +9,16 @@ use chart::read_chart;
 use definitions::{Answer, Node, Shape, Stage};
 use diagram::read_diagram;
 
+// All tables that a search walks: the steps, the inner nodes, the first step of each stage, and where each stage's row of
+// pairs starts.
+#[derive(Clone, Copy)]
+pub struct WalkTables<'a> {
+    pub steps: &'a [[u32; 1024]; 2],
+    pub inner: &'a [u32; 512],
+    pub first: &'a [u16; 257],
+    pub row: &'a [u32; 256],
+}
+
 // A refusal's number, file and place, 0 where all checks pass; and what was read.
 #[derive(Clone, Copy)]
 pub struct Loaded {
