@@ -1,12 +1,11 @@
 // The plan traced back: each pair keeps the step by which it was reached and the node that the step left.
 #![tactic(auto)]
 
-ghost use Rattle.std.specs.Prelude.{◌≡◌, ◌+◌, ◌-◌, ◌≤◌, ◌<◌, length, get_or, take, drop, ◌++◌, reverse};
+ghost use Rattle.std.specs.Prelude.{◌≡◌, ◌+◌, ◌-◌, ◌≤◌, ◌<◌, length, get_or, drop, ◌++◌, reverse};
 ghost use Rattle.chart_fields.specs.Ends.{froms};
 ghost use Rattle.trace.specs.Trails.{CameFrom, Traceable};
 
 use chart_fields::from_at;
-use convert::wide;
 use definitions::{Node, Stage, Step};
 use via_marks::{node_in, step_in};
 
@@ -23,7 +22,7 @@ pub fn pair_at(row: &[u32; 256], s: Stage, n: Node) -> usize
     requires { s.0 < 256 }
     ensures { result ≡ get_or row.now s.0 0 + n.0 }
 {
-    wide(row[s.0 as usize]) + n.0 as usize
+    row[s.0 as usize] as usize + n.0 as usize
 }
 
 // What a pair was reached from, by the mark that it keeps.
@@ -67,22 +66,6 @@ fn trace_back<'a>(
     count
 }
 
-// Reverses the first entries of a plan, as many as `count`.
-fn reverse_front(plan: &mut [u16], count: usize)
-    requires { count ≤ length plan.old }
-    ensures { plan.new ≡ reverse (take count plan.old) ++ drop count plan.old }
-{
-    let half = count / 2;
-    let mut low: usize = 0;
-    while low < half {
-        let high = count - 1 - low;
-        let entry = plan[low];
-        plan[low] = plan[high];
-        plan[high] = entry;
-        low += 1;
-    }
-}
-
 // Writes the steps that lead from the start to a pair to the front of the plan, and answers how many they are.
 pub fn write_plan<'a>(
     via: &'a [u32],
@@ -99,6 +82,6 @@ pub fn write_plan<'a>(
         → (result ≡ length x.steps) × (plan.new ≡ x.steps ++ drop result plan.old) }
 {
     let length = trace_back(via, ends, row, start, stage, node, plan);
-    reverse_front(plan, length);
+    plan[..length].reverse();
     length
 }
