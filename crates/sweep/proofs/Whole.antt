@@ -57,8 +57,8 @@ module _ {z : Shape} {t : Read} (in_tables : Tables z t) where
       abbrev pub lent : Rows
       lent = rows before.cost before.via before.nodes (replicate 256 0)
 
-      pub run_blank : Blank z lent
-      run_blank = record {
+      lent_blank : Blank z lent
+      lent_blank = record {
         cost_fits = space.cost_fits;
         via_fits = space.via_fits;
         nodes_fits = space.nodes_fits;
@@ -67,13 +67,27 @@ module _ {z : Shape} {t : Read} (in_tables : Tables z t) where
       }
 
       fresh : Fresh g a (cleared z lent)
-      fresh = cleared_fresh run_ready run_blank
+      fresh = cleared_fresh run_ready lent_blank
 
       leaving : FirstSteps g (at first)
       leaving = first_steps z (walk t first row) run_ready
 
+      -- the costs are cleared
+      module _ {costs : List ℕ} (clears : costs ≡ cleared_costs z before.cost) where
+        abbrev pub blank : Rows
+        blank = rows costs before.via before.nodes (replicate 256 0)
+
+        blank_is : blank ≡ cleared z lent
+        blank_is = ap (λ (l : List ℕ). rows l before.via before.nodes (replicate 256 0)) clears
+
+        pub run_fresh : Fresh g a blank
+        run_fresh = subst (Fresh g a) (sym blank_is) fresh
+
       -- the tables after it
-      module _ {r' : Rows} (is_swept : r' ≡ swept g a (at first) (cleared z lent)) where
+      module _ {costs : List ℕ} (clears : costs ≡ cleared_costs z before.cost) {r' : Rows} (sweeps : r' ≡ swept g a (at first) (blank clears)) where
+        is_swept : r' ≡ swept g a (at first) (cleared z lent)
+        is_swept = sweeps ∙ ap (swept g a (at first)) (blank_is clears)
+
         pub run_final : Final z t row r'
         run_final = record {
           tables = in_tables;
@@ -99,9 +113,9 @@ module _ {z : Shape} {t : Read} (in_tables : Tables z t) where
             let q = need z t ∙ sym same in
             ap (λ (k : ℕ). drop k x') q ∙ e ∙ ap (λ (k : ℕ). drop k x) (sym q)
 
-        pub run_promised : {plan' : List ℕ} {ans : Answer} → Concludes z t before.plan plan' ans
-            → SweepPromise (ready (chart_in z t) (diagram_in z t)) before (sweep_slices r'.cost r'.via r'.nodes plan') ans
-        run_promised x = record {
+        pub run_promised : {costs' via' nodes' plan' : List ℕ} {ans : Answer} → costs' ≡ r'.cost → via' ≡ r'.via → nodes' ≡ r'.nodes → Concludes z t before.plan plan' ans
+            → SweepPromise (ready (chart_in z t) (diagram_in z t)) before (sweep_slices costs' via' nodes' plan') ans
+        run_promised ec ev en x = rw (ec, ev, en) (record {
           swept = (
             x.outcome,
             ap (λ (y : Rows). y.cost) is_swept
@@ -110,7 +124,7 @@ module _ {z : Shape} {t : Read} (in_tables : Tables z t) where
           );
           via = (past.via_long, untouched before.via r'.via past.via_past);
           nodes = (past.nodes_long, untouched before.nodes r'.nodes past.nodes_past);
-        }
+        })
 
 -- a refusal leaves everything
 refused_promised : (o : Load) (t : Read) (before : SweepSlices) (x : Loaded) (r : Answer) → LoadsAs o t x → (x.number ≡ 0 → ⊥)

@@ -1,7 +1,6 @@
 -- What an offer asks of the tables, and what a step leaves in them.
 -- Assumes nothing.
 use Rattle.std.specs.Prelude.{ℕ, ◌+◌, ◌<◌, ◌≡◌, List, eqb, length, get_or}
-use Rattle.std.proofs.Common.{◌∙◌}
 use Rattle.definitions.specs.Basics.{NONE, pick}
 use Rattle.via_marks.specs.Marks.{packed}
 use Rattle.sweep_model.specs.Model.{Rows, rows, offer}
@@ -13,13 +12,8 @@ abbrev pub held : declared.Rows → Rows
 held r = rows r.costs.now r.via.now r.nodes.now r.counts
 
 -- both lie over the same lent slices
-pub record SameSlices (r r' : declared.Rows) : Type 0 where
-  pub costs : r'.costs.ghost_name ≡ r.costs.ghost_name
-  pub via : r'.via.ghost_name ≡ r.via.ghost_name
-  pub nodes : r'.nodes.ghost_name ≡ r.nodes.ghost_name
-
-pub same_on : {r r' r'' : declared.Rows} → SameSlices r r' → SameSlices r' r'' → SameSlices r r''
-same_on x y = record { costs = y.costs ∙ x.costs; via = y.via ∙ x.via; nodes = y.nodes ∙ x.nodes }
+abbrev pub SameSlices : declared.Rows → declared.Rows → Type 0
+SameSlices r r' = (r'.costs.ghost_name ≡ r.costs.ghost_name) × (r'.via.ghost_name ≡ r.via.ghost_name) × (r'.nodes.ghost_name ≡ r.nodes.ghost_name)
 
 -- the pair of stage s, whose row starts at `base`, and node t can take an offer: it stands in the slices, and if it is new its row's list has room
 pub record Open (base s t : ℕ) (r : Rows) : Type 0 where

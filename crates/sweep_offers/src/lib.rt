@@ -1,8 +1,8 @@
 // One step of the sweep: a pair is offered a cost, and keeps the least.
 #![tactic(auto)]
 
-ghost use Rattle.std.specs.Prelude.{◌≡◌, replicate};
-ghost use Rattle.sweep_model.specs.Model.{rows, offer as offered};
+ghost use Rattle.std.specs.Prelude.{◌≡◌};
+ghost use Rattle.sweep_model.specs.Model.{offer as offered};
 ghost use Rattle.chart.specs.Tables.{steps_in};
 ghost use Rattle.sweep_offers.specs.Offers.{Open, Offering, stepped, held, SameSlices};
 
@@ -21,22 +21,7 @@ pub struct Rows<'a> {
     pub counts: [u32; 256],
 }
 
-impl<'a> Rows<'a> {
-    // Tables over lent slices; no row has a node yet.
-    pub fn new(costs: &'a mut [u32], via: &'a mut [u32], nodes: &'a mut [u32]) -> Rows<'a>
-        ensures blank { held result ≡ rows costs.entry.now via.entry.now nodes.entry.now (replicate 256 0) }
-        ensures same_costs { result.costs.ghost_name ≡ costs.entry.ghost_name }
-        ensures same_via { result.via.ghost_name ≡ via.entry.ghost_name }
-        ensures same_nodes { result.nodes.ghost_name ≡ nodes.entry.ghost_name }
-    {
-        Rows {
-            costs,
-            via,
-            nodes,
-            counts: [0; 256],
-        }
-    }
-
+impl Rows<'_> {
     // The pair of stage s, whose row starts at `base`, and node t is offered the cost v. `mark` has the step and the node
     // that offer it.
     fn offer(&mut self, base: usize, s: Stage, t: Node, v: u32, mark: u32)

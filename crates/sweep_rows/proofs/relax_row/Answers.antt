@@ -1,6 +1,5 @@
 -- `sweep_rows::relax_row` meets its contract: what is left of the row's list comes to the same as all of it.
-use Rattle.std.proofs.Common.{refl, arith}
-use Rattle.sweep_offers.specs.Offers.{same_on}
+use Rattle.std.proofs.Common.{refl, arith, rules}
 use Rattle.sweep_rows.proofs.Rowing.{row_place, row_small, row_cost, row_stands, row_more, row_done}
 use Rattle.sweep_rows.proofs.relax_row.Goals as goal
 
@@ -25,7 +24,7 @@ loop-k-preserved c = record {
   rowing = λ x.
       let w = c.loop-k.invariant.rowing x in
       row_more _ _ w refl c.loop-k-test.true (c.relax_node.ensures.becomes (row_stands _ _ w refl c.loop-k-test.true));
-  same = same_on c.loop-k.invariant.same c.relax_node.ensures.same;
+  same = search rules;
 }
 
 pub returns-clause-becomes : goal.returns-clause-becomes

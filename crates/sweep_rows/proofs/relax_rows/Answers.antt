@@ -1,6 +1,5 @@
 -- `sweep_rows::relax_rows` meets its contract: what is left of the rows comes to the same as all of them.
-use Rattle.std.proofs.Common.{refl}
-use Rattle.sweep_offers.specs.Offers.{same_on}
+use Rattle.std.proofs.Common.{refl, rules}
 use Rattle.sweep_rows.proofs.Rowing.{sweep_more, sweep_done}
 use Rattle.sweep_rows.proofs.relax_rows.Goals as goal
 
@@ -10,7 +9,7 @@ loop-s-preserved c = record {
       let w = c.loop-s.invariant.sweeping in
       let inside = c.loop-s-test.true in
       sweep_more _ _ w refl inside (c.relax_row.ensures.becomes (record { z = c.args.z; row = w.stands; inside = inside }));
-  same = same_on c.loop-s.invariant.same c.relax_row.ensures.same;
+  same = search rules;
 }
 
 pub returns-clause-becomes : goal.returns-clause-becomes

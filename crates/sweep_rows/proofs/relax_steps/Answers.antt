@@ -1,6 +1,5 @@
 -- `sweep_rows::relax_steps` meets its contract: what is left of the steps comes to the same as all of them.
-use Rattle.std.proofs.Common.{arith}
-use Rattle.sweep_offers.specs.Offers.{same_on}
+use Rattle.std.proofs.Common.{arith, rules}
 use Rattle.sweep_rows.proofs.Walking.{walk_step, walk_own, walk_key, walk_marked, walk_falls, walk_dead, walk_offering, walk_more, walk_done}
 use Rattle.sweep_rows.proofs.relax_steps.Goals as goal
 
@@ -33,7 +32,7 @@ relax_step-requires g c =
 pub loop-number-preserved : goal.loop-number-preserved
 loop-number-preserved g c = record {
   walking = λ x. walk_more (c.loop-number.invariant.walking x) c.loop-number-test.true c.group_of-group.ensures c.descend_to-m.ensures.0 c.branch-t.ensures _ c.relax_step.ensures.becomes;
-  same = same_on c.loop-number.invariant.same c.relax_step.ensures.same;
+  same = search rules;
   tests = c.descend_to-m.ensures.1;
 }
 

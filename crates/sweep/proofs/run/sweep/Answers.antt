@@ -9,13 +9,13 @@ use Rattle.sweep.proofs.run.sweep.Goals as goal
 pub returns-then-got-ne0 : goal.returns-then-got-ne0
 returns-then-got-ne0 c =
     let lent = sweep_slices c.args.cost.now c.args.via.now c.args.nodes.now c.args.plan.now in
-    let shortest = c.lesser-work.ensures ∙ ap (λ (k : ℕ). min k (length c.args.nodes.now)) c.lesser.ensures in
+    let shortest = c.min-work.ensures ∙ ap (λ (k : ℕ). min k (length c.args.nodes.now)) c.min.ensures in
     call_refused c.args.chart.now c.args.rules.now lent shortest _ _ c.load-got.ensures c.if-got-ne0.true c.refusal.ensures
 
 pub run-requires : goal.run-requires
 run-requires c =
     let lent = sweep_slices c.args.cost.now c.args.via.now c.args.nodes.now c.args.plan.now in
-    let shortest = c.lesser-work.ensures ∙ ap (λ (k : ℕ). min k (length c.args.nodes.now)) c.lesser.ensures in
+    let shortest = c.min-work.ensures ∙ ap (λ (k : ℕ). min k (length c.args.nodes.now)) c.min.ensures in
     record {
       tables = call_tables c.args.chart.now c.args.rules.now lent shortest _ _ c.load-got.ensures c.if-got-ne0.false;
       space = call_space c.args.chart.now c.args.rules.now lent shortest _ _ c.load-got.ensures c.if-got-ne0.false;
@@ -24,5 +24,5 @@ run-requires c =
 pub returns : goal.returns
 returns c =
     let lent = sweep_slices c.args.cost.now c.args.via.now c.args.nodes.now c.args.plan.now in
-    let shortest = c.lesser-work.ensures ∙ ap (λ (k : ℕ). min k (length c.args.nodes.now)) c.lesser.ensures in
+    let shortest = c.min-work.ensures ∙ ap (λ (k : ℕ). min k (length c.args.nodes.now)) c.min.ensures in
     call_ready c.args.chart.now c.args.rules.now lent shortest _ _ c.load-got.ensures c.if-got-ne0.false c.run.ensures
