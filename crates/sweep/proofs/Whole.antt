@@ -11,7 +11,8 @@ use Rattle.definitions.specs.Charts.{Chart}
 use Rattle.definitions.specs.Diagrams.{Diagram}
 use Rattle.definitions.specs.Ways.{Graph}
 use Rattle.definitions.specs.Pairs.{Automaton, row_starts, pairs}
-use Rattle.definitions.specs.Answers.{Load, ready, refused, load, work_need, refusal}
+use Rattle.definitions.specs.Answers.{Load, ready, load, work_need, refusal}
+use Rattle.definitions.specs.Refusals.{number}
 use Rattle.definitions.specs.Promises.{least_costs, SweepSlices, sweep_slices, sweep_load, SweepPromise, SweepCall}
 use Rattle.definitions.specs.declared.Answer.{Answer}
 use Rattle.definitions.specs.declared.Shape.{Shape}
@@ -23,9 +24,10 @@ use Rattle.sweep_model.specs.Rows.{Past}
 use Rattle.sweep_model.specs.Result.{Fresh, Finished, finished, final_past, final_costs}
 use Rattle.sweep_model.specs.Sweeps.{FirstSteps}
 use Rattle.checks.specs.Outcome.{load_shortest, ready_space}
-use Rattle.checks.specs.Tables.{Read, Tables, LoadsAs, chart_in, diagram_in, pairs_in}
+use Rattle.checks.specs.Tables.{Read, Tables, chart_in, diagram_in, pairs_in}
 use Rattle.checks.specs.Ready.{walk, Ready, graph_in, automaton_in, lawful_in, few_stages, few_nodes}
-use Rattle.checks.specs.declared.Loaded.{Loaded}
+use Rattle.checks.specs.declared.refused.Refused.{Refused}
+use Rattle.checks.specs.Refusing.{file_mark, refused_as}
 use Rattle.sweep_rows.specs.Standing.{at}
 use Rattle.sweep_rows.specs.Leaving.{first_steps}
 use Rattle.sweep.specs.Runs.{Space, Blank, cleared_costs, cleared, Final, Concludes}
@@ -126,45 +128,25 @@ module _ {z : Shape} {t : Read} (in_tables : Tables z t) where
           nodes = (past.nodes_long, untouched before.nodes r'.nodes past.nodes_past);
         })
 
--- a refusal leaves everything
-refused_promised : (o : Load) (t : Read) (before : SweepSlices) (x : Loaded) (r : Answer) → LoadsAs o t x → (x.number ≡ 0 → ⊥)
-    → r ≡ refusal x.number x.file x.place 0 → SweepPromise o before before r
-refused_promised (refused number file place) t before x r l h e = record { swept = (e ∙ rw (l.0.0, l.0.1, l.0.2), refl, refl); via = refl; nodes = refl }
-refused_promised (ready c d) t before x r l h e = absurd (h l.0)
-
--- where all checks pass, the chart and the diagram stand in the tables
-record Passed (o : Load) (t : Read) (z : Shape) : Type 0 where
-  pub tables : Tables z t
-  pub outcome : o ≡ ready (chart_in z t) (diagram_in z t)
-
-passed : (o : Load) (t : Read) (x : Loaded) → LoadsAs o t x → x.number ≡ 0 → Passed o t x.shape
-passed (refused number file place) t x l h = absurd (l.1 (sym l.0.0 ∙ h))
-passed (ready c d) t x l h = record { tables = l.3; outcome = sym (ap₂ (λ (i : Chart) (j : Diagram). ready i j) l.1 l.2) }
-
 -- the call on the files s and u: the checks are made with the shortest work slice
-module _ (s u : List ℕ) (before : SweepSlices) {work : ℕ} (ew : work ≡ min (min (length before.cost) (length before.via)) (length before.nodes))
-    (t : Read) (x : Loaded) (l : LoadsAs (load s u (work ∷ []) (length before.plan)) t x) where
-  abbrev z : Shape
-  z = x.shape
+module _ (s u : List ℕ) (before : SweepSlices) {work : ℕ} (ew : work ≡ min (min (length before.cost) (length before.via)) (length before.nodes)) where
+  abbrev loaded : Load
+  loaded = load s u (work ∷ []) (length before.plan)
 
-  checked : sweep_load s u before ≡ load s u (work ∷ []) (length before.plan)
+  checked : sweep_load s u before ≡ loaded
   checked =
       load_shortest s u (length before.cost) (length before.via ∷ length before.nodes ∷ []) (length before.plan)
       ∙ ap (λ (k : ℕ). load s u (k ∷ []) (length before.plan)) (sym ew)
 
-  pub call_refused : {r : Answer} → (x.number ≡ 0 → ⊥) → r ≡ refusal x.number x.file x.place 0 → SweepCall s u before before r
-  call_refused {r} h e = subst (λ (o : Load). SweepPromise o before before r) (sym checked) (refused_promised _ t before x r l h e)
+  -- a refusal leaves everything
+  pub call_refused : {x : Refused} {r : Answer} → loaded ≡ refused_as x → r ≡ refusal (number x.refusal) (file_mark x.file) x.place 0 → SweepCall s u before before r
+  call_refused {r} h e = subst (λ (o : Load). SweepPromise o before before r) (sym (checked ∙ h)) (record { swept = (e, refl, refl); via = refl; nodes = refl })
 
-  module _ (h : x.number ≡ 0) where
-    ok : Passed (load s u (work ∷ []) (length before.plan)) t z
-    ok = passed _ t x l h
-
-    pub call_tables : Tables z t
-    call_tables = ok.tables
-
+  -- where all checks pass, the chart and the diagram stand in the tables
+  module _ {z : Shape} {t : Read} (h : loaded ≡ ready (chart_in z t) (diagram_in z t)) where
     pub call_space : Space z before
     call_space =
-        let enough = ready_space s u work (length before.plan) (chart_in z t) (diagram_in z t) ok.outcome in
+        let enough = ready_space s u work (length before.plan) (chart_in z t) (diagram_in z t) h in
         record {
           cost_fits = omega (arith, need z t, enough);
           via_fits = omega (arith, need z t, enough);
@@ -173,4 +155,4 @@ module _ (s u : List ℕ) (before : SweepSlices) {work : ℕ} (ew : work ≡ min
         }
 
     pub call_ready : {after : SweepSlices} {r : Answer} → SweepPromise (ready (chart_in z t) (diagram_in z t)) before after r → SweepCall s u before after r
-    call_ready {after} {r} p = subst (λ (o : Load). SweepPromise o before after r) (sym (checked ∙ ok.outcome)) p
+    call_ready {after} {r} p = subst (λ (o : Load). SweepPromise o before after r) (sym (checked ∙ h)) p

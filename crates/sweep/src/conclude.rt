@@ -4,9 +4,8 @@ ghost use Rattle.sweep_offers.specs.Offers.{held};
 ghost use Rattle.checks.specs.Ready.{walked};
 ghost use Rattle.sweep.specs.Runs.{Final, Concludes};
 
-use chart_fields::ENDS;
-use checks::{WalkTables, accepted, refusal};
-use definitions::{Answer, Shape};
+use checks::{Refused, WalkTables, accepted, refusal};
+use definitions::{Answer, Refusal, Shape};
 use nodes::fill_finishing;
 use sweep_ends::{cheapest_goal, total_count};
 use sweep_offers::Rows;
@@ -25,11 +24,11 @@ pub fn conclude(rows: &Rows<'_>, tables: WalkTables<'_>, z: Shape, plan: &mut [u
     let base = tables.row[end] as usize;
     let listed = rows.counts[end] as usize;
     match cheapest_goal(rows, &yes, base, listed) {
-        None => refusal(8, 0, 0, count),
+        None => refusal(Refused::of_call(Refusal::NoLegalPlan), count),
         Some(best) => {
             let length = write_plan(
                 rows.via,
-                &tables.steps[ENDS],
+                tables.steps,
                 tables.row,
                 z.start,
                 z.end,

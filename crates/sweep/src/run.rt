@@ -11,7 +11,7 @@ ghost use Rattle.sweep_rows.specs.Standing.{at};
 ghost use Rattle.sweep.specs.Runs.{Space};
 
 use crate::conclude::conclude;
-use chart_fields::ENDS;
+use chart_fields::StepTable;
 use chart_stages::fill_first_steps;
 use checks::{WalkTables, load, refusal};
 use definitions::{Answer, NONE, Shape};
@@ -41,7 +41,7 @@ fn run(
     nodes: &mut [u32],
     plan: &mut [u16],
     z: Shape,
-    steps: &[[u32; 1024]; 2],
+    steps: &StepTable,
     inner: &[u32; 512],
 ) -> Answer
     requires tables { Tables z (read steps.now inner.now) }
@@ -52,7 +52,7 @@ fn run(
         SweepPromise (ready (chart_in z t) (diagram_in z t)) before after result }
 {
     let mut first = [0u16; 257];
-    fill_first_steps(&mut first, &steps[ENDS], z.steps, z.stages);
+    fill_first_steps(&mut first, steps, z.steps, z.stages);
     let mut row = [0u32; 256];
     fill_row_starts(&mut row, z.stages as usize, z.nodes + 2);
     let tables = WalkTables {
@@ -86,12 +86,11 @@ pub fn sweep(
         let after = sweep_slices cost.new via.new nodes.new plan.new in
         SweepCall chart.now rules.now before after result }
 {
-    let mut steps = [[0u32; 1024]; 2];
+    let mut steps = StepTable::blank();
     let mut inner = [0u32; 512];
     let work = cost.len().min(via.len()).min(nodes.len());
-    let got = load(chart, rules, work, plan.len(), &mut steps, &mut inner);
-    if got.number != 0 {
-        return refusal(got.number, got.file, got.place, 0);
+    match load(chart, rules, work, plan.len(), &mut steps, &mut inner) {
+        Ok(z) => run(cost, via, nodes, plan, z, &steps, &inner),
+        Err(refused) => refusal(refused, 0),
     }
-    run(cost, via, nodes, plan, got.shape, &steps, &inner)
 }

@@ -6,7 +6,6 @@ ghost use Rattle.sweep_model.specs.Model.{offer as offered};
 ghost use Rattle.chart.specs.Tables.{steps_in};
 ghost use Rattle.sweep_offers.specs.Offers.{Open, Offering, stepped, held, SameSlices};
 
-use chart_fields::{COST, ENDS, to_at};
 use checks::WalkTables;
 use definitions::{NONE, Node, Stage, Step};
 use via_marks::packed;
@@ -53,11 +52,10 @@ impl Rows<'_> {
         if t.0 == 0 {
             return;
         }
-        let step = e.0 as usize;
-        let s = to_at(&tables.steps[ENDS], step);
+        let s = tables.steps.to(e);
         let base = tables.row[s.0 as usize] as usize;
         let mark = packed(s, e, n);
-        let total = v + tables.steps[COST][step];
+        let total = v + tables.steps.cost(e);
         self.offer(base, s, t, total, mark);
     }
 }

@@ -9,7 +9,6 @@ ghost use Rattle.checks.specs.Ready.{walked, graph_in, automaton_in};
 ghost use Rattle.sweep_offers.specs.Offers.{held, SameSlices};
 ghost use Rattle.sweep_rows.specs.Standing.{Stands, Row, InRow, at};
 
-use chart_fields::{ENDS, group_at, tag_at};
 use checks::WalkTables;
 use definitions::{Group, Node, Shape, Stage, Step};
 use nodes::{branch, descend_to, lowered_at};
@@ -29,7 +28,7 @@ fn group_of<const GROUPED: bool>(tables: WalkTables<'_>, e: Step) -> Group
     ensures { result.0 ≡ get_or (steps_in tables.entry.steps.now).group e.0 0 }
 {
     if GROUPED {
-        return group_at(&tables.steps[ENDS], e.0 as usize);
+        return tables.steps.group(e);
     }
     Group(e.0)
 }
@@ -72,7 +71,7 @@ fn relax_node(rows: &mut Rows<'_>, tables: WalkTables<'_>, n: Node, v: u32, leav
         → held rows.new ≡ relax_steps (graph_in x.z t) (automaton_in x.z t) n.0 v leaving.begin.0 (leaving.until.0 - leaving.begin.0) (held rows.old) }
     ensures same { SameSlices rows.old rows.new }
 {
-    if tag_at(&tables.steps[ENDS], 0) == 3 {
+    if tables.steps.is_grouped() {
         relax_steps::<true>(rows, tables, n, v, leaving);
         return;
     }
