@@ -30,6 +30,7 @@ pub fn cheapest_goal(rows: &Rows<'_>, yes: &[bool; 512], base: usize, count: usi
     ensures { Chosen base count rows.now.costs.now rows.now.nodes.now yes.now result }
 {
     let mut best = None;
+    // By index: where no node is listed, `Listed` does not promise that the list's slice begins inside `nodes`.
     for k in 0..count {
         let n = rows.nodes[base + k] as usize;
         let v = rows.costs[base + n];
@@ -43,9 +44,5 @@ pub fn total_count(counts: &[u32; 256], stages: usize) -> usize
     requires { stages ≤ 256 }
     ensures { result ≡ total (at counts.now) stages }
 {
-    let mut sum: usize = 0;
-    for s in 0..stages {
-        sum += counts[s] as usize;
-    }
-    sum
+    counts[..stages].iter().map(|&count| count as usize).sum()
 }

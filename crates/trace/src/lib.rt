@@ -56,6 +56,7 @@ fn trace_back<'a>(
     let mut s = stage;
     let mut n = node;
     let mut count: usize = 0;
+    // No `for`: the loop ends at the start's stage, and only there the number of steps is known.
     while start.0 < s.0 {
         let before = came_from(steps, via[pair_at(row, s, n)]);
         plan[count] = before.step.0;
