@@ -19,8 +19,8 @@ use Rattle.fields.specs.Positions.{number_some}
 use Rattle.fields.specs.declared.fault.Stopped.{Stopped}
 use Rattle.chart_fields.specs.declared.table.StepTable.{StepTable}
 use Rattle.checks.specs.Refusing.{FoundIn}
-use Rattle.checks.specs.declared.refused.Refused.{Refused}
-use Rattle.checks.specs.declared.refused.InFile.TheVariants.{Chart, Rules}
+use Rattle.checks.specs.declared.answers.Refused.{Refused}
+use Rattle.checks.specs.declared.answers.InFile.TheVariants.{Chart, Rules}
 use Rattle.definitions.specs.Plans.{graph}
 use Rattle.theory.specs.Limits.{Small, OneKind, Valid, Sound}
 use Rattle.theory.specs.Variables.{groups_few}

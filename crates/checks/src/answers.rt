@@ -51,7 +51,7 @@ impl Refused {
 }
 
 // What was read of a file, or that the file is at fault.
-pub fn in_file<T, S>(read: Result<T, Stopped<S>>, file: InFile) -> Result<T, Refused>
+pub fn in_file<T, S: Drop>(read: Result<T, Stopped<S>>, file: InFile) -> Result<T, Refused>
     ensures { FoundIn file read result }
 {
     match read {

@@ -5,7 +5,7 @@ use native.Mathlib.Omega.{arith}
 use Rattle.diagram.specs.Accepted.{accepted_filled}
 use Rattle.diagram.specs.declared.reader.DiagramRead.{DiagramRead}
 use Rattle.checks.proofs.Passes.{few_groups, some_stages, chart_refused_lem, rules_refused, few_nodes, few_pairs, work_refused, plan_refused, loaded}
-use Rattle.checks.proofs.load.Goals as goal
+use Rattle.checks.proofs.loading.load.Goals as goal
 
 pub returns-then-c-ne0 : goal.returns-then-c-ne0
 returns-then-c-ne0 c =

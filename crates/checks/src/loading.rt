@@ -3,7 +3,7 @@ ghost use Rattle.std.specs.Prelude.{[], ◌∷◌};
 ghost use Rattle.definitions.specs.Answers.{load as outcome};
 ghost use Rattle.checks.specs.Tables.{Room, read, LoadsAs};
 
-use crate::refused::{InFile, Refused, in_file};
+use crate::answers::{InFile, Refused, in_file};
 use chart::read_chart;
 use chart_fields::StepTable;
 use definitions::{Node, Refusal, Shape, Stage};
