@@ -1,6 +1,7 @@
 -- What a queue shows: its pairs, and that its slices themselves stay; and what `take` answers.
 -- Assumes nothing.
 use Rattle.std.specs.Prelude.{ℕ, ◌<◌, ◌≡◌, List, Option, Some, None}
+use Rattle.heap.specs.Views.{SameSlice}
 use Rattle.queue.specs.Queue as order
 use Rattle.queue.specs.Queue.{Counts, held, State, state, Taken}
 use Rattle.queue.specs.declared.Next.{Next}
@@ -20,13 +21,9 @@ state_of x = state_with x x.stack.now (counts_of x)
 abbrev pub IsQueue : (p floor : ℕ) → Queue → Type 0
 IsQueue p floor x = order.Queue p floor (state_of x)
 
--- the slices are those that were lent, whatever stands in them
+-- the same slices are lent, whatever stands in them
 abbrev pub SameSlices : Queue → Queue → Type 0
-SameSlices x x' =
-    (x'.keys.ghost_name ≡ x.keys.ghost_name)
-    × (x'.heap.ghost_name ≡ x.heap.ghost_name)
-    × (x'.pos.ghost_name ≡ x.pos.ghost_name)
-    × (x'.stack.ghost_name ≡ x.stack.ghost_name)
+SameSlices x x' = SameSlice x.keys x'.keys × SameSlice x.heap x'.heap × SameSlice x.pos x'.pos × SameSlice x.stack x'.stack
 
 -- what `take` answers: a pair that it took, or none, exactly where nothing is held
 abbrev pub Takes : (p floor : ℕ) → State → State → Option Next → Type 0
