@@ -29,6 +29,7 @@ use Rattle.chart.specs.Limits.{StepFits, step_fits}
 use Rattle.chart.specs.Kinds.{kind_at, due_kind, Due, SameKind, KindAfter, kind_start, kind_at_known, due_same, stands_whole}
 use Rattle.chart.specs.Turns.{SoFar, Stores, Takes}
 use Rattle.chart.specs.declared.reader.StepsRead.{StepsRead}
+use Rattle.chart_fields.specs.declared.table.StepTable.{StepTable}
 
 -- a step that passes has room in the tables, its value keeps the limit, and its group too
 module _ (v stages tag last group count : ℕ) (b : List ℕ) (judged : v ≡ step_fault stages tag last group count b) (passes : v ≡ 0) where
@@ -88,7 +89,7 @@ last_grown before x =
     let e : length (before ++ x ∷ []) - 1 ≡ length before = omega (arith, length-append before (x ∷ [])) in
     rw e (get_or-append_seam before x [] no_step)
 
-filled_grown : (before : List ChartStep) (x : ChartStep) (ends count : ℕ) (packed₀ packed : List (List ℕ)) → Packs x ends
+filled_grown : (before : List ChartStep) (x : ChartStep) (ends count : ℕ) (packed₀ packed : StepTable) → Packs x ends
     → length before ≡ count → count < 1024 → Filled before packed₀ packed → Filled (before ++ x ∷ []) packed₀ (stored packed count ends x.cost)
 filled_grown before x ends count packed₀ packed packs counted below sofar =
     let long : length (before ++ x ∷ []) ≡ count + 1 = omega (arith, length-append before (x ∷ [])) in
@@ -104,7 +105,7 @@ filled_grown before x ends count packed₀ packed packs counted below sofar =
 abbrev pub begun : ℕ → StepsRead
 begun first = record { number = 0; place = first; steps = 0; last = 0; group = 0; tag = 2; len = 8; going = true }
 
-pub steps_start : (s : List ℕ) (first stages : ℕ) (packed : List (List ℕ)) → SoFar s first stages packed packed (begun first)
+pub steps_start : (s : List ℕ) (first stages : ℕ) (packed : StepTable) → SoFar s first stages packed packed (begun first)
 unfolding held_steps
 steps_start s first stages packed = record {
   before = [];
@@ -143,10 +144,10 @@ module _ (s : List ℕ) (t : StepsRead) where
 pub ruleset due-laws = (kind_first, kind_later)
 
 -- the ways out of a turn from t
-module _ (s : List ℕ) (stages : ℕ) (t : StepsRead) (packed : List (List ℕ)) where
+module _ (s : List ℕ) (stages : ℕ) (t : StepsRead) (packed : StepTable) where
   -- the walk stops
   stops : (number place : ℕ) (x : StepsRead) → x ≡ over t number place
-      → ((first : ℕ) (packed₀ : List (List ℕ)) (sofar : SoFar s first stages packed₀ packed t) → scan_steps s stages first ≡ stopped sofar.before number place)
+      → ((first : ℕ) (packed₀ : StepTable) (sofar : SoFar s first stages packed₀ packed t) → scan_steps s stages first ≡ stopped sofar.before number place)
       → Takes s stages t packed packed x
   stops number place x e is = rw e (turn_over s t.place place (λ o sofar.
       let q = is o.0 o.1 sofar in
@@ -154,7 +155,7 @@ module _ (s : List ℕ) (stages : ℕ) (t : StepsRead) (packed : List (List ℕ)
 
   -- the kind that is due is that of the grammar
   module _ (f : Field) (given : f ≡ field_at s t.place (or_remark (only t.tag (step_length t.tag)))) (due : Due s t) where
-    found_by : (first : ℕ) (packed₀ : List (List ℕ)) (sofar : SoFar s first stages packed₀ packed t) → f ≡ field_at s t.place (or_remark (step_kind sofar.before))
+    found_by : (first : ℕ) (packed₀ : StepTable) (sofar : SoFar s first stages packed₀ packed t) → f ≡ field_at s t.place (or_remark (step_kind sofar.before))
     found_by first packed₀ sofar = given ∙ due_same s t.place t.tag t.len sofar.before sofar.kind (λ h. sym (due_first s t (sym sofar.counted ∙ h)) ∙ due)
 
     pub take_done : f ≡ Absent → (x : StepsRead) → x ≡ over t 0 0 → Takes s stages t packed packed x
@@ -197,7 +198,7 @@ module _ (s : List ℕ) (stages : ℕ) (t : StepsRead) (packed : List (List ℕ)
     whole : (before : List ChartStep) → KindAfter before t.tag t.len → Whole t.place (t.place + 3) end ≡ field_at s t.place (or_remark (step_kind before))
     whole before k = rw el (stands_whole s t.place tag t.len before (kind_at_tag before k) has_kind)
 
-    same_fault : (first : ℕ) (packed₀ : List (List ℕ)) (sofar : SoFar s first stages packed₀ packed t) → v ≡ step_fault_after stages (get_or s t.place 0) sofar.before b
+    same_fault : (first : ℕ) (packed₀ : StepTable) (sofar : SoFar s first stages packed₀ packed t) → v ≡ step_fault_after stages (get_or s t.place 0) sofar.before b
     same_fault first packed₀ sofar = rw (has.tagged, sofar.latest, sofar.highest, sofar.counted) judged
 
     pub take_bad : (v ≡ 0 → ⊥) → (x : StepsRead) → x ≡ over t v t.place → Takes s stages t packed packed x
@@ -232,7 +233,7 @@ module _ (s : List ℕ) (stages : ℕ) (t : StepsRead) (packed : List (List ℕ)
       after : StepsRead
       after = record { number = 0; place = end; steps = t.steps + 1; last = y.from; group = y.group; tag = tag; len = len; going = true }
 
-      taken : (ends : ℕ) → ends ≡ ends_of x.tag x.group x.from x.to → (o : ℕ × List (List ℕ)) → SoFar s o.0 stages o.1 packed t
+      taken : (ends : ℕ) → ends ≡ ends_of x.tag x.group x.from x.to → (o : ℕ × StepTable) → SoFar s o.0 stages o.1 packed t
           → SoFar s o.0 stages o.1 (stored packed t.steps ends y.cost) after
       unfolding after
       taken ends packs o sofar =
@@ -252,7 +253,7 @@ module _ (s : List ℕ) (stages : ℕ) (t : StepsRead) (packed : List (List ℕ)
                 filled_grown sofar.before y ends t.steps o.1 packed (packs_y ends packs few (rw (← is) sofar.kind.known)) sofar.counted passed.below (sofar.filled few room);
           }
 
-      pub take_step : (packed' : List (List ℕ)) (r : StepsRead) → Stores t x len end packed packed' r → Takes s stages t packed packed' r × SameKind t r
+      pub take_step : (packed' : StepTable) (r : StepsRead) → Stores t x len end packed packed' r → Takes s stages t packed packed' r × SameKind t r
       unfolding after
       take_step packed' r st =
           let same : r ≡ after = st.is ∙ ap (λ (z : StepBody). record { number = 0; place = end; steps = t.steps + 1; last = z.from; group = z.group; tag = z.tag; len = len; going = true }) read in
@@ -280,7 +281,7 @@ module _ (s : List ℕ) (stages : ℕ) (t : StepsRead) (packed : List (List ℕ)
       same = λ h. k.same h ∙ sym (is ∙ due_later s t (λ q. omega arith));
     })
 
-    pub take_anew : (packed' : List (List ℕ)) (r : StepsRead) → Takes s stages anew packed packed' r → Takes s stages t packed packed' r
+    pub take_anew : (packed' : StepTable) (r : StepsRead) → Takes s stages anew packed packed' r → Takes s stages t packed packed' r
     take_anew packed' r x = record {
       nearer = x.nearer;
       stands = λ o sofar. x.stands o (record {

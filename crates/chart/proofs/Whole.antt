@@ -20,6 +20,7 @@ use Rattle.chart.specs.Tables.{Room, Filled, chart_answer}
 use Rattle.chart.specs.Turns.{Over}
 use Rattle.chart.specs.declared.reader.ChartRead.{ChartRead}
 use Rattle.chart.specs.declared.reader.StepsRead.{StepsRead}
+use Rattle.chart_fields.specs.declared.table.StepTable.{StepTable}
 
 -- where no head passed
 pub chart_none : (k p : ℕ) → record { number = k; place = p; stages = 0; start = 0; end = 0; steps = 0; groups = 0 } ≡ chart_answer (chart_refused k p)
@@ -55,7 +56,7 @@ module _ (s : List ℕ) (at : ℕ) where
 pub ruleset kind-laws = (kind_past, kind_grouped, kind_plain)
 
 -- no step passed, and the tables stay
-untouched : (s : List ℕ) (k p : ℕ) (packed : List (List ℕ)) → read_chart s ≡ chart_refused k p → Room packed → Filled (read_chart s).chart.steps packed packed
+untouched : (s : List ℕ) (k p : ℕ) (packed : StepTable) → read_chart s ≡ chart_refused k p → Room packed → Filled (read_chart s).chart.steps packed packed
 untouched s k p packed e = rw e (nothing_filled packed)
 
 module _ (s : List ℕ) (r : Field) (given : r ≡ first_field s (only 1 6)) where
@@ -67,7 +68,7 @@ module _ (s : List ℕ) (r : Field) (given : r ≡ first_field s (only 1 6)) whe
     pub chart_empty : (x : ChartRead) → x ≡ chart_answer (chart_refused 2 0) → x ≡ chart_answer (read_chart s)
     chart_empty x p = rw empty p
 
-    pub chart_empty_filled : (packed : List (List ℕ)) → Room packed → Filled (read_chart s).chart.steps packed packed
+    pub chart_empty_filled : (packed : StepTable) → Room packed → Filled (read_chart s).chart.steps packed packed
     chart_empty_filled packed = untouched s 2 0 packed empty
 
   module _ (k p : ℕ) (found : r ≡ Faulty k p) where
@@ -78,7 +79,7 @@ module _ (s : List ℕ) (r : Field) (given : r ≡ first_field s (only 1 6)) whe
     pub chart_faulty : (x : ChartRead) → x ≡ chart_answer (chart_refused k p) → x ≡ chart_answer (read_chart s)
     chart_faulty x e = rw faulty e
 
-    pub chart_faulty_filled : (packed : List (List ℕ)) → Room packed → Filled (read_chart s).chart.steps packed packed
+    pub chart_faulty_filled : (packed : StepTable) → Room packed → Filled (read_chart s).chart.steps packed packed
     chart_faulty_filled packed = untouched s k p packed faulty
 
   module _ (e : ℕ) (found : r ≡ Passed e) where
@@ -89,7 +90,7 @@ module _ (s : List ℕ) (r : Field) (given : r ≡ first_field s (only 1 6)) whe
     pub chart_over : (x : ChartRead) → x ≡ chart_answer (chart_refused 2 0) → x ≡ chart_answer (read_chart s)
     chart_over x q = rw over q
 
-    pub chart_over_filled : (packed : List (List ℕ)) → Room packed → Filled (read_chart s).chart.steps packed packed
+    pub chart_over_filled : (packed : StepTable) → Room packed → Filled (read_chart s).chart.steps packed packed
     chart_over_filled packed = untouched s 2 0 packed over
 
   module _ (p a e : ℕ) (found : r ≡ Whole p a e) where
@@ -102,7 +103,7 @@ module _ (s : List ℕ) (r : Field) (given : r ≡ first_field s (only 1 6)) whe
         pub chart_bad : (x : ChartRead) → x ≡ chart_answer (chart_refused v p) → x ≡ chart_answer (read_chart s)
         chart_bad x q = rw bad q
 
-        pub chart_bad_filled : (packed : List (List ℕ)) → Room packed → Filled (read_chart s).chart.steps packed packed
+        pub chart_bad_filled : (packed : StepTable) → Room packed → Filled (read_chart s).chart.steps packed packed
         chart_bad_filled packed = untouched s v p packed bad
 
       module _ (passes : v ≡ 0) (h : HeadBody) (read : h ≡ head_body (part s a e)) where
@@ -110,7 +111,7 @@ module _ (s : List ℕ) (r : Field) (given : r ≡ first_field s (only 1 6)) whe
         unfolding read_chart on_field pick
         good = rw (← given, found, ← judged, eq-eqb v 0 passes, read)
 
-        module _ (y : StepsRead) (packed packed' : List (List ℕ)) (over : Over s e h.stages packed packed' y) where
+        module _ (y : StepsRead) (packed packed' : StepTable) (over : Over s e h.stages packed packed' y) where
           -- the last step's group is the highest
           groups_are : (n : ℕ) → n ≡ groups_to y.steps y.group → n ≡ group_count (read_chart s).chart
           groups_are n q = q ∙ ap (λ (z : StepsRead). groups_to z.steps z.group) over.answer ∙ rw good (rw read (groups_scanned s (two (part s a e) 0) (two (part s a e) 2) (two (part s a e) 4) e))

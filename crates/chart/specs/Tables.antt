@@ -9,13 +9,14 @@ use Rattle.definitions.specs.declared.Shape.{Shape}
 use Rattle.chart_fields.specs.Ends.{froms, tos, tags, groups}
 use Rattle.chart.specs.declared.reader.StepsRead.{StepsRead}
 use Rattle.chart.specs.declared.reader.ChartRead.{ChartRead}
+use Rattle.chart_fields.specs.declared.table.StepTable.{StepTable}
 
 -- the columns of the table
-abbrev pub ends_in : List (List ℕ) → List ℕ
-ends_in packed = get_or packed 0 []
+abbrev pub ends_in : StepTable → List ℕ
+ends_in packed = packed.ends
 
-abbrev pub costs_in : List (List ℕ) → List ℕ
-costs_in packed = get_or packed 1 []
+abbrev pub costs_in : StepTable → List ℕ
+costs_in packed = packed.costs
 
 -- the steps in it: the kind of each, where it leaves and leads to, its cost and its group
 pub record Steps : Type 0 where
@@ -25,7 +26,7 @@ pub record Steps : Type 0 where
   pub cost : List ℕ
   pub group : List ℕ
 
-abbrev pub steps_in : List (List ℕ) → Steps
+abbrev pub steps_in : StepTable → Steps
 steps_in packed = record { tag = tags (ends_in packed); from = froms (ends_in packed); to = tos (ends_in packed); cost = costs_in packed; group = groups (ends_in packed) }
 
 -- the step of a number
@@ -40,14 +41,13 @@ held_steps count t = map (held_step t) (upto count)
 abbrev pub chart_in : Shape → Steps → Chart
 chart_in z t = record { stages = z.stages; start = z.start.0; end = z.end.0; steps = held_steps z.steps t }
 
--- the table has two columns of 1,024 entries, as its type says.
-pub record Room (packed : List (List ℕ)) : Type 0 where
-  pub columns : length packed ≡ 2
+-- each column has 1,024 entries, as its type says.
+pub record Room (packed : StepTable) : Type 0 where
   pub ends : length (ends_in packed) ≡ 1024
   pub costs : length (costs_in packed) ≡ 1024
 
 -- the table before and after reading (packed'): it begins with the steps that passed, its further entries stay
-pub record Filled (passed : List ChartStep) (packed packed' : List (List ℕ)) : Type 0 where
+pub record Filled (passed : List ChartStep) (packed packed' : StepTable) : Type 0 where
   pub held : held_steps (length passed) (steps_in packed') ≡ passed
   pub ends_rest : drop (length passed) (ends_in packed') ≡ drop (length passed) (ends_in packed)
   pub costs_rest : drop (length passed) (costs_in packed') ≡ drop (length passed) (costs_in packed)

@@ -7,10 +7,8 @@ ghost use Rattle.chart.specs.Kinds.{kind_at, due_kind, Due, SameKind, groups_to}
 ghost use Rattle.chart.specs.Tables.{Room, Filled, chart_answer};
 ghost use Rattle.chart.specs.Turns.{Over, Stores, Takes};
 
-use chart_fields::{
-    COST, ENDS, StepBody, ends_of, head_fault, head_of, step_fault, step_length, step_of,
-};
-use definitions::{Field, Group, Stage};
+use chart_fields::{StepBody, StepKind, StepTable, check_head, check_step, head_of, step_of};
+use definitions::Field;
 use fields::reader::{moved, new, next};
 use fields::{first_field, goes_on, next_field};
 
@@ -56,7 +54,7 @@ fn store(
     step: StepBody,
     len: u16,
     end: usize,
-    steps: &mut [[u32; 1024]; 2],
+    steps: &mut StepTable,
 ) -> StepsRead
     requires { (read.steps < 1024) × (step.group < 1024) }
     ensures { Stores read step len end steps.old steps.new result }
@@ -84,7 +82,7 @@ fn store(
 
 // The plain step whose field stands whole at the read's place, into the table. The kind is a constant here and below, so that
 // no test of it is left in the loop.
-fn put_plain(file: &[u8], read: StepsRead, stages: u16, steps: &mut [[u32; 1024]; 2]) -> StepsRead
+fn put_plain(file: &[u8], read: StepsRead, stages: u16, steps: &mut StepTable) -> StepsRead
     requires { HasField file.now read.place 2 8 × (read.tag ≡ 2) }
     ensures takes { Takes file.now stages read steps.old steps.new result }
     ensures same_kind { SameKind read result }
@@ -103,7 +101,7 @@ fn put_plain(file: &[u8], read: StepsRead, stages: u16, steps: &mut [[u32; 1024]
 
 // The plain steps that stand one behind the other from the read's place on, into the table: a loop of its own, so that the
 // compiler keeps what it counts in registers.
-fn put_plains(file: &[u8], first: StepsRead, stages: u16, steps: &mut [[u32; 1024]; 2]) -> StepsRead
+fn put_plains(file: &[u8], first: StepsRead, stages: u16, steps: &mut StepTable) -> StepsRead
     requires { HasField file.now first.place 2 8 × (first.tag ≡ 2) }
     ensures { Takes file.now stages first steps.old steps.new result }
 {
@@ -117,7 +115,7 @@ fn put_plains(file: &[u8], first: StepsRead, stages: u16, steps: &mut [[u32; 102
 }
 
 // The grouped step whose field stands whole at the read's place, into the table.
-fn put_grouped(file: &[u8], read: StepsRead, stages: u16, steps: &mut [[u32; 1024]; 2]) -> StepsRead
+fn put_grouped(file: &[u8], read: StepsRead, stages: u16, steps: &mut StepTable) -> StepsRead
     requires { HasField file.now read.place 3 10 × (read.tag ≡ 3) }
     ensures takes { Takes file.now stages read steps.old steps.new result }
     ensures same_kind { SameKind read result }
@@ -139,7 +137,7 @@ fn put_groupeds(
     file: &[u8],
     first: StepsRead,
     stages: u16,
-    steps: &mut [[u32; 1024]; 2],
+    steps: &mut StepTable,
 ) -> StepsRead
     requires { HasField file.now first.place 3 10 × (first.tag ≡ 3) }
     ensures { Takes file.now stages first steps.old steps.new result }
@@ -154,7 +152,7 @@ fn put_groupeds(
 }
 
 // The steps that stand one behind the other from the read's place on, into the table.
-fn put_steps(file: &[u8], first: StepsRead, stages: u16, steps: &mut [[u32; 1024]; 2]) -> StepsRead
+fn put_steps(file: &[u8], first: StepsRead, stages: u16, steps: &mut StepTable) -> StepsRead
     requires has_field { HasField file.now first.place first.tag (step_length first.tag) }
     requires kind { (first.tag ≡ 2) ⊎ (first.tag ≡ 3) }
     ensures { Takes file.now stages first steps.old steps.new result }
@@ -171,7 +169,7 @@ fn take_found(
     found: Field,
     read: StepsRead,
     stages: u16,
-    steps: &mut [[u32; 1024]; 2],
+    steps: &mut StepTable,
 ) -> StepsRead
     requires stands { found ≡ field_at file.now read.place (or_remark (only read.tag (step_length read.tag))) }
     requires due { Due file.now read × ((read.tag ≡ 2) ⊎ (read.tag ≡ 3)) }
@@ -237,7 +235,7 @@ fn take_steps(
     found: Field,
     read: StepsRead,
     stages: u16,
-    steps: &mut [[u32; 1024]; 2],
+    steps: &mut StepTable,
 ) -> StepsRead
     requires { (found ≡ field_at file.now read.place (or_remark (only read.tag (step_length read.tag))))
         × ((read.tag ≡ 2) ⊎ (read.tag ≡ 3)) }
@@ -259,7 +257,7 @@ fn take_steps(
 }
 
 // The steps from a place on, into the table: a reader, kept in a local, walks over them.
-fn read_steps(file: &[u8], first: usize, stages: u16, steps: &mut [[u32; 1024]; 2]) -> StepsRead
+fn read_steps(file: &[u8], first: usize, stages: u16, steps: &mut StepTable) -> StepsRead
     ensures { Over file.now first stages steps.old steps.new result }
 {
     let mut reader = moved(new(file), first);
@@ -306,7 +304,7 @@ fn groups_of(read: StepsRead) -> usize
 }
 
 // The chart of a file; its steps go into the table.
-pub fn read_chart(file: &[u8], steps: &mut [[u32; 1024]; 2]) -> ChartRead
+pub fn read_chart(file: &[u8], steps: &mut StepTable) -> ChartRead
     ensures value { result ≡ chart_answer (read_chart file.now) }
     ensures filled { let read = read_chart file.now in
         Room steps.old → Filled read.chart.steps steps.old steps.new }

@@ -1,4 +1,1 @@
-pub mod Tables
-pub mod Outcome
-pub mod Ready
-pub mod Heads
+pub mod Refusing

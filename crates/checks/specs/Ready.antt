@@ -13,7 +13,8 @@ use Rattle.chart_stages.specs.FirstSteps.{FirstTable, Firsts, first_leaves, leav
 use Rattle.chart_stages.specs.HeldGraph.{held_firsts}
 use Rattle.diagram.specs.Held.{length_held}
 use Rattle.rows.specs.Rows.{row_at}
-use Rattle.checks.specs.Tables.{Read, Named, Tables, chart_in, diagram_in}
+use Rattle.checks.specs.declared.walk.WalkTables.{WalkTables}
+use Rattle.checks.specs.Tables.{Read, read, Named, Tables, chart_in, diagram_in}
 use Rattle.definitions.specs.declared.Shape.{Shape}
 
 -- all tables that a search walks: what the files are read into, the first step of each stage, the start of each stage's row
@@ -24,6 +25,10 @@ pub record Walk : Type 0 where
 
 abbrev pub walk : Read → List ℕ → List ℕ → Walk
 walk t first row = record { read = t; first = first; row = row }
+
+-- what the code's tables hold
+abbrev pub walked : WalkTables → Walk
+walked t = walk (read t.steps.now t.inner.now) t.first.now t.row.now
 
 pub record Ready (z : Shape) (w : Walk) : Type 0 where
   pub tables : Tables z w.read

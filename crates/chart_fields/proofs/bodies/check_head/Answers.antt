@@ -1,6 +1,6 @@
--- `chart_fields::head_fault` meets its contract.
+-- `chart_fields::check_head` meets its contract.
 use Rattle.chart_fields.proofs.Values.{head-laws}
-use Rattle.chart_fields.proofs.bodies.head_fault.Goals as goal
+use Rattle.chart_fields.proofs.bodies.check_head.Goals as goal
 
 pub returns-then-stages-eq0 : goal.returns-then-stages-eq0
 returns-then-stages-eq0 c = search head-laws

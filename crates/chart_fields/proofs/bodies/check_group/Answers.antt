@@ -1,6 +1,6 @@
--- `chart_fields::group_fault` meets its contract.
+-- `chart_fields::check_group` meets its contract.
 use Rattle.chart_fields.proofs.Values.{group_laws}
-use Rattle.chart_fields.proofs.bodies.group_fault.Goals as goal
+use Rattle.chart_fields.proofs.bodies.check_group.Goals as goal
 
 pub returns-then-group-gt1023 : goal.returns-then-group-gt1023
 returns-then-group-gt1023 c = search group_laws
