@@ -26,11 +26,11 @@ pub fn write_u16(w: &mut Writer, n: u16)
 }
 
 // A number in four bytes, low byte first.
-pub fn write_u32(w: &mut Writer, n: u32)
+pub fn write_u32(w: &mut Writer, value: u32)
     requires { w.old.at + 4 ≤ length w.old.out.now }
-    ensures { Wrote w.old (le4 n) w.new }
+    ensures { Wrote w.old (le4 value) w.new }
 {
-    w.copy(&n.to_le_bytes());
+    w.copy(&value.to_le_bytes());
 }
 
 // Numbers in two bytes each.
