@@ -9,28 +9,29 @@ use Rattle.buffer.specs.Appends.{append_none, append_both, append_long, append_i
 use Rattle.buffer.specs.Members.{append_next, append_all}
 
 -- the writer before and after; it keeps the buffer that it was lent
-pub record Wrote (before : Writer) (bytes : List ℕ) (after : Writer) : Type 0 where
-  pub same : after.out.ghost_name ≡ before.out.ghost_name
-  pub appended : Appended before.out.now before.at bytes after.out.now after.at
+abbrev pub Wrote : Writer → List ℕ → Writer → Type 0
+Wrote before bytes after = (after.out.ghost_name ≡ before.out.ghost_name) × Appended before.out.now before.at bytes after.out.now after.at
 
--- ---- what callers need: the place stays in the buffer, two parts written one behind the other, and the members of a list
-
-module _ {a b : Writer} {x : List ℕ} (h : a.at ≤ length a.out.now) (p : Wrote a x b) where
-  pub wrote_inside : b.at ≤ length b.out.now
-  wrote_inside = append_inside h p.appended
-
-  pub wrote_long : length b.out.now ≡ length a.out.now
-  wrote_long = append_long h p.appended
-
-  pub wrote_both : {y : List ℕ} {c : Writer} → Wrote b y c → Wrote a (x ++ y) c
-  wrote_both q = record { same = q.same ∙ p.same; appended = append_both h p.appended q.appended }
+-- ---- what callers need: the place stays in the buffer, two parts written one behind the other, and the members of a list. The laws are over the parts of
+-- the writers (g is the name of a writer's buffer), which the facts of a call determine
 
 pub wrote_none : (a : Writer) → Wrote a [] a
-wrote_none a = record { same = refl; appended = append_none _ _ }
+wrote_none a = (refl, append_none _ _)
 
-module _ {A : Type 0} (f : A → List ℕ) (xs : List A) (k : ℕ) {a b : Writer} where
-  pub wrote_next : (d : A) → a.at ≤ length a.out.now → k < length xs → Wrote a (each f (take k xs)) b → {c : Writer} → Wrote b (f (get_or xs k d)) c → Wrote a (each f (take (k + 1) xs)) c
-  wrote_next d h l p q = record { same = q.same ∙ p.same; appended = append_next f xs k d h l p.appended q.appended }
+module _ {g g' at r : ℕ} {x out o : List ℕ} (h : at ≤ length out) (p : (g' ≡ g) × Appended out at x o r) where
+  pub wrote_inside : r ≤ length o
+  wrote_inside = append_inside h p.1
 
-  pub wrote_all : length xs ≤ k → Wrote a (each f (take k xs)) b → Wrote a (each f xs) b
-  wrote_all h p = record { same = p.same; appended = append_all f xs k h p.appended }
+  pub wrote_long : length o ≡ length out
+  wrote_long = append_long h p.1
+
+  pub wrote_both : {g'' r' : ℕ} {y o' : List ℕ} → (g'' ≡ g') × Appended o r y o' r' → (g'' ≡ g) × Appended out at (x ++ y) o' r'
+  wrote_both q = (q.0 ∙ p.0, append_both h p.1 q.1)
+
+module _ {A : Type 0} (f : A → List ℕ) (xs : List A) (k : ℕ) {g g' at r : ℕ} {out o : List ℕ} where
+  pub wrote_next : (d : A) → at ≤ length out → k < length xs → (g' ≡ g) × Appended out at (each f (take k xs)) o r
+      → {g'' r' : ℕ} {o' : List ℕ} → (g'' ≡ g') × Appended o r (f (get_or xs k d)) o' r' → (g'' ≡ g) × Appended out at (each f (take (k + 1) xs)) o' r'
+  wrote_next d h l p q = (q.0 ∙ p.0, append_next f xs k d h l p.1 q.1)
+
+  pub wrote_all : length xs ≤ k → (g' ≡ g) × Appended out at (each f (take k xs)) o r → (g' ≡ g) × Appended out at (each f xs) o r
+  wrote_all h p = (p.0, append_all f xs k h p.1)
