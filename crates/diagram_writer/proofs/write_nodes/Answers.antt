@@ -5,13 +5,14 @@ use mathlib.Core.Path.{◌∙◌, refl}
 use native.Mathlib.Omega.{arith}
 use Rattle.definitions.specs.Bytes.{node_bytes}
 use Rattle.definitions.specs.Diagrams.{no_node}
-use Rattle.buffer.specs.Writing.{wrote_none, wrote_long, wrote_next, wrote_all}
+use Rattle.buffer.specs.Appends.{append_none}
+use Rattle.buffer.specs.Writing.{wrote_long, wrote_next, wrote_all}
 use Rattle.unique_table.specs.Tables.{unique_table}
 use borrow.Author.Rules.{rules}
 use Rattle.diagram_writer.proofs.write_nodes.Goals as goal
 
 pub loop-k-init : goal.loop-k-init
-loop-k-init c = (search rules, search rules, search rules, refl, wrote_none _)
+loop-k-init c = (search rules, search rules, search rules, refl, (refl, append_none _ _))
 
 pub loop-k-preserved : goal.loop-k-preserved
 loop-k-preserved c = (
