@@ -1,6 +1,6 @@
--- `command::read_full` is safe and ends: the buffer keeps its length, and each turn leaves less room in it.
+-- `whole_reads::read_full` is safe and ends: the buffer keeps its length, and each turn leaves less room in it.
 use Rattle.std.proofs.Common.{◌≡◌, ◌-◌, ◌≤◌, length}
-use Rattle.command.proofs.read_full.Given as goal
+use Rattle.whole_reads.proofs.read_full.Given as goal
 
 abbrev pub invariant-loop-done : goal.invariant-loop-done
 invariant-loop-done g l = (l.done ≤ length l.buf) × (length l.buf ≡ length l.initial.buf)
