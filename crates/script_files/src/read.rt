@@ -1,6 +1,6 @@
 // The commands of a script, one after another: a letter, and up to six numbers after it. data/readers.txt of `vectors`
 // says what each letter means.
-ghost use Rattle.std.specs.Prelude.{◌≤◌, length};
+ghost use Rattle.std.specs.Prelude.{◌≡◌, ◌==◌, ◌≤◌, ◌%◌, if◌then◌else◌, length};
 ghost use Rattle.std.specs.Iterator.{at_most};
 
 use crate::rules::{Rule, low};
@@ -24,7 +24,7 @@ pub enum Role {
 
 // What a search is lent: how many entries of each work slice and of the plan slice, and what they are full of.
 #[derive(Clone, Copy)]
-pub struct Lent {
+pub struct SearchSlices {
     pub work: usize,
     pub plan: usize,
     pub full: u32,
@@ -32,27 +32,56 @@ pub struct Lent {
     pub free: bool,
     // The work slice that has another number of entries, from 1, or 0 where none has; and that number.
     pub slice: u64,
-    pub entries: usize,
+    pub size: usize,
 }
 
-impl Lent {
-    fn of([work, plan, full, free, slice, entries]: [u64; 6]) -> Self {
-        Lent {
+impl SearchSlices {
+    fn of([work, plan, full, free, slice, size]: [u64; 6]) -> Self {
+        SearchSlices {
             work: work as usize,
             plan: plan as usize,
             full: low_word(full),
             free: free != 0,
             slice,
-            entries: entries as usize,
+            size: size as usize,
         }
     }
 
     // How many entries of a work slice are lent.
-    pub fn of_slice(self, slice: u64) -> usize {
+    pub fn entries(self, slice: u64) -> usize
+        ensures { result ≡ (if self.slice == slice then self.size else self.work) }
+    {
         if self.slice == slice {
-            return self.entries;
+            return self.size;
         }
         self.work
+    }
+
+    // What the plan slice is full of.
+    pub fn full_step(self) -> u16
+        ensures { result ≡ self.full % 65536 }
+    {
+        (self.full % 65536) as u16
+    }
+}
+
+// What the conjunction is lent: how many entries of the work slice and bytes of the file buffer, and what both are full of.
+#[derive(Clone, Copy)]
+pub struct JoinSlices {
+    pub work: usize,
+    pub file: usize,
+    pub full: u32,
+    pub full_byte: u8,
+}
+
+impl JoinSlices {
+    fn of([work, file, full, byte, _, _]: [u64; 6]) -> Self {
+        JoinSlices {
+            work: work as usize,
+            file: file as usize,
+            full: low_word(full),
+            full_byte: low_byte(byte),
+        }
     }
 }
 
@@ -60,33 +89,19 @@ impl Lent {
 #[derive(Clone, Copy)]
 pub enum Call {
     ReadChart,
-    ReadDiagram {
-        groups: usize,
-        strict: bool,
-    },
-    RefusedField {
-        file: u32,
-        place: usize,
-    },
-    Sweep(Lent),
-    Guided(Lent),
-    // How many entries of the work slice and bytes of the file buffer are lent, and what both are full of.
-    Conjoin {
-        work: usize,
-        file: usize,
-        full: u32,
-        full_byte: u8,
-    },
-    Reduce {
-        file: usize,
-        full: u8,
-    },
+    ReadDiagram { groups: usize, strict: bool },
+    RefusedField { file: u32, place: usize },
+    Sweep(SearchSlices),
+    Guided(SearchSlices),
+    Conjoin(JoinSlices),
+    // Into so many bytes of a buffer that is full of one byte.
+    Reduce { bytes: usize, full: u8 },
 }
 
 impl Call {
     // The call of a letter.
     fn of(letter: u8, numbers: [u64; 6]) -> Option<Self> {
-        let [a, b, c, d, _, _] = numbers;
+        let [a, b, _, _, _, _] = numbers;
         match letter {
             b'C' => Some(Call::ReadChart),
             b'D' | b'L' => Some(Call::ReadDiagram {
@@ -97,16 +112,11 @@ impl Call {
                 file: low_word(a),
                 place: b as usize,
             }),
-            b'W' => Some(Call::Sweep(Lent::of(numbers))),
-            b'G' => Some(Call::Guided(Lent::of(numbers))),
-            b'J' => Some(Call::Conjoin {
-                work: a as usize,
-                file: b as usize,
-                full: low_word(c),
-                full_byte: low_byte(d),
-            }),
+            b'W' => Some(Call::Sweep(SearchSlices::of(numbers))),
+            b'G' => Some(Call::Guided(SearchSlices::of(numbers))),
+            b'J' => Some(Call::Conjoin(JoinSlices::of(numbers))),
             b'R' => Some(Call::Reduce {
-                file: a as usize,
+                bytes: a as usize,
                 full: low_byte(b),
             }),
             _ => None,
@@ -217,7 +227,9 @@ pub struct Script<'a> {
 }
 
 impl<'a> Script<'a> {
-    pub fn new(text: &'a [u8]) -> Self {
+    pub fn new(text: &'a [u8]) -> Self
+        ensures { result.rest.now ≡ text.now }
+    {
         Script { rest: text }
     }
 

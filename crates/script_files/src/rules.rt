@@ -1,4 +1,8 @@
 // Many fields by a rule, each by its number, from 0.
+ghost use Rattle.std.specs.Prelude.{◌≡◌};
+ghost use Rattle.script_files.specs.declared.write.Field.{Field};
+ghost use Rattle.script_files.specs.declared.rules.Rule.TheVariants.{Same};
+
 use crate::write::Field;
 
 // A field by its number i. Stages, groups and nodes stay within what two bytes hold.
@@ -61,7 +65,9 @@ fn node(group: u64, number: u64, lo: u64, hi: u64) -> Field {
 }
 
 impl Rule {
-    pub fn field(self, i: u64) -> Field {
+    pub fn field(self, i: u64) -> Field
+        ensures { (f : Field) → self ≡ Same f → result ≡ f }
+    {
         match self {
             Rule::Same(field) => field,
             Rule::Steps {

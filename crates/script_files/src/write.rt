@@ -1,5 +1,5 @@
 // Files made in a buffer, field by field. Past the buffer's end nothing is written.
-ghost use Rattle.std.specs.Prelude.{◌≡◌, ◌+◌, ◌≤◌, length, min, take};
+ghost use Rattle.std.specs.Prelude.{◌≡◌, ◌+◌, ◌<◌, ◌≤◌, length, min, slice_set, take};
 
 // How many bytes the buffer of a file has.
 pub const LONGEST: usize = 32784;
@@ -51,7 +51,8 @@ impl FileBuffer {
 
     // Sets the byte at a place of the buffer.
     pub fn set_byte(&mut self, place: usize, byte: u8)
-        ensures { self.new.size ≡ self.old.size }
+        ensures kept { self.new.size ≡ self.old.size }
+        ensures set { place < 32784 → self.new.buffer ≡ slice_set self.old.buffer place byte }
     {
         if place < LONGEST {
             self.buffer[place] = byte;
@@ -60,7 +61,9 @@ impl FileBuffer {
 
     // Adds bytes at the file's end, as far as the buffer goes.
     fn append(&mut self, bytes: &[u8])
-        ensures { self.new.size ≡ min (self.old.size + length bytes.now) 32784 }
+        ensures size { self.new.size ≡ min (self.old.size + length bytes.now) 32784 }
+        ensures grows { self.old.size ≤ self.new.size }
+        ensures kept { take self.old.size self.new.buffer ≡ take self.old.size self.old.buffer }
     {
         let count = bytes.len().min(LONGEST - self.size);
         let end = self.size + count;
@@ -69,20 +72,29 @@ impl FileBuffer {
     }
 
     // Adds a field's tag and the length of its body.
-    fn add_header(&mut self, tag: u8, length: u16) {
+    fn add_header(&mut self, tag: u8, length: u16)
+        ensures grows { self.old.size ≤ self.new.size }
+        ensures kept { take self.old.size self.new.buffer ≡ take self.old.size self.old.buffer }
+    {
         self.append(&[tag]);
         self.append(&length.to_le_bytes());
     }
 
     // Adds numbers of two bytes.
-    fn add_numbers(&mut self, numbers: &[u16]) {
+    fn add_numbers(&mut self, numbers: &[u16])
+        ensures grows { self.old.size ≤ self.new.size }
+        ensures kept { take self.old.size self.new.buffer ≡ take self.old.size self.old.buffer }
+    {
         for number in numbers {
             self.append(&number.to_le_bytes());
         }
     }
 
     // Adds a field of any tag and length, whose body is full of one byte.
-    fn add_filled(&mut self, tag: u8, length: u16, byte: u8) {
+    fn add_filled(&mut self, tag: u8, length: u16, byte: u8)
+        ensures grows { self.old.size ≤ self.new.size }
+        ensures kept { take self.old.size self.new.buffer ≡ take self.old.size self.old.buffer }
+    {
         self.add_header(tag, length);
         let end = (self.size + usize::from(length)).min(LONGEST);
         self.buffer[self.size..end].fill(byte);
@@ -90,7 +102,10 @@ impl FileBuffer {
     }
 
     // Adds a field.
-    pub fn add(&mut self, field: Field) {
+    pub fn add(&mut self, field: Field)
+        ensures grows { self.old.size ≤ self.new.size }
+        ensures kept { take self.old.size self.new.buffer ≡ take self.old.size self.old.buffer }
+    {
         match field {
             Field::ChartHead { stages, start, end } => {
                 self.add_header(1, 6);
