@@ -6,6 +6,7 @@ ghost use Rattle.std.specs.Iterator.{at_most};
 use crate::rules::{Rule, low};
 use crate::write::Field;
 
+// The low bytes of a number. One function for each width: std has no conversion that drops the high bytes.
 fn low_byte(x: u64) -> u8 {
     (x % 256) as u8
 }
@@ -30,7 +31,7 @@ pub struct SearchSlices {
     pub full: u32,
     // Whether the plan is free.
     pub free: bool,
-    // The work slice that has another number of entries, from 1, or 0 where none has; and that number.
+    // The work slice, numbered from 1, that has another number of entries; and that number. No slice has the number 0.
     pub slice: u64,
     pub size: usize,
 }
@@ -124,6 +125,7 @@ impl Call {
     }
 }
 
+// What a command says. Every letter takes up to six numbers, also one that uses fewer or none.
 #[derive(Clone, Copy)]
 pub enum Command<'a> {
     // Adds so many fields to the file in the making, by a rule.

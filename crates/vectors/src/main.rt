@@ -17,6 +17,7 @@ use std::io;
 use std::io::Read;
 
 // Reads until the buffer is full or the input ends, and returns how many bytes it put at the buffer's start.
+// Kept beside `command::read_full`, which takes a failed read for the input's end: here it is an error.
 fn read_full<R: Read>(input: &mut R, buf: &mut [u8]) -> io::Result<usize>
     ensures { IfOk result (λ n. n ≤ length buf.new) }
 {
@@ -40,7 +41,13 @@ fn play(rt: &HostRuntime, path: &str) -> io::Result<()> {
 }
 
 fn main(rt: HostRuntime) -> io::Result<()> {
-    for path in ["readers.txt", "remarks.txt", "searches.txt", "joins.txt", "padding.txt"] {
+    for path in [
+        "readers.txt",
+        "remarks.txt",
+        "searches.txt",
+        "joins.txt",
+        "padding.txt",
+    ] {
         play(&rt, path)?;
     }
     Ok(())

@@ -50,7 +50,10 @@ pub fn show_hexadecimal(rt: &impl Print, bytes: &[u8]) -> io::Result<()> {
 
 // How a call ended.
 pub fn show_outcome(rt: &impl Print, a: Answer) -> io::Result<()> {
-    print!(rt; " number {} file {} place {} cost {}", a.number, a.file, a.place, a.cost)
+    print!(rt;
+        " number {} file {} place {} cost {}",
+        a.number, a.file, a.place, a.cost
+    )
 }
 
 // Each entry of a slice.
