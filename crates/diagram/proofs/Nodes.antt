@@ -26,7 +26,7 @@ use Rattle.diagram_fields.specs.Words.{word_of, unpacked, lo_of, hi_of, step_of,
 use Rattle.unique_table.specs.Held.{Blank}
 use Rattle.unique_table.specs.Nodes.{nodes_long, node_listed}
 use Rattle.unique_table.specs.Tables.{UniqueTable, node_at, count_in, nodes_in, Table, Lacks, Found, Adds}
-use Rattle.diagram.specs.Files.{Room, NodesEnd, nodes_end, nodes_answer}
+use Rattle.diagram.specs.Files.{Room, nodes_end}
 use Rattle.diagram.specs.Turns.{Stored, SoFar, SoFarAt, Fresh, Over, Takes, Underway, Judged, limit_fault, padding_fault}
 use Rattle.diagram.specs.declared.reader.NodesRead.{NodesRead}
 use Rattle.diagram.specs.Limits.{NodeFits, node_fits, node_fault_same}
