@@ -7,4 +7,4 @@ returns-then-t-eq0-clause-becomes c = stepped_none _ _ _ _ _ _ _ c.if-t-eq0.true
 
 pub returns-clause-becomes : goal.returns-clause-becomes
 returns-clause-becomes c =
-    stepped_offer _ _ _ _ _ _ _ _ _ _ c.if-t-eq0.false c.to-s.ensures c.packed-mark.ensures c.offer.ensures.becomes
+    stepped_offer _ _ _ _ _ _ _ _ _ _ _ c.if-t-eq0.false c.to-s.ensures c.cost.ensures c.packed-mark.ensures c.offer.ensures.becomes
