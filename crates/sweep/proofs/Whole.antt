@@ -1,14 +1,12 @@
 -- Laws of `run` and `sweep`: the parts together give the promise.
 -- Assumes nothing.
 use Prim.Native.Nat.{ℕ, ◌+◌, ◌*◌, ◌≤◌, min}
-use mathlib.Core.Path.{◌≡◌, refl, sym, ◌∙◌, ap, ap₂, subst}
+use mathlib.Core.Path.{◌≡◌, refl, sym, ◌∙◌, ap, subst}
 use mathlib.Core.List.{List, [], ◌∷◌, ◌++◌}
 use native.Mathlib.Omega.{arith}
 use lib.ListN.{length, drop, replicate, length-replicate, get_or-replicate}
 use lib.Seq.{drop-append_seam}
 use Rattle.definitions.specs.Basics.{NONE}
-use Rattle.definitions.specs.Charts.{Chart}
-use Rattle.definitions.specs.Diagrams.{Diagram}
 use Rattle.definitions.specs.Ways.{Graph}
 use Rattle.definitions.specs.Pairs.{Automaton, row_starts, pairs}
 use Rattle.definitions.specs.Answers.{Load, ready, load, work_need, refusal}
@@ -26,7 +24,7 @@ use Rattle.sweep_model.specs.Sweeps.{FirstSteps}
 use Rattle.checks.specs.Outcome.{load_shortest, ready_space}
 use Rattle.checks.specs.Tables.{Read, Tables, chart_in, diagram_in, pairs_in}
 use Rattle.checks.specs.Ready.{walk, Ready, graph_in, automaton_in, lawful_in, few_stages, few_nodes}
-use Rattle.checks.specs.declared.refused.Refused.{Refused}
+use Rattle.checks.specs.declared.answers.Refused.{Refused}
 use Rattle.checks.specs.Refusing.{file_mark, refused_as}
 use Rattle.sweep_rows.specs.Standing.{at}
 use Rattle.sweep_rows.specs.Leaving.{first_steps}
@@ -139,11 +137,11 @@ module _ (s u : List ℕ) (before : SweepSlices) {work : ℕ} (ew : work ≡ min
       ∙ ap (λ (k : ℕ). load s u (k ∷ []) (length before.plan)) (sym ew)
 
   -- a refusal leaves everything
-  pub call_refused : {x : Refused} {r : Answer} → loaded ≡ refused_as x → r ≡ refusal (number x.refusal) (file_mark x.file) x.place 0 → SweepCall s u before before r
-  call_refused {r} h e = subst (λ (o : Load). SweepPromise o before before r) (sym (checked ∙ h)) (record { swept = (e, refl, refl); via = refl; nodes = refl })
+  pub call_refused : (x : Refused) {r : Answer} → loaded ≡ refused_as x → r ≡ refusal (number x.refusal) (file_mark x.file) x.place 0 → SweepCall s u before before r
+  call_refused x {r} h e = subst (λ (o : Load). SweepPromise o before before r) (sym (checked ∙ h)) (record { swept = (e, refl, refl); via = refl; nodes = refl })
 
   -- where all checks pass, the chart and the diagram stand in the tables
-  module _ {z : Shape} {t : Read} (h : loaded ≡ ready (chart_in z t) (diagram_in z t)) where
+  module _ (z : Shape) (t : Read) (h : loaded ≡ ready (chart_in z t) (diagram_in z t)) where
     pub call_space : Space z before
     call_space =
         let enough = ready_space s u work (length before.plan) (chart_in z t) (diagram_in z t) h in

@@ -1,5 +1,9 @@
 -- `sweep::conclude` meets its contract: with no goal pair there is no plan, else the best one's trail is written.
-use Rattle.std.proofs.Common.{arith, rules}
+use Rattle.std.proofs.Common.{◌∙◌, ap, arith, rules}
+use Rattle.definitions.specs.Answers.{refusal}
+use Rattle.definitions.specs.Refusals.{number}
+use Rattle.checks.specs.Refusing.{file_mark}
+use Rattle.checks.specs.declared.answers.Refused.{Refused}
 use Rattle.sweep.proofs.Concluding.{end_falls, end_listed, end_traceable, concludes_none, concludes_some}
 use Rattle.sweep.proofs.conclude.conclude.Goals as goal
 
@@ -16,7 +20,8 @@ write_plan-length-requires-clause-traceable c =
 
 pub returns-in-None : goal.returns-in-None
 returns-in-None c =
-    concludes_none c.requires.done c.fill_finishing.ensures c.in-None.ensures c.total_count-count.ensures c.refusal.ensures
+    concludes_none c.requires.done c.fill_finishing.ensures c.in-None.ensures c.total_count-count.ensures
+    (c.refusal.ensures ∙ ap (λ (x : Refused). refusal (number x.refusal) (file_mark x.file) x.place c.total_count-count.result) c.of_call.ensures)
 
 pub returns-in-Some : goal.returns-in-Some
 returns-in-Some c =
