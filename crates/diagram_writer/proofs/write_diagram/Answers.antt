@@ -13,4 +13,4 @@ returns-then-out-bytes c =
 pub returns : goal.returns
 returns c =
     let is-bytes : 5 + 9 * c.count.result ≡ 5 + 9 * count_in (unique_table c.args.nodes.now c.args.chains.now) = ap (λ (n : ℕ). 5 + 9 * n) c.count.ensures in
-    diagram_whole (unique_table c.args.nodes.now c.args.chains.now) _ _ is-bytes _ _ c.file_answer-answer.ensures c.if-out-bytes.false _ _ _ _ c.write_diagram_head-at.ensures c.write_nodes.ensures
+    diagram_whole (unique_table c.args.nodes.now c.args.chains.now) _ _ is-bytes _ _ c.file_answer-answer.ensures c.if-out-bytes.false _ _ _ _ c.write_diagram_head.ensures.1 c.write_nodes.ensures.1
