@@ -24,5 +24,5 @@ refused_as r = refused (number r.refusal) (file_mark r.file) r.place
 
 -- what was read stays, and a fault is one of this file
 abbrev pub FoundIn : {T S : Type 0} → InFile → Result T (Stopped S) → Result T Refused → Type 0
-FoundIn file (Ok value) r = r ≡ Ok value
-FoundIn file (Err stopped) r = r ≡ Err (record { refusal = stopped.fault.refusal; file = Some file; place = stopped.fault.place })
+FoundIn file read (Ok value) = read ≡ Ok value
+FoundIn {S = S} file read (Err r) = (e : Stopped S) × (read ≡ Err e) × (r ≡ record { refusal = e.fault.refusal; file = Some file; place = e.fault.place })
