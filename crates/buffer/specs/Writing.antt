@@ -1,11 +1,11 @@
 -- What a writer leaves: bytes appended to its buffer, and its place behind them; and laws of that.
 -- Assumes nothing.
-use Rattle.std.specs.Prelude.{ℕ, ◌+◌, ◌≤◌, ◌<◌, ◌≡◌, refl, List, [], ◌++◌, length, get_or, take}
+use Rattle.std.specs.Prelude.{ℕ, ◌+◌, ◌≤◌, ◌<◌, ◌≡◌, List, ◌++◌, length, get_or, take}
 use Rattle.std.proofs.Common.{◌∙◌}
 use Rattle.definitions.specs.Basics.{each}
 use Rattle.buffer.specs.declared.Writer.{Writer}
 use Rattle.buffer.specs.Appending.{Appended}
-use Rattle.buffer.specs.Appends.{append_none, append_both, append_long, append_inside}
+use Rattle.buffer.specs.Appends.{append_both, append_long, append_inside}
 use Rattle.buffer.specs.Members.{append_next, append_all}
 
 -- the writer before and after; it keeps the buffer that it was lent
@@ -14,9 +14,6 @@ Wrote before bytes after = (after.out.ghost_name ≡ before.out.ghost_name) × A
 
 -- ---- what callers need: the place stays in the buffer, two parts written one behind the other, and the members of a list. The laws are over the parts of
 -- the writers (g is the name of a writer's buffer), which the facts of a call determine
-
-pub wrote_none : (a : Writer) → Wrote a [] a
-wrote_none a = (refl, append_none _ _)
 
 module _ {g g' at r : ℕ} {x out o : List ℕ} (h : at ≤ length out) (p : (g' ≡ g) × Appended out at x o r) where
   pub wrote_inside : r ≤ length o

@@ -35,7 +35,7 @@ use Rattle.chart.specs.Tables.{steps_in, held_steps, Filled}
 use Rattle.chart.specs.Held.{Packs, stored_room, held_grown, ends_kept, costs_kept, nothing_filled}
 use Rattle.chart.specs.Limits.{StepFits, step_fits}
 use Rattle.chart.specs.Kinds.{due_kind, GoesWith, HasStep, KindAfter, due_same, due_goes, stands_whole}
-use Rattle.chart.specs.Turns.{SoFar, Over, Takes}
+use Rattle.chart.specs.Turns.{begun, SoFar, Over, Takes}
 use Rattle.chart.specs.declared.reader.StepsRead.{StepsRead}
 
 -- a step that passes has room in the tables, its value keeps the limit, and its group too
@@ -88,7 +88,7 @@ filled_grown before x ends count table₀ table packs counted below sofar =
     }
 
 -- what is read before the first turn
-pub steps_start : (s : List ℕ) (first stages : ℕ) (table : StepTable) → SoFar s first stages table table (record { place = first; steps = 0; last = 0; group = 0; kind = None })
+pub steps_start : (s : List ℕ) (first stages : ℕ) (table : StepTable) → SoFar s first stages table table (begun first)
 unfolding held_steps
 steps_start s first stages table = record {
   before = [];

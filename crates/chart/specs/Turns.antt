@@ -1,6 +1,6 @@
 -- The walk over the steps of a chart file, turn by turn.
 -- Assumes nothing.
-use Rattle.std.specs.Prelude.{ℕ, ◌≤◌, ◌≡◌, List, Result, Ok, Err, length}
+use Rattle.std.specs.Prelude.{ℕ, ◌≤◌, ◌≡◌, List, None, Result, Ok, Err, length}
 use Rattle.definitions.specs.Charts.{ChartStep, last_from, last_group, step_grammar, scan_steps}
 use Rattle.definitions.specs.Refusals.{number}
 use Rattle.fields.specs.Scans.{Reading}
@@ -10,6 +10,10 @@ use Rattle.chart_fields.specs.declared.table.StepTable.{StepTable}
 use Rattle.chart.specs.Kinds.{KindAfter}
 use Rattle.chart.specs.Tables.{Room, Filled}
 use Rattle.chart.specs.declared.reader.StepsRead.{StepsRead}
+
+-- before the first step, which is due at a place
+abbrev pub begun : ℕ → StepsRead
+begun place = record { place = place; steps = 0; last = 0; group = 0; kind = None }
 
 -- what is read so far at r, and that the rest of the walk is still to come
 pub record SoFar (s : List ℕ) (first stages : ℕ) (table₀ table : StepTable) (r : StepsRead) : Type 0 where

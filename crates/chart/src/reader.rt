@@ -5,7 +5,7 @@ ghost use Rattle.definitions.specs.Charts.{step_length, read_chart};
 ghost use Rattle.chart_fields.specs.Kinds.{kind_tag};
 ghost use Rattle.chart.specs.Kinds.{kind_if, kind_at, due_kind, HasStep, groups_to};
 ghost use Rattle.chart.specs.Tables.{Room, Filled, sizes_so_far, no_sizes, ChartAnswer};
-ghost use Rattle.chart.specs.Turns.{Ends, Takes};
+ghost use Rattle.chart.specs.Turns.{begun, Ends, Takes};
 
 use crate::sizes::ChartSizes;
 use chart_fields::{HeadBody, StepKind, StepTable, check_head, check_step, head_of, step_of};
@@ -27,14 +27,68 @@ pub struct StepsRead {
     pub kind: Option<StepKind>,
 }
 
-// The walk ends at a fault, with what is read so far.
-fn stopped(read: StepsRead, refusal: Refusal, place: usize) -> Stopped<StepsRead>
-    ensures { result ≡ record { fault = record { refusal = refusal; place = place }; passed = read } }
-{
-    Stopped {
-        fault: Fault { refusal, place },
-        passed: read,
+impl StepsRead {
+    // Before the first step, which is due at this place.
+    fn start(place: usize) -> StepsRead
+        ensures { result ≡ begun place }
+    {
+        StepsRead {
+            place,
+            steps: 0,
+            last: 0,
+            group: 0,
+            kind: None,
+        }
     }
+
+    // The walk ends at a fault.
+    fn stopped(self, refusal: Refusal, place: usize) -> Stopped<StepsRead>
+        ensures { result ≡ record { fault = record { refusal = refusal; place = place }; passed = self } }
+    {
+        Stopped {
+            fault: Fault { refusal, place },
+            passed: self,
+        }
+    }
+
+    // The kind of steps that is due: that of those before, and before the first that of what stands there.
+    #[tactic(auto, unfolding(crate::specs::Kinds::due_kind))]
+    fn due_kind(self, file: &[u8]) -> StepKind
+        ensures { result ≡ due_kind file.now self }
+    {
+        match self.kind {
+            Some(kind) => kind,
+            None => kind_at(file, self.place),
+        }
+    }
+
+    // What stands where the next field is due: a remark, or a step of this kind.
+    fn find_step(self, file: &[u8], kind: StepKind) -> Field
+        ensures { result ≡ field_at file.now self.place (or_remark (only (kind_tag kind) (step_length (kind_tag kind)))) }
+    {
+        Reader::new(file)
+            .moved(self.place)
+            .next(kind.tag(), kind.length())
+    }
+
+    // How many groups a diagram may name over these steps: those up to the last step's.
+    #[tactic(auto, unfolding(crate::specs::Kinds::groups_to, definitions::specs::Basics::pick))]
+    fn groups(self) -> usize
+        ensures { result ≡ groups_to self.steps self.group }
+    {
+        if self.steps == 0 {
+            return 0;
+        }
+        usize::from(self.group) + 1
+    }
+}
+
+// The kind of the step that may stand at a place: grouped where its tag says so, else plain.
+#[tactic(auto, unfolding(crate::specs::Kinds::kind_at))]
+fn kind_at(file: &[u8], at: usize) -> StepKind
+    ensures { result ≡ kind_at file.now at }
+{
+    kind_if(at < file.len() && file[at] == StepKind::Grouped.tag())
 }
 
 fn kind_if(grouped: bool) -> StepKind
@@ -64,7 +118,7 @@ fn put_step<const GROUPED: bool>(
     let end = start + usize::from(kind.length());
     let body = &file[start..end];
     if let Err(refusal) = check_step(body, stages, kind, read.last, read.group, read.steps) {
-        return Err(stopped(read, refusal, read.place));
+        return Err(read.stopped(refusal, read.place));
     }
     let step = step_of(body, kind, read.steps);
     steps.put(read.steps, step);
@@ -115,34 +169,6 @@ fn put_steps(
     }
 }
 
-// The kind of the step that may stand at a place: grouped where its tag says so, else plain.
-#[tactic(auto, unfolding(crate::specs::Kinds::kind_at))]
-fn kind_at(file: &[u8], at: usize) -> StepKind
-    ensures { result ≡ kind_at file.now at }
-{
-    kind_if(at < file.len() && file[at] == StepKind::Grouped.tag())
-}
-
-// The kind of steps that is due: that of those before, and before the first that of what stands there.
-#[tactic(auto, unfolding(crate::specs::Kinds::due_kind))]
-fn due_kind(file: &[u8], read: StepsRead) -> StepKind
-    ensures { result ≡ due_kind file.now read }
-{
-    match read.kind {
-        Some(kind) => kind,
-        None => kind_at(file, read.place),
-    }
-}
-
-// What stands where the next field is due: a remark, or a step of this kind.
-fn find_step(file: &[u8], read: StepsRead, kind: StepKind) -> Field
-    ensures { result ≡ field_at file.now read.place (or_remark (only (kind_tag kind) (step_length (kind_tag kind)))) }
-{
-    Reader::new(file)
-        .moved(read.place)
-        .next(kind.tag(), kind.length())
-}
-
 // The steps from a place on, into the table.
 fn read_steps(
     file: &[u8],
@@ -152,33 +178,16 @@ fn read_steps(
 ) -> Result<StepsRead, Stopped<StepsRead>>
     ensures { Ends file.now first stages steps.old steps.new result }
 {
-    let mut read = StepsRead {
-        place: first,
-        steps: 0,
-        last: 0,
-        group: 0,
-        kind: None,
-    };
+    let mut read = StepsRead::start(first);
     loop {
-        let kind = due_kind(file, read);
-        match find_step(file, read, kind) {
+        let kind = read.due_kind(file);
+        match read.find_step(file, kind) {
             Field::Absent => return Ok(read),
-            Field::Faulty { refusal, place } => return Err(stopped(read, refusal, place)),
+            Field::Faulty { refusal, place } => return Err(read.stopped(refusal, place)),
             Field::Passed { end } => read.place = end,
             Field::Whole { .. } => read = put_steps(file, read, kind, stages, steps)?,
         }
     }
-}
-
-// How many groups a diagram may name over the steps that were read: those up to the last step's.
-#[tactic(auto, unfolding(crate::specs::Kinds::groups_to, definitions::specs::Basics::pick))]
-fn groups_of(read: StepsRead) -> usize
-    ensures { result ≡ groups_to read.steps read.group }
-{
-    if read.steps == 0 {
-        return 0;
-    }
-    usize::from(read.group) + 1
 }
 
 // The sizes of a chart with this head and the steps that were read.
@@ -190,7 +199,7 @@ fn sizes(head: HeadBody, read: StepsRead) -> ChartSizes
         start: head.start,
         end: head.end,
         steps: read.steps,
-        groups: groups_of(read),
+        groups: read.groups(),
     }
 }
 

@@ -18,9 +18,9 @@ use Rattle.definitions.specs.declared.Refusal.TheVariants.{ShortSlice}
 use Rattle.fields.specs.Positions.{number_some}
 use Rattle.fields.specs.declared.fault.Stopped.{Stopped}
 use Rattle.chart_fields.specs.declared.table.StepTable.{StepTable}
-use Rattle.checks.specs.Refusing.{FoundIn}
-use Rattle.checks.specs.declared.refused.Refused.{Refused}
-use Rattle.checks.specs.declared.refused.InFile.TheVariants.{Chart, Rules}
+use Rattle.checks.specs.Refusing.{FoundIn, refused_as}
+use Rattle.checks.specs.declared.answers.Refused.{Refused}
+use Rattle.checks.specs.declared.answers.InFile.TheVariants.{Chart, Rules}
 use Rattle.definitions.specs.Plans.{graph}
 use Rattle.theory.specs.Limits.{Small, OneKind, Valid, Sound}
 use Rattle.theory.specs.Variables.{groups_few}
@@ -46,9 +46,9 @@ short = record { refusal = ShortSlice; file = None; place = 0 }
 
 module _ (s t : List ℕ) (work plan : ℕ) where
   -- the chart is refused
-  pub chart_out : (r : Result ChartSizes (Stopped ChartSizes)) → chart.ChartAnswer (read_chart s) r → (w : Read) (x : Refused) → FoundIn Chart r (Err x)
-      → LoadsAs (load s t (work ∷ []) plan) w (Err x)
-  chart_out r answer w x found =
+  pub chart_out : (r : Result ChartSizes (Stopped ChartSizes)) → chart.ChartAnswer (read_chart s) r → (x : Refused) → FoundIn Chart r (Err x)
+      → load s t (work ∷ []) plan ≡ refused_as x
+  chart_out r answer x found =
       let a = subst (chart.ChartAnswer (read_chart s)) found.1 answer in
       chart_refuses s t (work ∷ []) plan (λ q. number_not found.0.fault.refusal (sym a.0 ∙ q)) ∙ rw (a.0, a.1, found.2)
 
@@ -82,8 +82,8 @@ module _ (s t : List ℕ) (work plan : ℕ) where
 
     -- the diagram is refused
     pub rules_out : (r : Result DiagramSizes (Stopped DiagramSizes)) → files.diagram_end r ≡ files.diagram_answer (read_diagram strict t x.groups)
-        → (w : Read) (z : Refused) → FoundIn Rules r (Err z) → LoadsAs (load s t (work ∷ []) plan) w (Err z)
-    rules_out r answer w z found =
+        → (z : Refused) → FoundIn Rules r (Err z) → load s t (work ∷ []) plan ≡ refused_as z
+    rules_out r answer z found =
         let e = sym (ap files.diagram_end found.1) ∙ answer ∙ ap files.diagram_answer same_file in
         let n : number found.0.fault.refusal ≡ d.number = ap (λ (k : files.DiagramEnd). k.number) e in
         let p : found.0.fault.place ≡ d.place = ap (λ (k : files.DiagramEnd). k.place) e in
@@ -115,11 +115,11 @@ module _ (s t : List ℕ) (work plan : ℕ) where
         need_is : work_need (read_chart s).chart d.diagram ≡ x.stages * (y.nodes + 2)
         need_is = ap₂ (λ (i j : ℕ). i * (j + 2)) (sym stages_is) (sym nodes_is)
 
-        pub work_refused : (w : Read) → work < x.stages * (y.nodes + 2) → LoadsAs (load s t (work ∷ []) plan) w (Err short)
-        work_refused w h = space_refuses s t (work ∷ []) plan chart_passed rules_passed (simp (lt-leb (work_need (read_chart s).chart d.diagram) work (omega (arith, need_is))))
+        pub work_refused : work < x.stages * (y.nodes + 2) → load s t (work ∷ []) plan ≡ refused_as short
+        work_refused h = space_refuses s t (work ∷ []) plan chart_passed rules_passed (simp (lt-leb (work_need (read_chart s).chart d.diagram) work (omega (arith, need_is))))
 
-        pub plan_refused : (w : Read) → x.stages * (y.nodes + 2) ≤ work → plan < x.stages - 1 → LoadsAs (load s t (work ∷ []) plan) w (Err short)
-        plan_refused w h k =
+        pub plan_refused : x.stages * (y.nodes + 2) ≤ work → plan < x.stages - 1 → load s t (work ∷ []) plan ≡ refused_as short
+        plan_refused h k =
             space_refuses s t (work ∷ []) plan chart_passed rules_passed
             (simp (le-leb (work_need (read_chart s).chart d.diagram) work (omega (arith, need_is)), lt-leb ((read_chart s).chart.stages - 1) plan (omega (arith, stages_is))))
 

@@ -1,1 +1,5 @@
 pub mod Refusing
+pub mod Tables
+pub mod Outcome
+pub mod Ready
+pub mod Heads

@@ -4,9 +4,9 @@ use Rattle.std.specs.Prelude.{ℕ, ◌≡◌, Option, Some, None, Result, Ok, Er
 use Rattle.definitions.specs.Answers.{Load, refused}
 use Rattle.definitions.specs.Refusals.{number}
 use Rattle.fields.specs.declared.fault.Stopped.{Stopped}
-use Rattle.checks.specs.declared.refused.InFile.{InFile}
-use Rattle.checks.specs.declared.refused.InFile.TheVariants.{Chart, Rules, More}
-use Rattle.checks.specs.declared.refused.Refused.{Refused}
+use Rattle.checks.specs.declared.answers.InFile.{InFile}
+use Rattle.checks.specs.declared.answers.InFile.TheVariants.{Chart, Rules, More}
+use Rattle.checks.specs.declared.answers.Refused.{Refused}
 
 abbrev pub mark : InFile → ℕ
 mark Chart = 1

@@ -12,7 +12,7 @@ use Rattle.diagram.specs.Tables as diagram
 use Rattle.diagram.specs.Files as files
 use Rattle.definitions.specs.declared.Shape.{Shape}
 use Rattle.chart_fields.specs.declared.table.StepTable.{StepTable}
-use Rattle.checks.specs.declared.refused.Refused.{Refused}
+use Rattle.checks.specs.declared.answers.Refused.{Refused}
 use Rattle.checks.specs.Refusing.{refused_as}
 
 -- what the two files are read into: the table of steps and the table of inner nodes

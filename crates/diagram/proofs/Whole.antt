@@ -23,7 +23,7 @@ use Rattle.fields.specs.Positions.{number_some}
 use Rattle.fields.specs.declared.fault.Stopped.{Stopped}
 use Rattle.unique_table.specs.Tables.{UniqueTable}
 use Rattle.diagram_fields.specs.Words.{word_of, leaf}
-use Rattle.diagram.specs.Files.{Room, NodesEnd, nodes_end, nodes_answer, DiagramEnd, table_with, diagram_end, diagram_answer, Reads}
+use Rattle.diagram.specs.Files.{Room, NodesEnd, nodes_end, table_with, diagram_end, diagram_answer, Reads}
 use Rattle.diagram.specs.Turns.{Stored, Over, Rest}
 use Rattle.diagram.proofs.Nodes.{nothing_stored}
 use Rattle.diagram.specs.declared.reader.DiagramSizes.{DiagramSizes}

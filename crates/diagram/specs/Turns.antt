@@ -58,7 +58,7 @@ Underway mode s groups t r = (o : ℕ × List ℕ) × SoFarAt mode s groups t r 
 
 -- from r on, by one field or by a run of them
 abbrev pub Takes : Bool → List ℕ → ℕ → NodesRead → UniqueTable → UniqueTable → Result NodesRead (Stopped ℕ) → Type 0
-Takes mode s groups r t t' = Turn s r.place (λ (x : NodesRead). x.place) (SoFarAt mode s groups t r) (SoFarAt mode s groups t') (OverAt mode s groups t')
+Takes mode s groups r t t' = Turn s (λ (x : NodesRead). x.place) r.place (SoFarAt mode s groups t r) (SoFarAt mode s groups t') (OverAt mode s groups t')
 
 -- ---- a node's body, behind the nodes of a table
 

@@ -1,4 +1,5 @@
 // The text that the program writes, put into a buffer. Where the buffer is too short the text is cut at the buffer's end.
+// It is put together by hand: `write!` into a slice fails there.
 #![tactic(auto)]
 
 ghost use Rattle.std.specs.Prelude.{◌≤◌, length, take};

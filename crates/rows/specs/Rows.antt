@@ -1,13 +1,13 @@
 -- Laws of the table of row starts: while it is filled, and for the searches.
 -- Assumes nothing.
-use Rattle.std.specs.Prelude.{ℕ, ◌+◌, ◌*◌, ◌≤◌, ◌<◌, ◌≡◌, List, map, length, get_or, set, replicate}
+use Rattle.std.specs.Prelude.{ℕ, ◌*◌, ◌≤◌, ◌<◌, ◌≡◌, List, map, length, get_or, replicate}
 use Rattle.std.proofs.Math.Path.{sym}
-use Rattle.std.proofs.Common.{◌∙◌, arith, length-set, get_or-set_same, get_or-set_other, lt-ltb, le-ltb}
+use Rattle.std.proofs.Common.{◌∙◌, arith, lt-ltb, le-ltb}
 use Rattle.std.proofs.lemmas.List.{length-replicate, get_or-replicate}
 use Rattle.std.proofs.Math.Seq.{ext_get_or}
 use Rattle.definitions.specs.Basics.{upto}
 use Rattle.definitions.specs.Pairs.{row_start, row_starts}
-use Rattle.theory.specs.Basics.{either, lt_or_le, same_or_not, pick_true, pick_false, length-map_run, get_d_map_upto}
+use Rattle.theory.specs.Basics.{either, lt_or_le, pick_true, pick_false, length-map_run, get_d_map_upto}
 
 -- what the searches ask of it: the row of a stage of the chart starts at stage × N
 pub row_at : (stages width s : ℕ) → stages ≤ 256 → s < stages → get_or (row_starts stages width) s 0 ≡ s * width

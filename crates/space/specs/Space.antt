@@ -4,7 +4,7 @@ use Rattle.std.specs.Prelude.{ℕ, Result, Ok, Err}
 use Rattle.definitions.specs.Answers.{Load, ready, refused, work_need, plan_need}
 use Rattle.definitions.specs.Refusals.{number}
 use Rattle.checks.specs.Refusing.{file_mark}
-use Rattle.checks.specs.declared.refused.Refused.{Refused}
+use Rattle.checks.specs.declared.answers.Refused.{Refused}
 use Rattle.space.specs.declared.Space.{Space}
 
 -- a refusal's number, file and place, or 0; and the entries that each work slice and the plan slice need, 0 where the files are refused

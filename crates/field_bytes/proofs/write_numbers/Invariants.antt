@@ -1,5 +1,5 @@
 -- The loop of `field_bytes::write_numbers`: what holds at its head.
-use Prim.Native.Nat.{◌+◌, ◌*◌, ◌≤◌}
+use Prim.Native.Nat.{◌+◌, ◌*◌}
 use mathlib.Core.Path.{◌≡◌}
 use lib.ListN.{length, take}
 use Rattle.definitions.specs.Basics.{each}

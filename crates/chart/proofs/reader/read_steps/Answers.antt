@@ -4,7 +4,7 @@ use Rattle.chart.proofs.Steps.{steps_start, walk_done, walk_faulty, walk_passed,
 use Rattle.chart.proofs.reader.read_steps.Goals as goal
 
 pub loop-refusal-init : goal.loop-refusal-init
-loop-refusal-init c = steps_start _ _ _ _
+loop-refusal-init c = rw c.start-read.ensures (steps_start _ _ _ _)
 
 pub returns-in-Absent : goal.returns-in-Absent
 returns-in-Absent c = walk_done _ _ _ _ _ _ c.loop-refusal.invariant _ c.due_kind-kind.ensures _ c.find_step.ensures c.in-Absent.is
