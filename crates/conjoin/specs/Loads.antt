@@ -22,9 +22,9 @@ use Rattle.diagram.specs.Held.{held_inner}
 use Rattle.diagram.specs.Tables.{Held}
 use Rattle.diagram.specs.declared.reader.DiagramSizes.{DiagramSizes}
 use Rattle.checks.specs.Refusing.{file_mark, FoundIn}
-use Rattle.checks.specs.declared.refused.InFile.{InFile}
-use Rattle.checks.specs.declared.refused.InFile.TheVariants.{Chart, Rules, More}
-use Rattle.checks.specs.declared.refused.Refused.{Refused}
+use Rattle.checks.specs.declared.answers.InFile.{InFile}
+use Rattle.checks.specs.declared.answers.InFile.TheVariants.{Chart, Rules, More}
+use Rattle.checks.specs.declared.answers.Refused.{Refused}
 use Rattle.conjunctions.specs.Loads.{rules_read, chart_refuses_two, rules_refuse_two, more_refuses, pairs_refused, ready_two_lem}
 use Rattle.apply.specs.Operands.{Operand}
 use Rattle.conjoin.specs.declared.load.LoadedTwo.{LoadedTwo}

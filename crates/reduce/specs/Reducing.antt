@@ -21,9 +21,9 @@ use Rattle.diagram.specs.Files.{Reads}
 use Rattle.diagram.specs.declared.reader.DiagramSizes.{DiagramSizes}
 use Rattle.checks.specs.Outcome.{chart_refused_lem, rules_refused, files_passed}
 use Rattle.checks.specs.Refusing.{file_mark, refused_as, FoundIn}
-use Rattle.checks.specs.declared.refused.InFile.{InFile}
-use Rattle.checks.specs.declared.refused.InFile.TheVariants.{Chart, Rules}
-use Rattle.checks.specs.declared.refused.Refused.{Refused}
+use Rattle.checks.specs.declared.answers.InFile.{InFile}
+use Rattle.checks.specs.declared.answers.InFile.TheVariants.{Chart, Rules}
+use Rattle.checks.specs.declared.answers.Refused.{Refused}
 use Rattle.apply.specs.Operands.{Operand}
 use Rattle.apply.specs.declared.operands.Operands.{Operands}
 use Rattle.conjoin.specs.Joins.{Joinable, Joins}

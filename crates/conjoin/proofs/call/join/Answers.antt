@@ -4,7 +4,7 @@ use Rattle.std.proofs.Common.{◌∙◌, ap}
 use Rattle.definitions.specs.Answers.{refusal}
 use Rattle.definitions.specs.Refusals.{number}
 use Rattle.checks.specs.Refusing.{file_mark}
-use Rattle.checks.specs.declared.refused.Refused.{Refused}
+use Rattle.checks.specs.declared.answers.Refused.{Refused}
 use Rattle.conjoin.proofs.call.join.Goals as goal
 
 pub apply-requires : goal.apply-requires
