@@ -25,8 +25,8 @@ pub open_block-requires : goal.open_block-requires
 open_block-requires c =
     leads_block c.requires c.to_at-stage.ensures _ c.pair_estimate-rest.ensures c.if-rest.false _ c.pair_at-y.ensures
 
-pub bounds-steps-i : goal.bounds-steps-i
-bounds-steps-i c =
+pub bounds-tables-i : goal.bounds-tables-i
+bounds-tables-i c =
     step_small c.requires
 
 pub overflow_add-v : goal.overflow_add-v
