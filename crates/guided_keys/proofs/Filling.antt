@@ -1,36 +1,35 @@
--- The loop that fills keys, and both ways of `open_block`.
+-- A part of the keys is filled, and both ways of `open_block`.
 -- Assumes nothing.
 use Prim.Native.Nat.{ℕ, ◌+◌, ◌-◌, ◌*◌, ◌≤◌, ◌<◌, min}
 use mathlib.Core.Path.{◌≡◌, refl, sym, ◌∙◌, ap}
 use mathlib.Core.Bool.{Bool, true, false}
 use mathlib.Core.List.{List}
 use native.Mathlib.Omega.{arith}
-use lib.ListN.{length, get_or, set, drop, length-set}
-use lib.Seq.{get_or-set_same, get_or-set_other, get_or-drop, drop-drop, drop-set-lt}
+use borrow.Author.Rules.{rules}
+use borrow.Rule.Slice.PartMut.{put_mid}
+use lib.ListN.{length, get_or, set, take, drop, replicate, length-set, length-replicate}
+use lib.Seq.{get_or-set_same, get_or-set_other, get_or-drop, drop-drop, length-take-le}
+use Rattle.std.proofs.lemmas.List.{places, length-drop}
+use Rattle.std.proofs.lemmas.Slice.{drop-put_mid}
 use Rattle.definitions.specs.Basics.{NONE}
 use Rattle.theory.specs.Basics.{either, lt_or_le, same_or_not, true_not_false}
 use Rattle.guided_keys.specs.Fills.{Filled, block_of, is_filled_lem, filled_inside, filled_block, BlockOpened}
 
--- keys filled so far
-pub record Filling (first k until : ℕ) (keys₀ keys : List ℕ) : Type 0 where
-  pub fresh : (j : ℕ) → first ≤ j → j < k → get_or keys j 0 ≡ NONE
-  pub before : (j : ℕ) → j < first → get_or keys j 0 ≡ get_or keys₀ j 0
-  pub past : drop until keys ≡ drop until keys₀
-
-pub fill_none : (first until : ℕ) (keys : List ℕ) → Filling first first until keys keys
-fill_none first until keys = record { fresh = λ j a b. absurd (omega arith); before = λ j a. refl; past = refl }
-
-pub fill_more : {first k until : ℕ} {keys₀ keys : List ℕ} → Filling first k until keys₀ keys → first ≤ k → k < until → k < length keys
-    → Filling first (k + 1) until keys₀ (set keys k NONE)
-fill_more {first} {k} {until} {keys₀} {keys} c f l i = record {
-  fresh = λ j a b. either (same_or_not j k) (λ q. rw q (get_or-set_same keys k NONE 0 i))
-      (λ q. get_or-set_other keys k j NONE 0 q ∙ c.fresh j a (omega arith));
-  before = λ j a. get_or-set_other keys k j NONE 0 (λ q. omega arith) ∙ c.before j a;
-  past = drop-set-lt until keys k NONE l ∙ c.past;
+-- what `fill` leaves of a part of the keys
+pub filled_part : (first until : ℕ) (keys part : List ℕ) → first ≤ until → until ≤ length keys
+    → part ≡ replicate (length (take (until - first) (drop first keys))) NONE
+    → Filled first until keys (put_mid first (until - first) keys part)
+filled_part first until keys part f l e = record {
+  fresh = λ k a b. rw none (search (rules, places));
+  before = λ k a. search (rules, places);
+  past = drop-put_mid first (until - first) keys part until (omega arith) (omega arith) (ap length none ∙ length-replicate (until - first) NONE);
 }
+  where
+    count : length (take (until - first) (drop first keys)) ≡ until - first
+    count = length-take-le (until - first) (drop first keys) (omega (arith, length-drop first keys))
 
-pub fill_all : {first k until : ℕ} {keys₀ keys : List ℕ} → Filling first k until keys₀ keys → until ≤ k → Filled first until keys₀ keys
-fill_all c l = record { fresh = λ j a b. c.fresh j a (omega arith); before = c.before; past = c.past }
+    none : part ≡ replicate (until - first) NONE
+    none = e ∙ ap (λ (n : ℕ). replicate n NONE) count
 
 -- ---- `open_block`
 

@@ -2,25 +2,12 @@
 #![tactic(auto)]
 
 ghost use Rattle.std.specs.Prelude.{◌≡◌, ◌≤◌, ◌<◌, length};
-ghost use Rattle.guided_keys.specs.Fills.{Filled, BlockOpened};
+ghost use Rattle.guided_keys.specs.Fills.{BlockOpened};
 
-use convert::lesser;
 use definitions::NONE;
 
-// Fills the keys from `first` to before `until`: none of these pairs was ever opened.
-fn fill_keys(keys: &mut [u32], first: usize, until: usize)
-    requires { (first ≤ until) × (until ≤ length keys.old) }
-    ensures { Filled first until keys.old keys.new }
-{
-    let mut k = first;
-    while k < until {
-        keys[k] = NONE;
-        k += 1;
-    }
-}
-
-// Fills the block of keys that pair x stands in, unless that is done; `filled` marks the blocks that are filled. There are
-// `pairs` keys in all, so the last block may be shorter.
+// Fills the block of keys that pair x stands in, unless that is done: none of its pairs was ever opened. `filled` marks the
+// blocks that are filled. There are `pairs` keys in all, so the last block may be shorter.
 pub fn open_block(keys: &mut [u32], filled: &mut [bool; 1024], x: usize, pairs: usize)
     requires { (x < pairs) × (pairs ≤ 131072) × (pairs ≤ length keys.old) × (length filled.old ≡ 1024) }
     ensures { BlockOpened x pairs keys.old filled.old keys.new filled.new }
@@ -30,6 +17,7 @@ pub fn open_block(keys: &mut [u32], filled: &mut [bool; 1024], x: usize, pairs: 
         return;
     }
     let first = b * 128;
-    fill_keys(keys, first, lesser(first + 128, pairs));
+    let until = (first + 128).min(pairs);
+    keys[first..until].fill(NONE);
     filled[b] = true;
 }

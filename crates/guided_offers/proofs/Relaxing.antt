@@ -7,8 +7,7 @@ use native.Mathlib.Omega.{arith}
 use lib.ListN.{length, get_or, set, drop}
 use lib.Seq.{drop-set-lt}
 use Rattle.definitions.specs.Basics.{NONE}
-use Rattle.queue.specs.declared.Counts.{Counts}
-use Rattle.queue.specs.Queue.{state, Contains, Inserting, Inserted, Decreasing, Decreased}
+use Rattle.queue.specs.Queue.{Counts, state, Contains, Inserting, Inserted, Decreasing, Decreased}
 use Rattle.queue.proofs.Facts.{keys_fit}
 use Rattle.guided_model.specs.Moves.{relaxed_none, relaxed_falls}
 use Rattle.guided_offers.specs.Work.{Work, work, queue_in, marks_in, kept_same, Offering, Relaxes}
@@ -44,9 +43,10 @@ module _ {floor y v : ℕ} {x : Work} {c : Counts} (o : Offering floor y v x c) 
     }
 
     -- y is moved up
-    pub relax_decreases : {keys' heap' pos' : List ℕ} → Contains (queue_in x c) y → Decreased p floor y v (queue_in x c) (state keys' heap' pos' x.stack c)
-        → Relaxes p floor y v mark x c (work keys' (set x.via y mark) heap' pos' x.stack) c
-    relax_decreases {keys'} {heap'} {pos'} w d = record {
+    pub relax_decreases : {keys' heap' pos' stack' : List ℕ} {c' : Counts} → Contains (queue_in x c) y → stack' ≡ x.stack → c' ≡ c
+        → Decreased p floor y v (queue_in x c) (state keys' heap' pos' x.stack c)
+        → Relaxes p floor y v mark x c (work keys' (set x.via y mark) heap' pos' stack') c'
+    relax_decreases {keys'} {heap'} {pos'} w es ec d = rw (es, ec) (record {
       relaxed = relaxed_falls y v mark (marks_in x c) (marks_in (work keys' (set x.via y mark) heap' pos' x.stack) c)
           relax_fits.0 relax_fits.1 less o.low d.stored refl (d.kept y w) d.kept (λ k i n. d.only k i);
       kept = record {
@@ -59,7 +59,7 @@ module _ {floor y v : ℕ} {x : Work} {c : Counts} (o : Offering floor y v x c) 
           stack_past = refl;
         };
       };
-    }
+    })
 
   -- y is not open where it has no key
   abbrev pub relax_opens : get_or x.keys y 0 ≡ NONE → Inserting floor y v (queue_in x c)

@@ -1,7 +1,9 @@
 -- What the calls of the heap ask and leave. The pairs are 0 to p - 1, for any p: no call reads it, and nothing from p on is touched.
 -- Assumes nothing.
-use Rattle.std.specs.Prelude.{ℕ, ◌+◌, ◌-◌, ◌≤◌, ◌<◌, ◌≡◌, ◌≢◌, get_or, set}
+use Rattle.std.specs.Prelude.{ℕ, ◌+◌, ◌-◌, ◌≤◌, ◌<◌, ◌≡◌, ◌≢◌, get_or, set, Option, Some, None}
 use Rattle.heap_sift.specs.Heap.{Slices, In, Heap, Past}
+use Rattle.heap.specs.declared.Heap as declared
+use Rattle.heap.specs.Views.{slices_of}
 
 -- what `push` asks: a heap of n pairs, and q, which is not among them
 pub record Pushing (n q : ℕ) (x : Slices) : Type 0 where
@@ -45,3 +47,8 @@ pub record Popped (p n r : ℕ) (x x' : Slices) : Type 0 where
   pub kept : (k : ℕ) → In x.heap x.pos n k → k ≢ r → In x'.heap x'.pos (n - 1) k
   pub only : (k : ℕ) → In x'.heap x'.pos (n - 1) k → In x.heap x.pos n k
   pub past : Past p x.heap x.pos x'.heap x'.pos
+
+-- what `pop_min` answers: such a pair, one fewer being left, or none, exactly where the heap has none
+abbrev pub Pops : ℕ → declared.Heap → declared.Heap → Option ℕ → Type 0
+Pops p h h' (Some r) = (0 < h.held) × (h'.held ≡ h.held - 1) × Popped p h.held r (slices_of h) (slices_of h')
+Pops p h h' None = (h.held ≡ 0) × (h' ≡ h)

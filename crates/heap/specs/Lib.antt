@@ -1,2 +1,3 @@
--- What the calls of the heap ask and leave.
+-- What a heap shows, and what its calls ask and leave.
+pub mod Views
 pub mod Calls

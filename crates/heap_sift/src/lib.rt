@@ -7,15 +7,12 @@ ghost use Rattle.std.specs.Prelude.{◌≡◌, ℕ, ◌+◌, ◌≤◌, ◌<◌,
 ghost use Rattle.heap_sift.specs.Heap.{slices, key, parent};
 ghost use Rattle.heap_sift.specs.Sift.{Entry, Swapped, LeastChild, SiftingUp, SiftingDown, Sifted};
 
-use convert::wide;
-
 // The key of the pair at place i.
 pub fn key_at<'a>(keys: &'a [u32], heap: &'a [u32], i: usize) -> u32
     requires { (i < length heap.now) × (get_or heap.now i 0 < length keys.now) }
     ensures { result ≡ key keys.now heap.now i }
 {
-    let q = wide(heap[i]);
-    keys[q]
+    keys[heap[i] as usize]
 }
 
 // Lets the pairs at the places i and j change places.
@@ -23,14 +20,11 @@ pub fn swap(heap: &mut [u32], pos: &mut [u32], i: usize, j: usize)
     requires { Entry heap.old pos.old i × Entry heap.old pos.old j }
     ensures { Swapped i j heap.old pos.old heap.new pos.new }
 {
-    let a = heap[i];
-    let b = heap[j];
-    heap[i] = b;
-    heap[j] = a;
-    let x = wide(a);
-    let y = wide(b);
-    pos[x] = j as u32;
-    pos[y] = i as u32;
+    let a = heap[i] as usize;
+    let b = heap[j] as usize;
+    heap.swap(i, j);
+    pos[a] = j as u32;
+    pos[b] = i as u32;
 }
 
 // The place above place x.

@@ -9,8 +9,7 @@ use lib.ListN.{get_or}
 use lib.Seq.{get_or-set_same, get_or-set_other}
 use Rattle.heap_sift.specs.Heap.{slices, In}
 use Rattle.heap.specs.Calls as calls
-use Rattle.queue.specs.declared.Counts.{Counts}
-use Rattle.queue.specs.Queue.{state, heaped, Contains, Queue, Decreasing, Decreased}
+use Rattle.queue.specs.Queue.{Counts, state, Contains, Queue, Decreasing, Decreased}
 use Rattle.queue.proofs.Facts.{contains_pair}
 
 module _ {keys heap pos stack : List ℕ} {c : Counts} {q v : ℕ} (d : Decreasing q v (state keys heap pos stack c)) where
@@ -24,22 +23,21 @@ module _ {keys heap pos stack : List ℕ} {c : Counts} {q v : ℕ} (d : Decreasi
   x = d.queue
 
   -- a pair whose key is above the floor is in the heap
-  pub in_the_heap : In heap pos (heaped c) q
+  pub in_the_heap : In heap pos c.heaped q
   in_the_heap = go d.here
     where
-      go : Contains (state keys heap pos stack c) q → In heap pos (heaped c) q
+      go : Contains (state keys heap pos stack c) q → In heap pos c.heaped q
       go (Contains.in_heap i) = i
       go (Contains.on_stack i h e) = absurd (omega (arith, x.level i h, ap (λ (k : ℕ). get_or keys k 0) e, d.above, d.lower))
 
   -- what `decrease_key` asks
   abbrev pub decrease_heaped : calls.Decreasing q v (slices keys heap pos)
-  decrease_heaped = record { p = p; n = heaped c; ordered = x.ordered; inside = in_the_heap; lower = omega (arith, d.lower) }
+  decrease_heaped = record { p = p; n = c.heaped; ordered = x.ordered; inside = in_the_heap; lower = omega (arith, d.lower) }
 
-  module _ {keys' heap' pos' : List ℕ} (u : calls.Decreased p (heaped c) q v (slices keys heap pos) (slices keys' heap' pos')) where
+  module _ {keys' heap' pos' : List ℕ} (u : calls.Decreased p c.heaped q v (slices keys heap pos) (slices keys' heap' pos')) where
     lower_queue : Queue p floor (state keys' heap' pos' stack c)
     lower_queue = record {
       ordered = u.ordered;
-      top_held = x.top_held;
       stack_fits = x.stack_fits;
       pairs = x.pairs;
       distinct = x.distinct;
@@ -48,7 +46,7 @@ module _ {keys heap pos stack : List ℕ} {c : Counts} {q v : ℕ} (d : Decreasi
       above = λ k a. above k a (ℕ_discrete k q);
     }
       where
-        above : (k : ℕ) → In heap' pos' (heaped c) k → Dec (k ≡ q) → floor ≤ get_or keys' k 0
+        above : (k : ℕ) → In heap' pos' c.heaped k → Dec (k ≡ q) → floor ≤ get_or keys' k 0
         above k a (yes e) = rw (u.stored, e) (omega (arith, d.above, get_or-set_same keys q v 0 (omega (arith, contains_pair x d.here, x.ordered.keys_fit))))
         above k a (no nd) = rw u.stored (omega (arith, get_or-set_other keys q k v 0 nd, x.above k (u.only k a)))
 

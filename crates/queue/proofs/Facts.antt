@@ -8,16 +8,14 @@ use lib.ListN.{length, get_or}
 use Rattle.heap_sift.specs.Heap.{slices, key, parent, Heap}
 use Rattle.heap_sift.proofs.Places.{in_pair, stands}
 use Rattle.heap.proofs.Facts.{heap_empty}
-use Rattle.queue.specs.declared.Counts.{Counts}
-use Rattle.queue.specs.Queue.{State, state, heaped, Contains, Queue, Empty}
+use Rattle.queue.specs.Queue.{Counts, held, State, state, Contains, Queue, Empty}
 
 -- the empty queue, whatever stands in the slices and whatever the floor is
 pub queue_empty : {keys heap pos stack : List ℕ} {p floor : ℕ} {c : Counts} → Empty c
     → p ≤ 4294967296 → p ≤ length keys → p ≤ length heap → p ≤ length pos → p ≤ length stack
     → Queue p floor (state keys heap pos stack c)
 queue_empty {keys} {heap} {pos} {stack} {p} {floor} {c} x s a b d e = record {
-  ordered = let n : 0 ≡ heaped c = omega (arith, x.none_held) in rw n at h;
-  top_held = omega (arith, x.none_stacked);
+  ordered = let n : 0 ≡ c.heaped = omega (arith, x.none_held) in rw n at h;
   stack_fits = e;
   pairs = λ i l. absurd (omega (arith, x.none_stacked));
   distinct = λ i j l m q. absurd (omega (arith, x.none_stacked));
@@ -35,9 +33,9 @@ module _ {p floor : ℕ} {x : State} (y : Queue p floor x) where
   keys_fit = y.ordered.keys_fit
 
   -- a queue that holds no pair contains none
-  pub contains_none : {q : ℕ} → x.counts.held ≡ 0 → Contains x q → ⊥
+  pub contains_none : {q : ℕ} → held x.counts ≡ 0 → Contains x q → ⊥
   contains_none e (Contains.in_heap w) = omega (arith, w.place)
-  contains_none e (Contains.on_stack i l d) = omega (arith, y.top_held)
+  contains_none e (Contains.on_stack i l d) = omega arith
 
   -- what is in the queue is a pair
   pub contains_pair : {q : ℕ} → Contains x q → q < p
@@ -57,7 +55,7 @@ module _ {keys heap pos stack : List ℕ} {c : Counts} (keys' : List ℕ) where
 
   module _ {p floor : ℕ} (y : Queue p floor (state keys heap pos stack c)) (fits : p ≤ length keys')
       (same : (q : ℕ) → Contains (state keys heap pos stack c) q → get_or keys' q 0 ≡ get_or keys q 0) where
-    same_key : (i : ℕ) → i < heaped c → key keys' heap i ≡ key keys heap i
+    same_key : (i : ℕ) → i < c.heaped → key keys' heap i ≡ key keys heap i
     unfolding key
     same_key i l = same (get_or heap i 0) (Contains.in_heap (stands y.ordered.indexed i (get_or heap i 0) l refl))
 
@@ -68,7 +66,6 @@ module _ {keys heap pos stack : List ℕ} {c : Counts} (keys' : List ℕ) where
         keys_fit = fits;
         order = λ i z l. omega (arith, y.ordered.order i z l, same_key i l, same_key (parent i) (omega arith));
       };
-      top_held = y.top_held;
       stack_fits = y.stack_fits;
       pairs = y.pairs;
       distinct = y.distinct;

@@ -12,8 +12,7 @@ use Rattle.theory.specs.Counting.{room}
 use Rattle.heap_sift.specs.Heap.{slices, In}
 use Rattle.heap.specs.Calls.{Pushing, Pushed}
 use Rattle.heap.proofs.Facts.{heap_other}
-use Rattle.queue.specs.declared.Counts.{Counts}
-use Rattle.queue.specs.Queue.{state, heaped, Contains, Queue, Inserting, Inserted}
+use Rattle.queue.specs.Queue.{Counts, state, Contains, Queue, Inserting, Inserted}
 use Rattle.queue.proofs.Recent.{recent_more, recent_same}
 
 -- an entry of the stack after q is put at its top
@@ -34,12 +33,9 @@ module _ {keys heap pos stack : List ℕ} {floor : ℕ} {c : Counts} {q v : ℕ}
   not_q : (i : ℕ) → i < c.top → get_or stack i 0 ≢ q
   not_q i h d = out (Contains.on_stack i h d)
 
-  -- there is room on the stack, and for one more in the count
+  -- there is room on the stack
   pub stack_room : c.top < p
   stack_room = room p c.top q (λ (i : ℕ). get_or stack i 0) x.pairs x.distinct asks.pair not_q
-
-  pub held_room : c.held < p + p
-  held_room = omega (arith, stack_room, x.ordered.indexed.count)
 
   top_fits : c.top < length stack
   top_fits = omega (arith, stack_room, x.stack_fits)
@@ -56,16 +52,7 @@ module _ {keys heap pos stack : List ℕ} {floor : ℕ} {c : Counts} {q v : ℕ}
 
   -- ---- at the floor: on the stack
   abbrev pushed : Counts
-  pushed = record { held = c.held + 1; top = c.top + 1 }
-
-  same_heap : heaped pushed ≡ heaped c
-  same_heap = omega arith
-
-  still_in : {k : ℕ} → In heap pos (heaped c) k → In heap pos (heaped pushed) k
-  still_in w = rw same_heap w
-
-  was_in : {k : ℕ} → In heap pos (heaped pushed) k → In heap pos (heaped c) k
-  was_in w = rw same_heap at w
+  pushed = record { heaped = c.heaped; top = c.top + 1 }
 
   new_key : get_or (set keys q v) q 0 ≡ v
   new_key = get_or-set_same keys q v 0 (omega (arith, asks.pair, x.ordered.keys_fit))
@@ -75,14 +62,13 @@ module _ {keys heap pos stack : List ℕ} {floor : ℕ} {c : Counts} {q v : ℕ}
 
   stack_queue : v ≡ floor → Queue p floor (state (set keys q v) heap pos entries pushed)
   stack_queue e = record {
-    ordered = rw same_heap (heap_other x.ordered q v (λ w. out (Contains.in_heap w)));
-    top_held = omega (arith, x.top_held);
+    ordered = heap_other x.ordered q v (λ w. out (Contains.in_heap w));
     stack_fits = simp length-set x.stack_fits;
     pairs = λ i h. pair i (entry i h);
     distinct = λ i j h g d. apart₂ i j d (entry i h) (entry j g);
     level = λ i h. level' i (entry i h);
-    apart = λ i h w. apart' i (was_in w) (entry i h);
-    above = λ k w. omega (arith, x.above k (was_in w), old_key k (λ d. out (Contains.in_heap (rw d at (was_in w)))));
+    apart = λ i h w. apart' i w (entry i h);
+    above = λ k w. omega (arith, x.above k w, old_key k (λ d. out (Contains.in_heap (rw d at w))));
   }
     where
       pair : (i : ℕ) → Entry stack c.top q i → get_or entries i 0 < p
@@ -99,7 +85,7 @@ module _ {keys heap pos stack : List ℕ} {floor : ℕ} {c : Counts} {q v : ℕ}
       level' i (Entry.new a b) = rw b (new_key ∙ e)
       level' i (Entry.old a b) = rw b (old_key (get_or stack i 0) (not_q i a) ∙ x.level i a)
 
-      apart' : (i : ℕ) → In heap pos (heaped c) (get_or entries i 0) → Entry stack c.top q i → ⊥
+      apart' : (i : ℕ) → In heap pos c.heaped (get_or entries i 0) → Entry stack c.top q i → ⊥
       apart' i w (Entry.new a b) = out (Contains.in_heap (rw b at w))
       apart' i w (Entry.old a b) = x.apart i a (rw b at w)
 
@@ -107,7 +93,7 @@ module _ {keys heap pos stack : List ℕ} {floor : ℕ} {c : Counts} {q v : ℕ}
   insert_stack e = record {
     stored = refl;
     queue = stack_queue e;
-    one_more = refl;
+    one_more = omega arith;
     here = Contains.on_stack c.top (omega arith) (get_or-set_same stack c.top q 0 top_fits);
     kept = kept;
     only = only;
@@ -117,7 +103,7 @@ module _ {keys heap pos stack : List ℕ} {floor : ℕ} {c : Counts} {q v : ℕ}
   }
     where
       kept : (k : ℕ) → Contains (state keys heap pos stack c) k → Contains (state (set keys q v) heap pos entries pushed) k
-      kept k (Contains.in_heap w) = Contains.in_heap (still_in w)
+      kept k (Contains.in_heap w) = Contains.in_heap w
       kept k (Contains.on_stack i h d) = Contains.on_stack i (omega arith) (get_or-set_other stack c.top i q 0 (omega arith) ∙ d)
 
       from : (k i : ℕ) → get_or entries i 0 ≡ k → k ≢ q → Entry stack c.top q i → Contains (state keys heap pos stack c) k
@@ -125,49 +111,39 @@ module _ {keys heap pos stack : List ℕ} {floor : ℕ} {c : Counts} {q v : ℕ}
       from k i d ne (Entry.old a b) = Contains.on_stack i a (sym b ∙ d)
 
       only : (k : ℕ) → Contains (state (set keys q v) heap pos entries pushed) k → k ≢ q → Contains (state keys heap pos stack c) k
-      only k (Contains.in_heap w) ne = Contains.in_heap (was_in w)
+      only k (Contains.in_heap w) ne = Contains.in_heap w
       only k (Contains.on_stack i h d) ne = from k i d ne (entry i h)
 
   -- ---- above the floor: in the heap
   abbrev added : Counts
-  added = record { held = c.held + 1; top = c.top }
+  added = record { heaped = c.heaped + 1; top = c.top }
 
   -- what `push` asks
-  abbrev pub insert_pushing : Pushing (heaped c) q (slices keys heap pos)
+  abbrev pub insert_pushing : Pushing c.heaped q (slices keys heap pos)
   insert_pushing = record { p = p; ordered = x.ordered; pair = asks.pair; outside = λ w. out (Contains.in_heap w) }
 
-  module _ {keys' heap' pos' : List ℕ} (ne : v ≢ floor) (u : Pushed p (heaped c) q v (slices keys heap pos) (slices keys' heap' pos')) where
-    one_more : heaped c + 1 ≡ heaped added
-    one_more = omega (arith, x.top_held)
-
-    now_in : {k : ℕ} → In heap' pos' (heaped c + 1) k → In heap' pos' (heaped added) k
-    now_in w = rw one_more at w
-
-    in_before : {k : ℕ} → In heap' pos' (heaped added) k → In heap' pos' (heaped c + 1) k
-    in_before w = rw one_more w
-
+  module _ {keys' heap' pos' : List ℕ} (ne : v ≢ floor) (u : Pushed p c.heaped q v (slices keys heap pos) (slices keys' heap' pos')) where
     heap_queue : Queue p floor (state keys' heap' pos' stack added)
     heap_queue = record {
-      ordered = rw one_more at u.ordered;
-      top_held = omega (arith, x.top_held);
+      ordered = u.ordered;
       stack_fits = x.stack_fits;
       pairs = x.pairs;
       distinct = x.distinct;
       level = λ i h. rw u.stored (old_key (get_or stack i 0) (not_q i h) ∙ x.level i h);
-      apart = λ i h w. x.apart i h (u.only (get_or stack i 0) (in_before w) (not_q i h));
-      above = λ k w. above k (in_before w) (ℕ_discrete k q);
+      apart = λ i h w. x.apart i h (u.only (get_or stack i 0) w (not_q i h));
+      above = λ k w. above k w (ℕ_discrete k q);
     }
       where
-        above : (k : ℕ) → In heap' pos' (heaped c + 1) k → Dec (k ≡ q) → floor ≤ get_or keys' k 0
+        above : (k : ℕ) → In heap' pos' (c.heaped + 1) k → Dec (k ≡ q) → floor ≤ get_or keys' k 0
         above k w (yes d) = rw (u.stored, d) (omega (arith, new_key, asks.at_least))
         above k w (no nd) = rw u.stored (omega (arith, old_key k nd, x.above k (u.only k w nd)))
 
-    pub insert_heap : Inserted p floor q v (state keys heap pos stack c) (state keys' heap' pos' stack added)
-    insert_heap = record {
+    insert_heaped : Inserted p floor q v (state keys heap pos stack c) (state keys' heap' pos' stack added)
+    insert_heaped = record {
       stored = u.stored;
       queue = heap_queue;
-      one_more = refl;
-      here = Contains.in_heap (now_in u.here);
+      one_more = omega arith;
+      here = Contains.in_heap u.here;
       kept = kept;
       only = only;
       newest = λ e. absurd (ne e);
@@ -176,9 +152,13 @@ module _ {keys heap pos stack : List ℕ} {floor : ℕ} {c : Counts} {q v : ℕ}
     }
       where
         kept : (k : ℕ) → Contains (state keys heap pos stack c) k → Contains (state keys' heap' pos' stack added) k
-        kept k (Contains.in_heap w) = Contains.in_heap (now_in (u.kept k w))
+        kept k (Contains.in_heap w) = Contains.in_heap (u.kept k w)
         kept k (Contains.on_stack i h d) = Contains.on_stack i h d
 
         only : (k : ℕ) → Contains (state keys' heap' pos' stack added) k → k ≢ q → Contains (state keys heap pos stack c) k
-        only k (Contains.in_heap w) nd = Contains.in_heap (u.only k (in_before w) nd)
+        only k (Contains.in_heap w) nd = Contains.in_heap (u.only k w nd)
         only k (Contains.on_stack i h d) nd = Contains.on_stack i h d
+
+    -- where n is how many the heap then has
+    pub insert_heap : {n : ℕ} → n ≡ c.heaped + 1 → Inserted p floor q v (state keys heap pos stack c) (state keys' heap' pos' stack (record { heaped = n; top = c.top }))
+    insert_heap e = rw e insert_heaped

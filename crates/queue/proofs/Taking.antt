@@ -10,8 +10,7 @@ use lib.ListN.{length, get_or}
 use Rattle.theory.specs.Counting.{pigeons}
 use Rattle.heap_sift.specs.Heap.{slices, In, Heap}
 use Rattle.heap.specs.Calls.{Popped}
-use Rattle.queue.specs.declared.Counts.{Counts}
-use Rattle.queue.specs.Queue.{state, heaped, Contains, Queue, recent, Taken}
+use Rattle.queue.specs.Queue.{Counts, state, Contains, Queue, recent, Taken}
 use Rattle.queue.proofs.Facts.{contains_pair, floor_le}
 use Rattle.queue.proofs.Recent.{recent_last, recent_none}
 
@@ -22,15 +21,9 @@ module _ {keys heap pos stack : List ℕ} {p floor : ℕ} {c : Counts} (x : Queu
 
   -- ---- `take` from the stack
   abbrev popped : Counts
-  popped = record { held = c.held - 1; top = c.top - 1 }
+  popped = record { heaped = c.heaped; top = c.top - 1 }
 
   module _ {r : ℕ} (z : 0 < c.top) (e : r ≡ get_or stack (c.top - 1) 0) where
-    same_heap : heaped popped ≡ heaped c
-    same_heap = omega (arith, x.top_held)
-
-    was_in : {k : ℕ} → In heap pos (heaped popped) k → In heap pos (heaped c) k
-    was_in w = rw same_heap at w
-
     level : get_or keys r 0 ≡ floor
     level = ap (λ (k : ℕ). get_or keys k 0) e ∙ x.level (c.top - 1) (omega arith)
 
@@ -38,11 +31,11 @@ module _ {keys heap pos stack : List ℕ} {p floor : ℕ} {c : Counts} (x : Queu
     was = Contains.on_stack (c.top - 1) (omega arith) (sym e)
 
     gone : Contains (state keys heap pos stack popped) r → ⊥
-    gone (Contains.in_heap w) = x.apart (c.top - 1) (omega arith) (rw e at (was_in w))
+    gone (Contains.in_heap w) = x.apart (c.top - 1) (omega arith) (rw e at w)
     gone (Contains.on_stack i h d) = omega (arith, x.distinct i (c.top - 1) (omega arith) (omega arith) (d ∙ e))
 
     kept : (k : ℕ) → Contains (state keys heap pos stack c) k → k ≢ r → Contains (state keys heap pos stack popped) k
-    kept k (Contains.in_heap w) ne = Contains.in_heap (rw same_heap w)
+    kept k (Contains.in_heap w) ne = Contains.in_heap w
     kept k (Contains.on_stack i h d) ne = go (ℕ_discrete i (c.top - 1))
       where
         go : Dec (i ≡ c.top - 1) → Contains (state keys heap pos stack popped) k
@@ -50,7 +43,7 @@ module _ {keys heap pos stack : List ℕ} {p floor : ℕ} {c : Counts} (x : Queu
         go (no a) = Contains.on_stack i (omega arith) d
 
     only : (k : ℕ) → Contains (state keys heap pos stack popped) k → Contains (state keys heap pos stack c) k
-    only k (Contains.in_heap w) = Contains.in_heap (was_in w)
+    only k (Contains.in_heap w) = Contains.in_heap w
     only k (Contains.on_stack i h d) = Contains.on_stack i (omega arith) d
 
     list : recent stack c ≡ r ∷ recent stack popped
@@ -62,16 +55,15 @@ module _ {keys heap pos stack : List ℕ} {p floor : ℕ} {c : Counts} (x : Queu
       pair = contains_pair x was;
       least = λ k w. omega (arith, level, floor_le x w);
       queue = record {
-        ordered = rw same_heap x.ordered;
-        top_held = omega (arith, x.top_held);
+        ordered = x.ordered;
         stack_fits = x.stack_fits;
         pairs = λ i h. x.pairs i (omega arith);
         distinct = λ i j h g d. x.distinct i j (omega arith) (omega arith) d;
         level = λ i h. x.level i (omega arith);
-        apart = λ i h w. x.apart i (omega arith) (was_in w);
-        above = λ k w. x.above k (was_in w);
+        apart = λ i h w. x.apart i (omega arith) w;
+        above = λ k w. x.above k w;
       };
-      one_fewer = omega (arith, x.top_held);
+      one_fewer = omega arith;
       its_key = sym level;
       rises = omega arith;
       gone = gone;
@@ -83,67 +75,63 @@ module _ {keys heap pos stack : List ℕ} {p floor : ℕ} {c : Counts} (x : Queu
     }
 
   -- ---- `take` from the heap, where the stack is empty
-  all : c.top ≤ 0 → heaped c ≡ c.held
-  all z = omega arith
+  -- where the keys are as before
+  module _ {r : ℕ} {keys' heap' pos' : List ℕ} (z : c.top ≤ 0) (y : 0 < c.heaped) (same : keys' ≡ keys)
+      (took : Popped p c.heaped r (slices keys heap pos) (slices keys' heap' pos')) where
+    u : Popped p c.heaped r (slices keys heap pos) (slices keys heap' pos')
+    u = rw same at took
 
-  -- what `pop_min` asks
-  pub all_heaped : c.top ≤ 0 → Heap (slices keys heap pos) p c.held
-  all_heaped z = rw (all z) at x.ordered
-
-  module _ {r : ℕ} {heap' pos' : List ℕ} (z : c.top ≤ 0) (u : Popped p c.held r (slices keys heap pos) (slices keys heap' pos')) where
     abbrev left : Counts
-    left = record { held = c.held - 1; top = 0 }
-
-    others : heaped left ≡ c.held - 1
-    others = omega arith
-
-    was_in' : {k : ℕ} → In heap' pos' (heaped left) k → In heap pos c.held k
-    was_in' {k} w = u.only k (rw others at w)
+    left = record { heaped = c.heaped - 1; top = c.top }
 
     kept' : (k : ℕ) → Contains (state keys heap pos stack c) k → k ≢ r → Contains (state keys heap' pos' stack left) k
-    kept' k (Contains.in_heap w) ne = Contains.in_heap (rw others (u.kept k (rw (all z) at w) ne))
+    kept' k (Contains.in_heap w) ne = Contains.in_heap (u.kept k w ne)
     kept' k (Contains.on_stack i h d) ne = absurd (omega arith)
 
     only' : (k : ℕ) → Contains (state keys heap' pos' stack left) k → Contains (state keys heap pos stack c) k
-    only' k (Contains.in_heap w) = Contains.in_heap (rw (all z) (was_in' w))
+    only' k (Contains.in_heap w) = Contains.in_heap (u.only k w)
     only' k (Contains.on_stack i h d) = absurd (omega arith)
 
     gone' : Contains (state keys heap' pos' stack left) r → ⊥
-    gone' (Contains.in_heap w) = u.gone (rw others at w)
+    gone' (Contains.in_heap w) = u.gone w
     gone' (Contains.on_stack i h d) = omega arith
 
     least : (k : ℕ) → Contains (state keys heap pos stack c) k → get_or keys r 0 ≤ get_or keys k 0
-    least k (Contains.in_heap w) = u.least k (rw (all z) at w)
+    least k (Contains.in_heap w) = u.least k w
     least k (Contains.on_stack i h d) = absurd (omega arith)
 
     none : recent stack c ≡ []
     none = recent_none stack c (omega arith)
 
-    pub take_within : r < length keys
-    take_within = omega (arith, u.pair, x.ordered.keys_fit)
+    pub take_within : r < length keys'
+    take_within = omega (arith, u.pair, x.ordered.keys_fit, ap length same)
 
-    pub take_heap : 0 < c.held → Taken p floor r (get_or keys r 0) (state keys heap pos stack c) (state keys heap' pos' stack left)
-    take_heap y = record {
-      was = Contains.in_heap (rw (all z) u.was);
+    take_heaped : Taken p floor r (get_or keys r 0) (state keys heap pos stack c) (state keys heap' pos' stack left)
+    take_heaped = record {
+      was = Contains.in_heap u.was;
       pair = u.pair;
       least = least;
       queue = record {
-        ordered = rw others u.ordered;
-        top_held = omega arith;
+        ordered = u.ordered;
         stack_fits = x.stack_fits;
         pairs = λ i h. absurd (omega arith);
         distinct = λ i j h g d. absurd (omega arith);
         level = λ i h. absurd (omega arith);
         apart = λ i h w. omega arith;
-        above = λ k w. u.least k (was_in' w);
+        above = λ k w. u.least k (u.only k w);
       };
       one_fewer = omega arith;
       its_key = refl;
-      rises = floor_le x (Contains.in_heap (rw (all z) u.was));
+      rises = floor_le x (Contains.in_heap u.was);
       gone = gone';
       kept = kept';
       only = only';
       last_in = λ q rest d. let f : [] ≡ q ∷ rest = sym none ∙ d in ((cc), (cc));
-      none_recent = λ d. recent_none stack left refl;
+      none_recent = λ d. recent_none stack left (omega arith);
       past = record { heap_past = u.past.heap_past; pos_past = u.past.pos_past; stack_past = refl };
     }
+
+    -- where n is how many the heap then has
+    pub take_heap : {n : ℕ} → n ≡ c.heaped - 1
+        → Taken p floor r (get_or keys' r 0) (state keys heap pos stack c) (state keys' heap' pos' stack (record { heaped = n; top = c.top }))
+    take_heap e = rw (same, e) take_heaped

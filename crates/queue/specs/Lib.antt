@@ -1,2 +1,3 @@
--- The definitions of the queue.
+-- The definitions of the queue, and what a queue shows.
 pub mod Queue
+pub mod Views

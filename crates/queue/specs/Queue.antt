@@ -2,10 +2,18 @@
 -- No call reads p: what a call leaves holds for every p that fits what it asks.
 -- A caller passes `Queue` and `Contains` on as they are, and learns of them from the fields of `Inserted`, `Decreased` and `Taken` and from the laws of proofs/Facts.antt.
 -- Assumes nothing.
-use Rattle.std.specs.Prelude.{ℕ, zero, suc, ◌+◌, ◌-◌, ◌≤◌, ◌<◌, ◌≡◌, ◌≢◌, List, [], ◌∷◌, length, get_or, set, drop}
+use Rattle.std.specs.Prelude.{ℕ, zero, suc, ◌+◌, ◌≤◌, ◌<◌, ◌≡◌, ◌≢◌, List, [], ◌∷◌, length, get_or, set, drop}
 use Rattle.heap_sift.specs.Heap.{slices, In, Heap}
 use Rattle.theory.specs.Counting.{Distinct}
-use Rattle.queue.specs.declared.Counts.{Counts}
+
+-- how many of the pairs are in the heap, and how many are on the stack
+pub record Counts : Type 0 where
+  pub heaped : ℕ
+  pub top : ℕ
+
+-- how many pairs there are
+abbrev pub held : Counts → ℕ
+held c = c.heaped + c.top
 
 -- the slices that hold a queue, and its counts
 pub record State : Type 0 where
@@ -18,25 +26,20 @@ pub record State : Type 0 where
 abbrev pub state : List ℕ → List ℕ → List ℕ → List ℕ → Counts → State
 state keys heap pos stack c = record { keys = keys; heap = heap; pos = pos; stack = stack; counts = c }
 
--- how many of the pairs are in the heap; the others are on the stack
-abbrev pub heaped : Counts → ℕ
-heaped c = c.held - c.top
-
 -- pair q is in the queue
 pub data Contains (x : State) (q : ℕ) : Type 0 where
-  in_heap : In x.heap x.pos (heaped x.counts) q → Contains x q
+  in_heap : In x.heap x.pos x.counts.heaped q → Contains x q
   on_stack : (i : ℕ) → i < x.counts.top → get_or x.stack i 0 ≡ q → Contains x q
 
 -- the pairs on the stack are distinct, have the key `floor` and are not in the heap, where no key is below `floor`
 pub record Queue (p floor : ℕ) (x : State) : Type 0 where
-  pub ordered : Heap (slices x.keys x.heap x.pos) p (heaped x.counts)
-  pub top_held : x.counts.top ≤ x.counts.held
+  pub ordered : Heap (slices x.keys x.heap x.pos) p x.counts.heaped
   pub stack_fits : p ≤ length x.stack
   pub pairs : (i : ℕ) → i < x.counts.top → get_or x.stack i 0 < p
   pub distinct : Distinct (λ (i : ℕ). get_or x.stack i 0) x.counts.top
   pub level : (i : ℕ) → i < x.counts.top → get_or x.keys (get_or x.stack i 0) 0 ≡ floor
-  pub apart : (i : ℕ) → i < x.counts.top → In x.heap x.pos (heaped x.counts) (get_or x.stack i 0) → ⊥
-  pub above : (q : ℕ) → In x.heap x.pos (heaped x.counts) q → floor ≤ get_or x.keys q 0
+  pub apart : (i : ℕ) → i < x.counts.top → In x.heap x.pos x.counts.heaped (get_or x.stack i 0) → ⊥
+  pub above : (q : ℕ) → In x.heap x.pos x.counts.heaped q → floor ≤ get_or x.keys q 0
 
 -- the first n entries, last one first
 unfoldable pub backwards : List ℕ → ℕ → List ℕ
@@ -55,7 +58,7 @@ pub record Past (p : ℕ) (x x' : State) : Type 0 where
 
 -- what `empty` gives
 pub record Empty (c : Counts) : Type 0 where
-  pub none_held : c.held ≡ 0
+  pub none_held : held c ≡ 0
   pub none_stacked : c.top ≡ 0
 
 -- what `insert` asks: q is not in the queue, and v is not below the floor
@@ -70,7 +73,7 @@ pub record Inserting (floor q v : ℕ) (x : State) : Type 0 where
 pub record Inserted (p floor q v : ℕ) (x x' : State) : Type 0 where
   pub stored : x'.keys ≡ set x.keys q v
   pub queue : Queue p floor x'
-  pub one_more : x'.counts.held ≡ x.counts.held + 1
+  pub one_more : held x'.counts ≡ held x.counts + 1
   pub here : Contains x' q
   pub kept : (k : ℕ) → Contains x k → Contains x' k
   pub only : (k : ℕ) → Contains x' k → k ≢ q → Contains x k
@@ -101,7 +104,7 @@ pub record Taken (p floor r key : ℕ) (x x' : State) : Type 0 where
   pub pair : r < p
   pub least : (k : ℕ) → Contains x k → get_or x.keys r 0 ≤ get_or x.keys k 0
   pub queue : Queue p key x'
-  pub one_fewer : x'.counts.held + 1 ≡ x.counts.held
+  pub one_fewer : held x'.counts + 1 ≡ held x.counts
   pub its_key : key ≡ get_or x.keys r 0
   pub rises : floor ≤ key
   pub gone : Contains x' r → ⊥

@@ -4,116 +4,108 @@
 // touched. `floor` is the key last taken, or any number before the first.
 #![tactic(auto)]
 
-ghost use Rattle.std.specs.Prelude.{ℕ, ◌<◌, List};
-ghost use Rattle.queue.specs.declared.Counts.{Counts};
-ghost use Rattle.queue.specs.Queue.{state, Queue, Empty, Inserting, Inserted, Decreasing, Decreased, Taken};
+ghost use Rattle.std.specs.Prelude.{ℕ, ◌≡◌, List};
+ghost use Rattle.queue.specs.Queue.{Counts, state, Empty, Inserting, Inserted, Decreasing, Decreased};
+ghost use Rattle.queue.specs.Views.{counts_of, state_with, state_of, IsQueue, SameSlices, Takes};
 
-use convert::wide;
+use heap::Heap;
 
-// How many pairs the queue holds, and how many of them are on the stack.
-#[derive(Clone, Copy)]
-pub struct Counts {
-    pub held: usize,
+// The heap, the slice that holds the stack, and how many pairs are on the stack.
+#[derive(Drop)]
+pub struct Queue<'a> {
+    pub heap: Heap<'a>,
+    pub stack: &'a mut [u32],
     pub top: usize,
 }
 
-// The pair taken, its key, and the counts after that.
+// The pair taken, and its key.
 #[derive(Clone, Copy)]
 pub struct Next {
     pub pair: usize,
     pub key: u32,
-    pub counts: Counts,
 }
 
-// The counts of a queue that holds nothing.
-pub fn empty() -> Counts
-    ensures { Empty result }
-{
-    Counts { held: 0, top: 0 }
-}
-
-// Puts pair q, which is not in the queue, into it at the key v, at least floor.
-pub fn insert(
-    keys: &mut [u32],
-    heap: &mut [u32],
-    pos: &mut [u32],
-    stack: &mut [u32],
-    counts: Counts,
-    floor: u32,
-    q: usize,
-    v: u32,
-) -> Counts
-    requires { Inserting floor q v (state keys.old heap.old pos.old stack.old counts) }
-    ensures { let before = state keys.old heap.old pos.old stack.old counts in
-        let after = state keys.new heap.new pos.new stack.new result in
-        (x : Inserting floor q v before) → Inserted x.p floor q v before after }
-{
-    let held = counts.held;
-    let top = counts.top;
-    if v == floor {
-        keys[q] = v;
-        stack[top] = q as u32;
-        return Counts {
-            held: held + 1,
-            top: top + 1,
+impl<'a> Queue<'a> {
+    // A queue that holds nothing, in these slices.
+    pub fn empty(
+        keys: &'a mut [u32],
+        heap: &'a mut [u32],
+        pos: &'a mut [u32],
+        stack: &'a mut [u32],
+    ) -> Queue<'a>
+        ensures same_keys { result.heap.keys.ghost_name ≡ keys.entry.ghost_name }
+        ensures same_heap { result.heap.heap.ghost_name ≡ heap.entry.ghost_name }
+        ensures same_pos { result.heap.pos.ghost_name ≡ pos.entry.ghost_name }
+        ensures same_stack { result.stack.ghost_name ≡ stack.entry.ghost_name }
+        ensures lists { state_of result ≡ state keys.old heap.old pos.old stack.old (counts_of result) }
+        ensures nothing { Empty (counts_of result) }
+    {
+        let heap = Heap {
+            keys,
+            heap,
+            pos,
+            held: 0,
         };
+        Queue {
+            heap,
+            stack,
+            top: 0,
+        }
     }
-    heap::push(keys, heap, pos, held - top, q, v);
-    Counts {
-        held: held + 1,
-        top: top,
-    }
-}
 
-// Gives pair q, which is in the queue, the key v, below the one that it has and at least the floor. The counts and the stack,
-// whatever they are, stay.
-pub fn decrease(keys: &mut [u32], heap: &mut [u32], pos: &mut [u32], q: usize, v: u32)
-    requires { (stack : List ℕ) × (counts : Counts) × Decreasing q v (state keys.old heap.old pos.old stack counts) }
-    ensures { (stack : List ℕ) (counts : Counts) →
-        let before = state keys.old heap.old pos.old stack counts in
-        let after = state keys.new heap.new pos.new stack counts in
-        (x : Decreasing q v before) → Decreased x.p x.floor q v before after }
-{
-    heap::decrease_key(keys, heap, pos, q, v);
-}
-
-// Takes a pair with the least key out of the queue: the last one on the stack, if there is one.
-pub fn take(
-    keys: &[u32],
-    heap: &mut [u32],
-    pos: &mut [u32],
-    stack: &[u32],
-    counts: Counts,
-    floor: u32,
-) -> Next
-    requires { (p : ℕ) × Queue p floor (state keys.now heap.old pos.old stack.now counts) × (0 < counts.held) }
-    ensures { let before = state keys.now heap.old pos.old stack.now counts in
-        let after = state keys.now heap.new pos.new stack.now result.counts in
-        (p : ℕ) → Queue p floor before → Taken p floor result.pair result.key before after }
-{
-    let held = counts.held;
-    let top = counts.top;
-    if 0 < top {
-        let q = wide(stack[top - 1]);
-        let left = Counts {
-            held: held - 1,
-            top: top - 1,
-        };
-        return Next {
-            pair: q,
-            key: floor,
-            counts: left,
-        };
+    // Puts pair q, which is not in the queue, into it at the key v, at least floor.
+    pub fn insert(&mut self, floor: u32, q: usize, v: u32)
+        requires { Inserting floor q v (state_of self.old) }
+        ensures same { SameSlices self.old self.new }
+        ensures inserted { (x : Inserting floor q v (state_of self.old))
+            → Inserted x.p floor q v (state_of self.old) (state_of self.new) }
+    {
+        if v == floor {
+            let top = self.top;
+            self.heap.keys[q] = v;
+            self.stack[top] = q as u32;
+            self.top = top + 1;
+            return;
+        }
+        self.heap.push(q, v);
     }
-    let q = heap::pop_min(keys, heap, pos, held);
-    let v = keys[q];
-    let left = Counts {
-        held: held - 1,
-        top: 0,
-    };
-    Next {
-        pair: q,
-        key: v,
-        counts: left,
+
+    // Gives pair q, which is in the queue, the key v, below the one that it has and at least the floor. The counts and the
+    // stack, whatever they are, stay.
+    pub fn decrease(&mut self, q: usize, v: u32)
+        requires { (stack : List ℕ) × (counts : Counts) × Decreasing q v (state_with self.old stack counts) }
+        ensures same { SameSlices self.old self.new }
+        ensures stack_stays { self.new.stack.now ≡ self.old.stack.now }
+        ensures counts_stay { counts_of self.new ≡ counts_of self.old }
+        ensures decreased { (stack : List ℕ) (counts : Counts) →
+            let before = state_with self.old stack counts in
+            let after = state_with self.new stack counts in
+            (x : Decreasing q v before) → Decreased x.p x.floor q v before after }
+    {
+        self.heap.decrease_key(q, v);
+    }
+
+    // Takes a pair with the least key out of the queue, if it holds one: the last one on the stack, if there is one. The keys
+    // and the stack's slice stay.
+    pub fn take(&mut self, floor: u32) -> Option<Next>
+        requires { (p : ℕ) × IsQueue p floor self.old }
+        ensures same { SameSlices self.old self.new }
+        ensures keys_stay { self.new.heap.keys.now ≡ self.old.heap.keys.now }
+        ensures stack_stays { self.new.stack.now ≡ self.old.stack.now }
+        ensures taken { (p : ℕ) → IsQueue p floor self.old → Takes p floor (state_of self.old) (state_of self.new) result }
+    {
+        if 0 < self.top {
+            let last = self.top - 1;
+            self.top = last;
+            return Some(Next {
+                pair: self.stack[last] as usize,
+                key: floor,
+            });
+        }
+        let pair = self.heap.pop_min()?;
+        Some(Next {
+            pair,
+            key: self.heap.keys[pair],
+        })
     }
 }

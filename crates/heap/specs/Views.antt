@@ -1,0 +1,21 @@
+-- What a heap shows: the lists in its slices, when these are in order, and that the slices themselves stay.
+-- Assumes nothing.
+use Rattle.std.specs.Prelude.{ℕ, ◌≡◌}
+use Rattle.heap_sift.specs.Heap as order
+use Rattle.heap_sift.specs.Heap.{Slices, slices}
+use Rattle.heap.specs.declared.Heap.{Heap}
+
+-- what stands in the slices of a heap
+abbrev pub slices_of : Heap → Slices
+slices_of h = slices h.keys.now h.heap.now h.pos.now
+
+-- in order, over the pairs 0 to p - 1
+abbrev pub IsHeap : ℕ → Heap → Type 0
+IsHeap p h = order.Heap (slices_of h) p h.held
+
+-- the slices are those that were lent, whatever stands in them
+abbrev pub SameSlices : Heap → Heap → Type 0
+SameSlices h h' =
+    (h'.keys.ghost_name ≡ h.keys.ghost_name)
+    × (h'.heap.ghost_name ≡ h.heap.ghost_name)
+    × (h'.pos.ghost_name ≡ h.pos.ghost_name)
