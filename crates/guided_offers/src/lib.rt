@@ -28,12 +28,12 @@ impl<'a> Estimates<'a> {
 
 // The queue of open pairs, and by what each pair got its key.
 #[derive(Drop)]
-pub struct Work<'a> {
-    pub queue: Queue<'a>,
-    pub via: &'a mut [u32],
+pub struct Work<'q, 'a, 'v> {
+    pub queue: &'q mut Queue<'a>,
+    pub via: &'v mut [u32],
 }
 
-impl<'a> Work<'a> {
+impl<'q, 'a, 'v> Work<'q, 'a, 'v> {
     // Offers pair y the key v, by a step and a node that `mark` has: where that is lower than the key that y has, y gets it
     // and is opened or moved up.
     pub fn relax(&mut self, floor: u32, y: usize, v: u32, mark: u32)
@@ -42,7 +42,7 @@ impl<'a> Work<'a> {
         ensures relaxed { (x : Offering floor y v (work_of self.old) (counts_of self.old))
             → Relaxes x.p floor y v mark (work_of self.old) (counts_of self.old) (work_of self.new) (counts_of self.new) }
     {
-        let old = self.queue.heap.keys[y];
+        let old = self.queue.keys[y];
         if old <= v {
             return;
         }

@@ -51,4 +51,4 @@ pub record Popped (p n r : ℕ) (x x' : Slices) : Type 0 where
 -- what `pop_min` answers: such a pair, one fewer being left, or none, exactly where the heap has none
 abbrev pub Pops : ℕ → declared.Heap → declared.Heap → Option ℕ → Type 0
 Pops p h h' (Some r) = (0 < h.held) × (h'.held ≡ h.held - 1) × Popped p h.held r (slices_of h) (slices_of h')
-Pops p h h' None = (h.held ≡ 0) × (h' ≡ h)
+Pops p h h' None = (h.held ≡ 0) × (h'.held ≡ h.held) × (slices_of h' ≡ slices_of h)

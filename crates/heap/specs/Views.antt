@@ -1,6 +1,7 @@
 -- What a heap shows: the lists in its slices, when these are in order, and that the slices themselves stay.
 -- Assumes nothing.
-use Rattle.std.specs.Prelude.{ℕ, ◌≡◌}
+use Rattle.std.specs.Prelude.{ℕ, ◌≡◌, List, length}
+use Rattle.std.specs.Borrow.{MutBor}
 use Rattle.heap_sift.specs.Heap as order
 use Rattle.heap_sift.specs.Heap.{Slices, slices}
 use Rattle.heap.specs.declared.Heap.{Heap}
@@ -13,9 +14,9 @@ slices_of h = slices h.keys.now h.heap.now h.pos.now
 abbrev pub IsHeap : ℕ → Heap → Type 0
 IsHeap p h = order.Heap (slices_of h) p h.held
 
--- the slices are those that were lent, whatever stands in them
+-- the same slice is lent, whatever stands in it
+abbrev pub SameSlice : MutBor (List ℕ) → MutBor (List ℕ) → Type 0
+SameSlice s s' = (s'.ghost_name ≡ s.ghost_name) × (length s'.now ≡ length s.now)
+
 abbrev pub SameSlices : Heap → Heap → Type 0
-SameSlices h h' =
-    (h'.keys.ghost_name ≡ h.keys.ghost_name)
-    × (h'.heap.ghost_name ≡ h.heap.ghost_name)
-    × (h'.pos.ghost_name ≡ h.pos.ghost_name)
+SameSlices h h' = SameSlice h.keys h'.keys × SameSlice h.heap h'.heap × SameSlice h.pos h'.pos

@@ -159,6 +159,7 @@ module _ {keys heap pos stack : List ℕ} {floor : ℕ} {c : Counts} {q v : ℕ}
         only k (Contains.in_heap w) nd = Contains.in_heap (u.only k w nd)
         only k (Contains.on_stack i h d) nd = Contains.on_stack i h d
 
-    -- where n is how many the heap then has
-    pub insert_heap : {n : ℕ} → n ≡ c.heaped + 1 → Inserted p floor q v (state keys heap pos stack c) (state keys' heap' pos' stack (record { heaped = n; top = c.top }))
-    insert_heap e = rw e insert_heaped
+    -- where n is how many the heap then has, and the slices hold what the heap's do
+    pub insert_heap : {n : ℕ} {keys'' heap'' pos'' : List ℕ} → n ≡ c.heaped + 1 → keys'' ≡ keys' → heap'' ≡ heap' → pos'' ≡ pos'
+        → Inserted p floor q v (state keys heap pos stack c) (state keys'' heap'' pos'' stack (record { heaped = n; top = c.top }))
+    insert_heap e ek eh ep = rw (e, ek, eh, ep) insert_heaped

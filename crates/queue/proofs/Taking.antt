@@ -8,7 +8,7 @@ use native.Mathlib.Decide.{ℕ_discrete}
 use native.Mathlib.Omega.{arith}
 use lib.ListN.{length, get_or}
 use Rattle.theory.specs.Counting.{pigeons}
-use Rattle.heap_sift.specs.Heap.{slices, In, Heap}
+use Rattle.heap_sift.specs.Heap.{Slices, slices, In, Heap}
 use Rattle.heap.specs.Calls.{Popped}
 use Rattle.queue.specs.Queue.{Counts, state, Contains, Queue, recent, Taken}
 use Rattle.queue.proofs.Facts.{contains_pair, floor_le}
@@ -103,8 +103,8 @@ module _ {keys heap pos stack : List ℕ} {p floor : ℕ} {c : Counts} (x : Queu
     none : recent stack c ≡ []
     none = recent_none stack c (omega arith)
 
-    pub take_within : r < length keys'
-    take_within = omega (arith, u.pair, x.ordered.keys_fit, ap length same)
+    pub take_within : {keys'' : List ℕ} → keys'' ≡ keys' → r < length keys''
+    take_within e = omega (arith, u.pair, x.ordered.keys_fit, ap length same, ap length e)
 
     take_heaped : Taken p floor r (get_or keys r 0) (state keys heap pos stack c) (state keys heap' pos' stack left)
     take_heaped = record {
@@ -131,7 +131,12 @@ module _ {keys heap pos stack : List ℕ} {p floor : ℕ} {c : Counts} (x : Queu
       past = record { heap_past = u.past.heap_past; pos_past = u.past.pos_past; stack_past = refl };
     }
 
-    -- where n is how many the heap then has
-    pub take_heap : {n : ℕ} → n ≡ c.heaped - 1
-        → Taken p floor r (get_or keys' r 0) (state keys heap pos stack c) (state keys' heap' pos' stack (record { heaped = n; top = c.top }))
-    take_heap e = rw (same, e) take_heaped
+    -- where n is how many the heap then has, and the slices hold what the heap's do
+    pub take_heap : {n : ℕ} {keys'' heap'' pos'' : List ℕ} → n ≡ c.heaped - 1 → keys'' ≡ keys' → heap'' ≡ heap' → pos'' ≡ pos'
+        → Taken p floor r (get_or keys'' r 0) (state keys heap pos stack c) (state keys'' heap'' pos'' stack (record { heaped = n; top = c.top }))
+    take_heap e ek eh ep = rw (e, ek, eh, ep, same) take_heaped
+
+-- ---- `take` where there is none
+pub take_none : {keys heap pos stack : List ℕ} {c : Counts} {left : Slices} {keys'' heap'' pos'' : List ℕ} → left ≡ slices keys heap pos
+    → keys'' ≡ left.keys → heap'' ≡ left.heap → pos'' ≡ left.pos → state keys'' heap'' pos'' stack c ≡ state keys heap pos stack c
+take_none e ek eh ep = rw (ek, eh, ep, e) refl

@@ -10,11 +10,15 @@ ghost use Rattle.queue.specs.Views.{counts_of, state_with, state_of, IsQueue, Sa
 
 use heap::Heap;
 
-// The heap, the slice that holds the stack, and how many pairs are on the stack.
+// The four slices, and how many pairs are in the heap and on the stack. No heap stands in it: of the slices of a struct in a
+// struct, a caller would not learn what they end as.
 #[derive(Drop)]
 pub struct Queue<'a> {
-    pub heap: Heap<'a>,
+    pub keys: &'a mut [u32],
+    pub heap: &'a mut [u32],
+    pub pos: &'a mut [u32],
     pub stack: &'a mut [u32],
+    pub heaped: usize,
     pub top: usize,
 }
 
@@ -26,33 +30,6 @@ pub struct Next {
 }
 
 impl<'a> Queue<'a> {
-    // A queue that holds nothing, in these slices.
-    pub fn empty(
-        keys: &'a mut [u32],
-        heap: &'a mut [u32],
-        pos: &'a mut [u32],
-        stack: &'a mut [u32],
-    ) -> Queue<'a>
-        ensures same_keys { result.heap.keys.ghost_name ≡ keys.entry.ghost_name }
-        ensures same_heap { result.heap.heap.ghost_name ≡ heap.entry.ghost_name }
-        ensures same_pos { result.heap.pos.ghost_name ≡ pos.entry.ghost_name }
-        ensures same_stack { result.stack.ghost_name ≡ stack.entry.ghost_name }
-        ensures lists { state_of result ≡ state keys.old heap.old pos.old stack.old (counts_of result) }
-        ensures nothing { Empty (counts_of result) }
-    {
-        let heap = Heap {
-            keys,
-            heap,
-            pos,
-            held: 0,
-        };
-        Queue {
-            heap,
-            stack,
-            top: 0,
-        }
-    }
-
     // Puts pair q, which is not in the queue, into it at the key v, at least floor.
     pub fn insert(&mut self, floor: u32, q: usize, v: u32)
         requires { Inserting floor q v (state_of self.old) }
@@ -62,12 +39,19 @@ impl<'a> Queue<'a> {
     {
         if v == floor {
             let top = self.top;
-            self.heap.keys[q] = v;
+            self.keys[q] = v;
             self.stack[top] = q as u32;
             self.top = top + 1;
             return;
         }
-        self.heap.push(q, v);
+        let mut heap = Heap {
+            keys: &mut *self.keys,
+            heap: &mut *self.heap,
+            pos: &mut *self.pos,
+            held: self.heaped,
+        };
+        heap.push(q, v);
+        self.heaped = heap.held;
     }
 
     // Gives pair q, which is in the queue, the key v, below the one that it has and at least the floor. The counts and the
@@ -82,7 +66,13 @@ impl<'a> Queue<'a> {
             let after = state_with self.new stack counts in
             (x : Decreasing q v before) → Decreased x.p x.floor q v before after }
     {
-        self.heap.decrease_key(q, v);
+        let mut heap = Heap {
+            keys: &mut *self.keys,
+            heap: &mut *self.heap,
+            pos: &mut *self.pos,
+            held: self.heaped,
+        };
+        heap.decrease_key(q, v);
     }
 
     // Takes a pair with the least key out of the queue, if it holds one: the last one on the stack, if there is one. The keys
@@ -90,7 +80,7 @@ impl<'a> Queue<'a> {
     pub fn take(&mut self, floor: u32) -> Option<Next>
         requires { (p : ℕ) × IsQueue p floor self.old }
         ensures same { SameSlices self.old self.new }
-        ensures keys_stay { self.new.heap.keys.now ≡ self.old.heap.keys.now }
+        ensures keys_stay { self.new.keys.now ≡ self.old.keys.now }
         ensures stack_stays { self.new.stack.now ≡ self.old.stack.now }
         ensures taken { (p : ℕ) → IsQueue p floor self.old → Takes p floor (state_of self.old) (state_of self.new) result }
     {
@@ -102,10 +92,17 @@ impl<'a> Queue<'a> {
                 key: floor,
             });
         }
-        let pair = self.heap.pop_min()?;
+        let mut heap = Heap {
+            keys: &mut *self.keys,
+            heap: &mut *self.heap,
+            pos: &mut *self.pos,
+            held: self.heaped,
+        };
+        let pair = heap.pop_min()?;
+        self.heaped = heap.held;
         Some(Next {
             pair,
-            key: self.heap.keys[pair],
+            key: self.keys[pair],
         })
     }
 }

@@ -17,7 +17,7 @@ returns-then-old-clause-relaxed c =
 
 pub returns-clause-relaxed : goal.returns-clause-relaxed
 returns-clause-relaxed c =
-    let small : get_or c.args.self.now.queue.heap.keys.now c.args.y 0 ≤ NONE = search rules in
+    let small : get_or c.args.self.now.queue.now.keys.now c.args.y 0 ≤ NONE = search rules in
     λ x.
     let asked = relax_lowers x c.if-old-v.false small c.if-old.false in
     relax_decreases x c.if-old-v.false asked.here c.decrease.ensures.stack_stays c.decrease.ensures.counts_stay (c.decrease.ensures.decreased _ _ asked)

@@ -1,5 +1,6 @@
 -- `insert` meets its contract. That there is room is `stack_room` and, in the heap, shown by `push` itself.
 -- Assumes nothing.
+use borrow.Author.Rules.{rules}
 use native.Mathlib.Omega.{arith}
 use Rattle.queue.proofs.Inserting.{stack_room, insert_stack, insert_pushing, insert_heap}
 use Rattle.queue.proofs.Queue.insert.Goals as goal
@@ -22,4 +23,4 @@ returns-then-v-floor-clause-inserted c =
 
 pub returns-clause-inserted : goal.returns-clause-inserted
 returns-clause-inserted c =
-    λ a. insert_heap a c.if-v-floor.false (c.push.ensures.pushed (insert_pushing a)) c.push.ensures.one_more
+    λ a. insert_heap a c.if-v-floor.false (c.push.ensures.pushed (insert_pushing a)) c.push.ensures.one_more (search rules) (search rules) (search rules)
