@@ -2,7 +2,6 @@
 -- Assumes nothing.
 use Prim.Native.Nat.{ℕ, ◌+◌, ◌≤◌, ◌<◌, max}
 use mathlib.Core.Path.{◌≡◌, refl, sym, ◌∙◌, subst}
-use mathlib.Core.Bool.{false}
 use mathlib.Core.List.{List}
 use mathlib.Core.Option.{Option, none, some}
 use mathlib.Core.Logic.{◌⊎◌, inl, inr}
@@ -17,7 +16,9 @@ use Rattle.definitions.specs.Pairs.{Automaton}
 use Rattle.definitions.specs.Plans.{chart_estimate, diagram_estimate, estimate}
 use Rattle.definitions.specs.Promises.{shown}
 use Rattle.definitions.specs.declared.Shape.{Shape}
-use Rattle.theory.specs.Basics.{either, true_not_false}
+use Rattle.std.specs.Prelude.{None}
+use Rattle.std.proofs.lemmas.Option.{none-some}
+use Rattle.theory.specs.Basics.{either}
 use Rattle.theory.specs.Limits.{Sound}
 use Rattle.theory.specs.Estimates.{chart_bounded, diagram_bounded}
 use Rattle.chart_stages.specs.FirstSteps.{SortedTable, FirstTable}
@@ -135,9 +136,9 @@ module _ {z : Shape} {on : Walk} {byNode : List ℕ} (p : Prepared z on byNode) 
     run_shown = er ∙ run_holds z.start.0 z.root.0 (omega arith) (run_root in_tables).0 (omega (arith, (sound in_tables).root_inside, width in_tables))
 
     -- it has no estimate: nothing is settled
-    pub sought_none : rest ≡ NONE → {x : Work} {log : List ℕ} {r : Ended} → r.found ≡ false → r.count ≡ 0 → Sought z t x log x log r
+    pub sought_none : rest ≡ NONE → {x : Work} {log : List ℕ} {r : Ended} → r.goal ≡ None → r.count ≡ 0 → Sought z t x log x log r
     sought_none q {x} {log} {r} f c = record {
-      goal = λ g. absurd (true_not_false (sym g ∙ f));
+      goal = λ g e. absurd (none-some g (sym f ∙ e));
       no_goal = λ g. subst (λ (k : ℕ). NoneSettled (chart_in z t) (diagram_in z t) (estimate_in z t) 0 k log log) (sym c)
           (none_begun (chart_in z t) (diagram_in z t) (sound in_tables) (run_guide in_tables) log
           (estimate_none (run_guide in_tables) z.start.0 z.root.0 rest (sound in_tables).root_inside run_shown q));
