@@ -5,18 +5,17 @@ ghost use Rattle.std.specs.Prelude.{◌≡◌, min, length};
 ghost use Rattle.buffer.specs.Appending.{Appended};
 ghost use Rattle.answer_arrays.specs.Numbers.{numbers, space_numbers};
 
-use buffer::copy;
-use convert::wide;
+use buffer::Writer;
 use definitions::Answer;
 use space::Space;
 
-// Stores an answer (number, file, place, cost, length, count) and returns its number.
+// Stores an answer (number, file, place, cost, length, count) and returns its number. Not an `impl From`: neither type is this crate's.
 pub fn store(a: Answer, array: &mut [usize; 6]) -> u32
     ensures { (result ≡ a.number) × (array.new ≡ numbers a) }
 {
-    let number = wide(a.number);
-    let file = wide(a.file);
-    let cost = wide(a.cost);
+    let number = a.number as usize;
+    let file = a.file as usize;
+    let cost = a.cost as usize;
     *array = [number, file, a.place, cost, a.length, a.count];
     a.number
 }
@@ -38,8 +37,8 @@ pub fn store_both(
 pub fn store_space(s: Space, array: &mut [usize; 5]) -> u32
     ensures { (result ≡ s.number) × (array.new ≡ space_numbers s) }
 {
-    let number = wide(s.number);
-    let file = wide(s.file);
+    let number = s.number as usize;
+    let file = s.file as usize;
     *array = [number, file, s.place, s.work, s.plan];
     s.number
 }
@@ -50,6 +49,7 @@ pub fn store_field(bytes: &[u8], buffer: &mut [u8]) -> usize
         let field = bytes.now in
         (result ≡ length field) × Appended before 0 field buffer.new (min result (length before)) }
 {
-    copy(buffer, 0, bytes);
+    let mut front = Writer { out: buffer, at: 0 };
+    front.copy(bytes);
     bytes.len()
 }

@@ -1,3 +1,4 @@
 pub mod Appending
 pub mod Appends
 pub mod Members
+pub mod Writing

@@ -2,20 +2,24 @@
 #![tactic(auto)]
 
 ghost use Rattle.std.specs.Prelude.{◌≤◌, length};
-ghost use Rattle.buffer.specs.Appending.{Appended};
+ghost use Rattle.buffer.specs.Writing.{Wrote};
 
-use convert::lesser;
+// A lent buffer and the place in it where the next byte goes.
+#[derive(Drop)]
+pub struct Writer<'a> {
+    pub out: &'a mut [u8],
+    pub at: usize,
+}
 
-// Copies bytes into the buffer from the place `at` on, and returns the place behind them.
-pub fn copy(out: &mut [u8], at: usize, bytes: &[u8]) -> usize
-    requires { at ≤ length out.old }
-    ensures { Appended out.old at bytes.now out.new result }
-{
-    let count = lesser(bytes.len(), out.len() - at);
-    let mut i: usize = 0;
-    while i < count {
-        out[at + i] = bytes[i];
-        i += 1;
+impl<'a> Writer<'a> {
+    // Copies bytes into the buffer from the place on, as far as there is room, and goes on behind them.
+    pub fn copy(&mut self, bytes: &[u8])
+        requires { self.old.at ≤ length self.old.out.now }
+        ensures { Wrote self.old bytes.now self.new }
+    {
+        let count = bytes.len().min(self.out.len() - self.at);
+        let end = self.at + count;
+        self.out[self.at..end].copy_from_slice(&bytes[..count]);
+        self.at = end;
     }
-    at + count
 }

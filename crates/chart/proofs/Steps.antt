@@ -5,35 +5,43 @@ use mathlib.Core.Logic.{◌⊎◌, inl, inr}
 use lib.Dec.{eqb}
 use borrow.Author.Tests.{eq-eqb, ne_eqb}
 use mathlib.Core.Path.{◌≡◌, refl, sym, ◌∙◌, ap, subst}
-use mathlib.Core.Bool.{true, false}
 use mathlib.Core.List.{List, [], ◌∷◌, ◌++◌}
 use lib.ListN.{length, get_or, length-append, length-take, length-drop}
 use lib.Seq.{get_or-append_seam}
 use native.Mathlib.Omega.{arith}
-use Rattle.definitions.specs.Fields.{two, four, part, only, or_remark, field_at, stopped}
-use Rattle.definitions.specs.Charts.{ChartStep, no_step, plain, grouped, step_fault, step_of, step_fault_after, step_length, step_kind, step_grammar, scan_steps}
+use Rattle.std.specs.Prelude.{Option, Some, None, Result, Ok, Err}
+use Rattle.definitions.specs.Fields.{two, four, part, only, or_remark, field_at}
+use Rattle.definitions.specs.Fields as fields
+use Rattle.definitions.specs.Charts.{ChartStep, no_step, grouped, step_fault, step_of, step_fault_after, step_length, step_kind, step_grammar, scan_steps}
 use Rattle.definitions.specs.Basics.{pick}
-use Rattle.theory.specs.Basics.{pick_true, pick_false, either, same_or_not, true_not_false}
+use Rattle.definitions.specs.Refusals.{number, fault_number}
+use Rattle.theory.specs.Basics.{pick_true, pick_false, same_or_not}
 use Rattle.definitions.specs.declared.Field.{Field}
 use Rattle.definitions.specs.declared.Field.TheVariants.{Absent, Faulty, Passed, Whole}
-use Rattle.fields.specs.Positions.{passed_within, HasField}
-use Rattle.fields.specs.Remarks.{has_less}
+use Rattle.definitions.specs.declared.Refusal.{Refusal}
+use Rattle.fields.specs.Positions.{passed_within, number_some, HasField}
+use Rattle.fields.specs.Remarks.{has_less, whole_has}
 use Rattle.fields.specs.Scans.{Reading, reading_start, reading_done, reading_faulty, reading_passed, reading_bad, reading_step}
-use Rattle.fields.specs.Turns.{turn_on, turn_over}
 use Rattle.chart_fields.specs.Bodies.{Long, step_body}
 use Rattle.chart_fields.specs.Ends.{ends_of}
+use Rattle.chart_fields.specs.Kinds.{kind_tag}
+use Rattle.chart_fields.specs.Stored.{stored}
+use Rattle.chart_fields.specs.declared.kinds.StepKind.{StepKind}
+use Rattle.chart_fields.specs.declared.kinds.StepKind.TheVariants.{Plain, Grouped}
 use Rattle.chart_fields.specs.declared.bodies.StepBody.{StepBody}
+use Rattle.chart_fields.specs.declared.table.StepTable.{StepTable}
+use Rattle.fields.specs.declared.fault.Stopped.{Stopped}
 use Rattle.chart.specs.Tables.{steps_in, held_steps, Filled}
-use Rattle.chart.specs.Held.{Packs, stored, stored_room, held_grown, ends_kept, costs_kept, nothing_filled}
+use Rattle.chart.specs.Held.{Packs, stored_room, held_grown, ends_kept, costs_kept, nothing_filled}
 use Rattle.chart.specs.Limits.{StepFits, step_fits}
-use Rattle.chart.specs.Kinds.{kind_at, due_kind, Due, SameKind, KindAfter, kind_start, kind_at_known, due_same, stands_whole}
-use Rattle.chart.specs.Turns.{SoFar, Stores, Takes}
+use Rattle.chart.specs.Kinds.{due_kind, GoesWith, HasStep, KindAfter, due_same, due_goes, stands_whole}
+use Rattle.chart.specs.Turns.{begun, SoFar, Over, Takes}
 use Rattle.chart.specs.declared.reader.StepsRead.{StepsRead}
 
 -- a step that passes has room in the tables, its value keeps the limit, and its group too
-module _ (v stages tag last group count : ℕ) (b : List ℕ) (judged : v ≡ step_fault stages tag last group count b) (passes : v ≡ 0) where
-  fits : StepFits stages tag last group count b
-  fits = step_fits stages tag last group count b (sym passes ∙ judged)
+module _ (stages : ℕ) (kind : StepKind) (last group count : ℕ) (b : List ℕ) (passes : 0 ≡ step_fault stages (kind_tag kind) last group count b) where
+  fits : StepFits stages (kind_tag kind) last group count b
+  fits = step_fits stages (kind_tag kind) last group count b passes
 
   pub step_below : count < 1024
   step_below = fits.below
@@ -41,46 +49,25 @@ module _ (v stages tag last group count : ℕ) (b : List ℕ) (judged : v ≡ st
   pub step_cheap : four b 4 ≤ 1000000
   step_cheap = fits.cheap
 
-  pub step_group : (x : StepBody) → x ≡ step_body tag count b → x.group < 1024
-  step_group x e = rw e (go (same_or_not tag grouped))
+  pub step_group : (step_body kind count b).group < 1024
+  step_group = go (same_or_not (kind_tag kind) grouped)
     where
-      go : (tag ≡ grouped) ⊎ (tag ≡ grouped → ⊥) → pick (eqb tag grouped) (two b 8) count < 1024
-      go (inl q) = omega (arith, pick_true (eqb tag grouped) (two b 8) count (eq-eqb tag grouped q), (fits.named q).few)
-      go (inr q) = omega (arith, pick_false (eqb tag grouped) (two b 8) count (ne_eqb tag grouped q), step_below)
-
--- how long each kind is
-pub plain_long : 8 ≡ step_length 2
-unfolding pick
-plain_long = refl
-
-pub grouped_long : 10 ≡ step_length 3
-unfolding pick
-grouped_long = refl
-
--- a field of a kind, by its tag and length
-module _ (s : List ℕ) (at tag : ℕ) (has : HasField s at tag (step_length tag)) where
-  pub as_grouped : tag ≡ 3 → HasField s at 3 10 × (tag ≡ 3)
-  as_grouped q = (subst (λ (n : ℕ). HasField s at 3 n) (sym grouped_long) (subst (λ (k : ℕ). HasField s at k (step_length k)) q has), q)
-
-  pub as_plain : (tag ≡ 2) ⊎ (tag ≡ 3) → (tag ≡ 3 → ⊥) → HasField s at 2 8 × (tag ≡ 2)
-  as_plain (inl q) n = (subst (λ (k : ℕ). HasField s at 2 k) (sym plain_long) (subst (λ (k : ℕ). HasField s at k (step_length k)) q has), q)
-  as_plain (inr q) n = absurd (n q)
-
--- what stands at a place where a kind is due
-module _ (s : List ℕ) (at tag : ℕ) (f : Field) where
-  pub look_same : (kind : ℕ) → f ≡ field_at s at (or_remark (only kind (step_length kind))) → tag ≡ kind → f ≡ field_at s at (or_remark (only tag (step_length tag)))
-  look_same kind given q = rw q given
-
-  pub look_new : (len : ℕ) → len ≡ step_length tag → f ≡ field_at s at (or_remark (only tag len)) → f ≡ field_at s at (or_remark (only tag (step_length tag)))
-  look_new len el given = rw (← el) given
+      go : (kind_tag kind ≡ grouped) ⊎ (kind_tag kind ≡ grouped → ⊥) → pick (eqb (kind_tag kind) grouped) (two b 8) count < 1024
+      go (inl q) = omega (arith, pick_true (eqb (kind_tag kind) grouped) (two b 8) count (eq-eqb (kind_tag kind) grouped q), (fits.named q).few)
+      go (inr q) = omega (arith, pick_false (eqb (kind_tag kind) grouped) (two b 8) count (ne_eqb (kind_tag kind) grouped q), step_below)
 
 -- a body has the bytes of its kind
-module _ (s : List ℕ) (at tag len : ℕ) (has : HasField s at tag len) where
-  long : length (part s (at + 3) (at + 3 + len)) ≡ len
+module _ (s : List ℕ) (at : ℕ) (kind : StepKind) (has : HasField s at (kind_tag kind) (step_length (kind_tag kind))) where
+  long : length (part s (at + 3) (at + 3 + step_length (kind_tag kind))) ≡ step_length (kind_tag kind)
   long = simp (length-take, length-drop) (omega (arith, has.ends))
 
-  pub long_body : 8 ≤ len → (tag ≡ 3 → 10 ≤ len) → Long tag (part s (at + 3) (at + 3 + len))
-  long_body h g = (omega (arith, long), λ q. omega (arith, long, g q))
+  pub long_body : Long (kind_tag kind) (part s (at + 3) (at + 3 + step_length (kind_tag kind)))
+  unfolding pick
+  long_body = go kind refl
+    where
+      go : (k : StepKind) → kind ≡ k → Long (kind_tag kind) (part s (at + 3) (at + 3 + step_length (kind_tag kind)))
+      go Plain e = (omega (arith, long, ap (λ (k : StepKind). step_length (kind_tag k)) e), λ q. omega (arith, q, ap kind_tag e))
+      go Grouped e = (omega (arith, long, ap (λ (k : StepKind). step_length (kind_tag k)) e), λ q. omega (arith, long, ap (λ (k : StepKind). step_length (kind_tag k)) e))
 
 -- the last of some steps, with one more
 last_grown : (before : List ChartStep) (x : ChartStep) → get_or (before ++ x ∷ []) (length (before ++ x ∷ []) - 1) no_step ≡ x
@@ -88,210 +75,166 @@ last_grown before x =
     let e : length (before ++ x ∷ []) - 1 ≡ length before = omega (arith, length-append before (x ∷ [])) in
     rw e (get_or-append_seam before x [] no_step)
 
-filled_grown : (before : List ChartStep) (x : ChartStep) (ends count : ℕ) (packed₀ packed : List (List ℕ)) → Packs x ends
-    → length before ≡ count → count < 1024 → Filled before packed₀ packed → Filled (before ++ x ∷ []) packed₀ (stored packed count ends x.cost)
-filled_grown before x ends count packed₀ packed packs counted below sofar =
+filled_grown : (before : List ChartStep) (x : ChartStep) (ends count : ℕ) (table₀ table : StepTable) → Packs x ends
+    → length before ≡ count → count < 1024 → Filled before table₀ table → Filled (before ++ x ∷ []) table₀ (stored table count ends x.cost)
+filled_grown before x ends count table₀ table packs counted below sofar =
     let long : length (before ++ x ∷ []) ≡ count + 1 = omega (arith, length-append before (x ∷ [])) in
-    let held : held_steps count (steps_in packed) ≡ before = rw (← counted) sofar.held in
+    let held : held_steps count (steps_in table) ≡ before = rw (← counted) sofar.held in
     record {
-      held = rw (long, held_grown count packed x ends packs sofar.room below, held);
-      ends_rest = rw long (ends_kept count packed x ends packs sofar.room below packed₀ (rw (← counted) sofar.ends_rest));
-      costs_rest = rw long (costs_kept count packed x ends packs sofar.room below packed₀ (rw (← counted) sofar.costs_rest));
-      room = stored_room count packed x ends packs sofar.room below;
+      held = rw (long, held_grown count table x ends packs sofar.room below, held);
+      ends_rest = rw long (ends_kept count table x ends packs sofar.room below table₀ (rw (← counted) sofar.ends_rest));
+      costs_rest = rw long (costs_kept count table x ends packs sofar.room below table₀ (rw (← counted) sofar.costs_rest));
+      room = stored_room count table x ends packs sofar.room below;
     }
 
 -- what is read before the first turn
-abbrev pub begun : ℕ → StepsRead
-begun first = record { number = 0; place = first; steps = 0; last = 0; group = 0; tag = 2; len = 8; going = true }
-
-pub steps_start : (s : List ℕ) (first stages : ℕ) (packed : List (List ℕ)) → SoFar s first stages packed packed (begun first)
+pub steps_start : (s : List ℕ) (first stages : ℕ) (table : StepTable) → SoFar s first stages table table (begun first)
 unfolding held_steps
-steps_start s first stages packed = record {
+steps_start s first stages table = record {
   before = [];
   reading = reading_start s (step_grammar stages) first;
   counted = refl;
   latest = refl;
   highest = refl;
-  kind = kind_start;
-  filled = λ h. nothing_filled packed;
+  kind = refl;
+  filled = λ h. nothing_filled table;
 }
 
--- the walk is over, at t
-abbrev over : StepsRead → ℕ → ℕ → StepsRead
-over t number place = record { number = number; place = place; steps = t.steps; last = 0; group = t.group; tag = 0; len = 0; going = false }
+-- the walk from the place `first` stands at t
+module _ (s : List ℕ) (first stages : ℕ) (table₀ table : StepTable) (t : StepsRead) (sofar : SoFar s first stages table₀ table t) where
+  stops : (k p : ℕ) → scan_steps s stages first ≡ fields.stopped sofar.before k p → Over s first stages table₀ table k p t
+  stops k p q = record {
+    numbered = rw q;
+    placed = rw q;
+    counted = rw q sofar.counted;
+    highest = rw q sofar.highest;
+    filled = λ h. rw q (sofar.filled h);
+  }
 
--- it takes no further step
-pub over_kind : (t : StepsRead) (number place : ℕ) (x : StepsRead) → x ≡ over t number place → SameKind t x
-over_kind t number place x e = rw e (λ g. absurd (true_not_false (sym g)))
+  -- what stands there, looked for by the kind that is due
+  module _ (kind : StepKind) (due : kind ≡ due_kind s t) (f : Field) (given : f ≡ field_at s t.place (or_remark (only (kind_tag kind) (step_length (kind_tag kind))))) where
+    found_by : f ≡ field_at s t.place (or_remark (step_kind sofar.before))
+    found_by = given ∙ due_same s t sofar.before kind due sofar.kind
 
--- the kind that is due
-module _ (s : List ℕ) (t : StepsRead) where
-  due_first : t.steps ≡ 0 → due_kind s t ≡ kind_at s t.place
-  unfolding due_kind pick
-  due_first h = rw h
+    pub walk_done : f ≡ Absent → Over s first stages table₀ table 0 0 t
+    walk_done found = stops 0 0 (reading_done s (step_grammar stages) first t.place sofar.before sofar.reading f found_by found)
 
-  due_later : (t.steps ≡ 0 → ⊥) → due_kind s t ≡ t.tag
-  unfolding due_kind pick
-  due_later h = rw (ne_eqb t.steps 0 h)
+    pub walk_faulty : (refusal : Refusal) (p : ℕ) → f ≡ Faulty refusal p → Over s first stages table₀ table (number refusal) p t
+    walk_faulty refusal p found = stops (number refusal) p (reading_faulty s (step_grammar stages) first t.place sofar.before sofar.reading f found_by refusal p found)
 
-  pub kind_first : t.steps ≡ 0 → (k : ℕ) → k ≡ kind_at s t.place → k ≡ due_kind s t
-  kind_first h k e = e ∙ sym (due_first h)
+    pub walk_passed : (e : ℕ) → f ≡ Passed e
+        → SoFar s first stages table₀ table (record { place = e; steps = t.steps; last = t.last; group = t.group; kind = t.kind })
+    walk_passed e found = record {
+      before = sofar.before;
+      reading = reading_passed s (step_grammar stages) first t.place sofar.before sofar.reading f found_by e found;
+      counted = sofar.counted;
+      latest = sofar.latest;
+      highest = sofar.highest;
+      kind = sofar.kind;
+      filled = sofar.filled;
+    }
 
-  pub kind_later : (t.steps ≡ 0 → ⊥) → t.tag ≡ due_kind s t
-  kind_later h = sym (due_later h)
-
-pub ruleset due-laws = (kind_first, kind_later)
-
--- the ways out of a turn from t
-module _ (s : List ℕ) (stages : ℕ) (t : StepsRead) (packed : List (List ℕ)) where
-  -- the walk stops
-  stops : (number place : ℕ) (x : StepsRead) → x ≡ over t number place
-      → ((first : ℕ) (packed₀ : List (List ℕ)) (sofar : SoFar s first stages packed₀ packed t) → scan_steps s stages first ≡ stopped sofar.before number place)
-      → Takes s stages t packed packed x
-  stops number place x e is = rw e (turn_over s t.place place (λ o sofar.
-      let q = is o.0 o.1 sofar in
-      record { answer = rw (q, ← sofar.counted, ← sofar.highest); filled = λ h. rw q (sofar.filled h) }))
-
-  -- the kind that is due is that of the grammar
-  module _ (f : Field) (given : f ≡ field_at s t.place (or_remark (only t.tag (step_length t.tag)))) (due : Due s t) where
-    found_by : (first : ℕ) (packed₀ : List (List ℕ)) (sofar : SoFar s first stages packed₀ packed t) → f ≡ field_at s t.place (or_remark (step_kind sofar.before))
-    found_by first packed₀ sofar = given ∙ due_same s t.place t.tag t.len sofar.before sofar.kind (λ h. sym (due_first s t (sym sofar.counted ∙ h)) ∙ due)
-
-    pub take_done : f ≡ Absent → (x : StepsRead) → x ≡ over t 0 0 → Takes s stages t packed packed x
-    take_done found x e =
-        stops 0 0 x e (λ first packed₀ sofar. reading_done s (step_grammar stages) first t.place sofar.before sofar.reading f (found_by first packed₀ sofar) found)
-
-    pub take_faulty : (k p : ℕ) → f ≡ Faulty k p → (x : StepsRead) → x ≡ over t k p → Takes s stages t packed packed x
-    take_faulty k p found x e =
-        stops k p x e (λ first packed₀ sofar. reading_faulty s (step_grammar stages) first t.place sofar.before sofar.reading f (found_by first packed₀ sofar) k p found)
-
-    pub take_passed : (e : ℕ) → f ≡ Passed e
-        → Takes s stages t packed packed (record { number = 0; place = e; steps = t.steps; last = t.last; group = t.group; tag = t.tag; len = t.len; going = true })
-    take_passed e found =
-        let w = passed_within s t.place (or_remark (only t.tag (step_length t.tag))) e (sym found ∙ given) in
-        turn_on s t.place e (omega (arith, w.later, w.inside)) (λ o sofar. record {
-          before = sofar.before;
-          reading = reading_passed s (step_grammar stages) o.0 t.place sofar.before sofar.reading f (found_by o.0 o.1 sofar) e found;
-          counted = sofar.counted;
-          latest = sofar.latest;
-          highest = sofar.highest;
-          kind = sofar.kind;
-          filled = sofar.filled;
-        })
-
-  -- a step of the kind `tag` stands there
-  module _ (tag len : ℕ) (has : HasField s t.place tag len) (is : t.tag ≡ tag) (el : len ≡ step_length tag) (v : ℕ)
-      (judged : v ≡ step_fault stages tag t.last t.group t.steps (part s (t.place + 3) (t.place + 3 + len))) where
-    abbrev b : List ℕ
-    b = part s (t.place + 3) (t.place + 3 + len)
+  -- a step of this kind stands there
+  module _ (kind : StepKind) (has : HasStep s t kind) where
+    abbrev tag : ℕ
+    tag = kind_tag kind
 
     abbrev end : ℕ
-    end = t.place + 3 + len
+    end = t.place + 3 + step_length tag
 
-    has_kind : HasField s t.place tag (step_length tag)
-    has_kind = rw (← el) has
+    abbrev b : List ℕ
+    b = part s (t.place + 3) end
 
-    kind_at_tag : (before : List ChartStep) → KindAfter before t.tag t.len → KindAfter before tag t.len
-    kind_at_tag before k = rw (← is) k
+    whole : Whole t.place (t.place + 3) end ≡ field_at s t.place (or_remark (step_kind sofar.before))
+    whole = stands_whole s t sofar.before kind has sofar.kind
 
-    whole : (before : List ChartStep) → KindAfter before t.tag t.len → Whole t.place (t.place + 3) end ≡ field_at s t.place (or_remark (step_kind before))
-    whole before k = rw el (stands_whole s t.place tag t.len before (kind_at_tag before k) has_kind)
+    same_fault : step_fault stages tag t.last t.group t.steps b ≡ step_fault_after stages (get_or s t.place 0) sofar.before b
+    same_fault = rw (has.has.tagged, sofar.latest, sofar.highest, sofar.counted)
 
-    same_fault : (first : ℕ) (packed₀ : List (List ℕ)) (sofar : SoFar s first stages packed₀ packed t) → v ≡ step_fault_after stages (get_or s t.place 0) sofar.before b
-    same_fault first packed₀ sofar = rw (has.tagged, sofar.latest, sofar.highest, sofar.counted) judged
+    pub step_bad : (refusal : Refusal) → number refusal ≡ step_fault stages tag t.last t.group t.steps b → Over s first stages table₀ table (number refusal) t.place t
+    step_bad refusal judged =
+        stops (number refusal) t.place
+        (reading_bad s (step_grammar stages) first t.place sofar.before sofar.reading _ whole t.place (t.place + 3) end refl (number refusal) (judged ∙ same_fault) (λ z. omega (arith, number_some refusal)))
 
-    pub take_bad : (v ≡ 0 → ⊥) → (x : StepsRead) → x ≡ over t v t.place → Takes s stages t packed packed x
-    take_bad fails x q =
-        stops v t.place x q (λ first packed₀ sofar.
-        reading_bad s (step_grammar stages) first t.place sofar.before sofar.reading _ (whole sofar.before sofar.kind) t.place (t.place + 3) end refl v (same_fault first packed₀ sofar) fails)
-
-    module _ (passes : v ≡ 0) (x : StepBody) (read : x ≡ step_body tag t.steps b) where
+    module _ (passes : 0 ≡ step_fault stages tag t.last t.group t.steps b) where
       abbrev y : ChartStep
       y = step_of tag t.steps b
 
       passed : StepFits stages tag t.last t.group t.steps b
-      passed = fits v stages tag t.last t.group t.steps b judged passes
+      passed = fits stages kind t.last t.group t.steps b passes
 
-      packs_y : (ends : ℕ) → ends ≡ ends_of x.tag x.group x.from x.to → stages ≤ 256 → (tag ≡ plain) ⊎ (tag ≡ grouped) → Packs y ends
-      packs_y ends packs few k = record {
-        packs = packs ∙ ap (λ (z : StepBody). ends_of z.tag z.group z.from z.to) read;
+      low_kind : (k : StepKind) → kind_tag k < 4
+      low_kind Plain = omega arith
+      low_kind Grouped = omega arith
+
+      packs_y : stages ≤ 256 → Packs y (ends_of tag y.group y.from y.to)
+      packs_y few = record {
+        packs = refl;
         low_from = omega (arith, passed.forward, passed.inside);
         low_to = omega (arith, passed.inside);
-        low_tag = low k;
+        low_tag = low_kind kind;
       }
-        where
-          low : (tag ≡ plain) ⊎ (tag ≡ grouped) → tag < 4
-          low (inl q) = omega arith
-          low (inr q) = omega arith
 
       -- the kind stays
-      kind_grown : (before : List ChartStep) → KindAfter before t.tag t.len → KindAfter (before ++ y ∷ []) tag len
-      kind_grown [] k = record { known = rw (← is) k.known; long = el; same = λ h. refl }
-      kind_grown (z ∷ before) k = record { known = rw (← is) k.known; long = el; same = λ h. k.same (omega arith) ∙ is }
+      first_of : (before : List ChartStep) (k : Option StepKind) → KindAfter before k → GoesWith k kind → (get_or (before ++ y ∷ []) 0 no_step).tag ≡ tag
+      first_of [] k h g = refl
+      first_of (z ∷ before) (Some j) h g = h.1 ∙ ap kind_tag g
+      first_of (z ∷ before) None h g = absurd (omega arith)
 
-      after : StepsRead
-      after = record { number = 0; place = end; steps = t.steps + 1; last = y.from; group = y.group; tag = tag; len = len; going = true }
-
-      taken : (ends : ℕ) → ends ≡ ends_of x.tag x.group x.from x.to → (o : ℕ × List (List ℕ)) → SoFar s o.0 stages o.1 packed t
-          → SoFar s o.0 stages o.1 (stored packed t.steps ends y.cost) after
-      unfolding after
-      taken ends packs o sofar =
-          let e : step_of (get_or s t.place 0) (length sofar.before) b ≡ y = rw (has.tagged, sofar.counted) in
+      pub step_good : SoFar s first stages table₀ (stored table t.steps (ends_of tag y.group y.from y.to) y.cost) (record { place = end; steps = t.steps + 1; last = y.from; group = y.group; kind = Some kind })
+      step_good =
+          let e : step_of (get_or s t.place 0) (length sofar.before) b ≡ y = rw (has.has.tagged, sofar.counted) in
           record {
             before = sofar.before ++ y ∷ [];
             reading =
-                subst (λ (z : ChartStep). Reading s (step_grammar stages) o.0 end (sofar.before ++ z ∷ [])) e
-                (reading_step s (step_grammar stages) o.0 t.place sofar.before sofar.reading _ (whole sofar.before sofar.kind) t.place (t.place + 3) end refl v
-                (same_fault o.0 o.1 sofar) passes);
+                subst (λ (z : ChartStep). Reading s (step_grammar stages) first end (sofar.before ++ z ∷ [])) e
+                (reading_step s (step_grammar stages) first t.place sofar.before sofar.reading _ whole t.place (t.place + 3) end refl 0 (passes ∙ same_fault) refl);
             counted = omega (arith, length-append sofar.before (y ∷ []), sofar.counted);
             latest = ap (λ (z : ChartStep). z.from) (last_grown sofar.before y);
             highest = ap (λ (z : ChartStep). z.group) (last_grown sofar.before y);
-            kind = kind_grown sofar.before sofar.kind;
-            filled =
-                λ few room.
-                filled_grown sofar.before y ends t.steps o.1 packed (packs_y ends packs few (rw (← is) sofar.kind.known)) sofar.counted passed.below (sofar.filled few room);
+            kind = (omega (arith, length-append sofar.before (y ∷ [])), first_of sofar.before t.kind sofar.kind has.goes);
+            filled = λ few room. filled_grown sofar.before y _ t.steps table₀ table (packs_y few) sofar.counted passed.below (sofar.filled few room);
           }
 
-      pub take_step : (packed' : List (List ℕ)) (r : StepsRead) → Stores t x len end packed packed' r → Takes s stages t packed packed' r × SameKind t r
-      unfolding after
-      take_step packed' r st =
-          let same : r ≡ after = st.is ∙ ap (λ (z : StepBody). record { number = 0; place = end; steps = t.steps + 1; last = z.from; group = z.group; tag = z.tag; len = len; going = true }) read in
-          let table : packed' ≡ stored packed t.steps st.table.0 y.cost = st.table.2 ∙ ap (λ (z : StepBody). stored packed t.steps st.table.0 z.cost) read in
-          (rw (same, table) (turn_on s t.place end (rw el (has_less s t.place tag (step_length tag) has_kind)) (taken st.table.0 st.table.1)), rw same (λ g. sym is))
+-- The step of this kind that stands at t is judged, and put into the table where it passes; `len` is how long its body is
+module _ (s : List ℕ) (stages : ℕ) (t : StepsRead) (table : StepTable) (kind : StepKind) (has : HasStep s t kind) (len : ℕ) (el : len ≡ step_length (kind_tag kind)) where
+  abbrev body : List ℕ
+  body = part s (t.place + 3) (t.place + 3 + len)
 
-  -- with the kind that is due
-  module _ (tag : ℕ) (is : tag ≡ due_kind s t) (known : (t.tag ≡ plain) ⊎ (t.tag ≡ grouped)) (len : ℕ) (el : len ≡ step_length tag) where
-    abbrev anew : StepsRead
-    anew = record { number = 0; place = t.place; steps = t.steps; last = t.last; group = t.group; tag = tag; len = len; going = true }
+  pub put_long : Long (kind_tag kind) body
+  put_long = rw el (long_body s t.place kind has.has)
 
-    pub due_known : (tag ≡ plain) ⊎ (tag ≡ grouped)
-    due_known =
-        either (same_or_not t.steps 0) (λ h. subst (λ (k : ℕ). (k ≡ plain) ⊎ (k ≡ grouped)) (sym (is ∙ due_first s t h)) (kind_at_known s t.place))
-        (λ h. subst (λ (k : ℕ). (k ≡ plain) ⊎ (k ≡ grouped)) (sym (is ∙ due_later s t h)) known)
+  module _ {A : Type 0} (v : Result A Refusal) (judged : fault_number v ≡ step_fault stages (kind_tag kind) t.last t.group t.steps body) where
+    pub put_bad : (refusal : Refusal) → v ≡ Err refusal → (x : Stopped StepsRead) → x ≡ record { fault = record { refusal = refusal; place = t.place }; passed = t }
+        → Takes s stages t table table (Err x)
+    put_bad refusal q x e o sofar = rw e (step_bad s o.0 stages o.1 table t sofar kind has refusal (rw (q, el) at judged))
 
-    pub due_anew : Due s anew
-    due_anew =
-        either (same_or_not t.steps 0) (λ h. due_first s anew h ∙ sym (is ∙ due_first s t h)) (λ h. due_later s anew h)
+    module _ (a : A) (q : v ≡ Ok a) where
+      passes : 0 ≡ step_fault stages (kind_tag kind) t.last t.group t.steps body
+      passes = rw q at judged
 
-    kind_due : (before : List ChartStep) → length before ≡ t.steps → KindAfter before t.tag t.len → KindAfter before tag len
-    kind_due before n k = rw el (record {
-      known = due_known;
-      long = refl;
-      same = λ h. k.same h ∙ sym (is ∙ due_later s t (λ q. omega arith));
-    })
+      pub put_below : t.steps < 1024
+      put_below = step_below stages kind t.last t.group t.steps body passes
 
-    pub take_anew : (packed' : List (List ℕ)) (r : StepsRead) → Takes s stages anew packed packed' r → Takes s stages t packed packed' r
-    take_anew packed' r x = record {
-      nearer = x.nearer;
-      stands = λ o sofar. x.stands o (record {
-        before = sofar.before;
-        reading = sofar.reading;
-        counted = sofar.counted;
-        latest = sofar.latest;
-        highest = sofar.highest;
-        kind = kind_due sofar.before sofar.counted sofar.kind;
-        filled = sofar.filled;
-      });
-    }
+      pub put_cheap : four body 4 ≤ 1000000
+      put_cheap = step_cheap stages kind t.last t.group t.steps body passes
 
-pub ruleset take-laws = (take_done, take_faulty, take_passed)
+      module _ (x : StepBody) (read : x ≡ step_body kind t.steps body) where
+        pub put_group : x.group < 1024
+        put_group = rw read (step_group stages kind t.last t.group t.steps body passes)
+
+        pub put_good : (table' : StepTable) → table' ≡ stored table t.steps (ends_of (kind_tag x.kind) x.group x.from x.to) x.cost
+            → Takes s stages t table table' (Ok (record { place = t.place + 3 + len; steps = t.steps + 1; last = x.from; group = x.group; kind = Some kind }))
+        put_good table' e =
+            rw (e, read, el) (
+              has_less s t.place (kind_tag kind) (step_length (kind_tag kind)) has.has,
+              λ o sofar. step_good s o.0 stages o.1 table t sofar kind has (rw el at passes),
+            )
+
+-- a whole field that was found is a step of the kind that was looked for
+module _ (s : List ℕ) (t : StepsRead) (kind : StepKind) (f : Field) (given : f ≡ field_at s t.place (or_remark (only (kind_tag kind) (step_length (kind_tag kind))))) where
+  pub has_step : kind ≡ due_kind s t → (p a e : ℕ) → f ≡ Whole p a e → HasStep s t kind
+  has_step due p a e found = record { has = whole_has s t.place (kind_tag kind) (step_length (kind_tag kind)) p a e f given found; goes = due_goes s t kind due }
+
+  pub passed_less : (e : ℕ) → f ≡ Passed e → length s - e < length s - t.place
+  passed_less e found = let w = passed_within s t.place (or_remark (only (kind_tag kind) (step_length (kind_tag kind)))) e (sym found ∙ given) in omega (arith, w.later, w.inside)

@@ -1,136 +1,115 @@
--- The whole chart: one law for each way out of `read_chart`, for its answer and for what the tables hold, and of what it calls.
+-- The whole chart: one law for each way out of `read_chart`, for its answer and for what the table holds.
 -- Assumes nothing.
-use Prim.Native.Nat.{ℕ, ◌+◌, ◌≤◌}
-use mathlib.Core.Path.{◌≡◌, refl, sym, ◌∙◌, ap}
+use Prim.Native.Nat.{ℕ}
+use mathlib.Core.Logic.{◌⊎◌, inl, inr}
+use mathlib.Core.Path.{◌≡◌, refl, ◌∙◌}
 use mathlib.Core.List.{List}
-use lib.ListN.{length, get_or, get_or-eq_default}
-use borrow.Author.Tests.{eq-eqb, ne_eqb}
+use borrow.Author.Tests.{ne_eqb}
+use native.Mathlib.Omega.{arith}
+use Rattle.std.specs.Prelude.{Ok, Err}
 use Rattle.definitions.specs.Basics.{pick}
 use Rattle.definitions.specs.Fields.{two, part, only, first_field, on_field}
 use Rattle.definitions.specs.Charts.{group_count, head_fault, chart_refused, with_steps, scan_steps, read_chart}
+use Rattle.definitions.specs.Refusals.{number}
 use Rattle.definitions.specs.declared.Field.{Field}
 use Rattle.definitions.specs.declared.Field.TheVariants.{Absent, Faulty, Passed, Whole}
+use Rattle.definitions.specs.declared.Refusal.{Refusal}
+use Rattle.definitions.specs.declared.Refusal.TheVariants.{Tag}
+use Rattle.fields.specs.Positions.{number_some}
+use Rattle.fields.specs.declared.fault.Stopped.{Stopped}
 use Rattle.chart_fields.specs.Bodies.{head_body}
 use Rattle.chart_fields.specs.declared.bodies.HeadBody.{HeadBody}
+use Rattle.chart_fields.specs.declared.table.StepTable.{StepTable}
 use Rattle.chart.specs.Accepted.{groups_scanned}
 use Rattle.chart.specs.Held.{nothing_filled}
-use Rattle.chart.specs.Kinds.{kind_at, groups_to}
+use Rattle.chart.specs.Kinds.{groups_to}
 use Rattle.chart.specs.Limits.{head_fits}
-use Rattle.chart.specs.Tables.{Room, Filled, chart_answer}
+use Rattle.chart.specs.Tables.{Room, Filled, sizes_so_far, sizes_of, no_sizes, ChartAnswer}
 use Rattle.chart.specs.Turns.{Over}
-use Rattle.chart.specs.declared.reader.ChartRead.{ChartRead}
 use Rattle.chart.specs.declared.reader.StepsRead.{StepsRead}
+use Rattle.chart.specs.declared.sizes.ChartSizes.{ChartSizes}
 
--- where no head passed
-pub chart_none : (k p : ℕ) → record { number = k; place = p; stages = 0; start = 0; end = 0; steps = 0; groups = 0 } ≡ chart_answer (chart_refused k p)
-unfolding group_count
-chart_none k p = refl
+-- the answer where no head passed
+abbrev pub no_head : Refusal → ℕ → Stopped ChartSizes
+no_head refusal place = record { fault = record { refusal = refusal; place = place }; passed = no_sizes }
 
--- how many groups
-pub groups_none : (n g : ℕ) → n ≡ 0 → 0 ≡ groups_to n g
-unfolding groups_to pick
-groups_none n g h = rw h
+-- no step passed, and the table stays
+module _ (s : List ℕ) (refusal : Refusal) (p : ℕ) (e : read_chart s ≡ chart_refused (number refusal) p) where
+  refused : (x : Stopped ChartSizes) → x ≡ no_head refusal p → ChartAnswer (read_chart s) (Err x)
+  unfolding group_count
+  refused x q = rw (q, e) (refl, refl, refl)
 
-pub groups_some : (n g : ℕ) → (n ≡ 0 → ⊥) → g + 1 ≡ groups_to n g
-unfolding groups_to pick
-groups_some n g h = rw (ne_eqb n 0 h)
-
-pub ruleset groups-laws = (groups_none, groups_some)
-
--- the kind that may stand at a place
-module _ (s : List ℕ) (at : ℕ) where
-  pub kind_past : length s ≤ at → 2 ≡ kind_at s at
-  unfolding kind_at pick
-  kind_past h = rw (get_or-eq_default s 0 {n = at} h)
-
-  module _ (x : ℕ) (ex : x ≡ get_or s at 0) where
-    pub kind_grouped : x ≡ 3 → 3 ≡ kind_at s at
-    unfolding kind_at pick
-    kind_grouped q = rw (← ex, q)
-
-    pub kind_plain : (x ≡ 3 → ⊥) → 2 ≡ kind_at s at
-    unfolding kind_at pick
-    kind_plain q = rw (← ex, ne_eqb x 3 q)
-
-pub ruleset kind-laws = (kind_past, kind_grouped, kind_plain)
-
--- no step passed, and the tables stay
-untouched : (s : List ℕ) (k p : ℕ) (packed : List (List ℕ)) → read_chart s ≡ chart_refused k p → Room packed → Filled (read_chart s).chart.steps packed packed
-untouched s k p packed e = rw e (nothing_filled packed)
+  untouched : (table : StepTable) → Room table → Filled (read_chart s).chart.steps table table
+  untouched table = rw e (nothing_filled table)
 
 module _ (s : List ℕ) (r : Field) (given : r ≡ first_field s (only 1 6)) where
-  module _ (found : r ≡ Absent) where
+  -- a remark is not looked for there
+  module _ (found : (r ≡ Absent) ⊎ ((e : ℕ) × (r ≡ Passed e))) where
     empty : read_chart s ≡ chart_refused 2 0
     unfolding read_chart on_field
-    empty = rw (← given, found)
+    empty = go found
+      where
+        go : (r ≡ Absent) ⊎ ((e : ℕ) × (r ≡ Passed e)) → read_chart s ≡ chart_refused 2 0
+        go (inl q) = rw (← given, q)
+        go (inr q) = rw (← given, q.1)
 
-    pub chart_empty : (x : ChartRead) → x ≡ chart_answer (chart_refused 2 0) → x ≡ chart_answer (read_chart s)
-    chart_empty x p = rw empty p
+    pub chart_empty : (x : Stopped ChartSizes) → x ≡ no_head Tag 0 → ChartAnswer (read_chart s) (Err x)
+    chart_empty = refused s Tag 0 empty
 
-    pub chart_empty_filled : (packed : List (List ℕ)) → Room packed → Filled (read_chart s).chart.steps packed packed
-    chart_empty_filled packed = untouched s 2 0 packed empty
+    pub chart_empty_filled : (table : StepTable) → Room table → Filled (read_chart s).chart.steps table table
+    chart_empty_filled = untouched s Tag 0 empty
 
-  module _ (k p : ℕ) (found : r ≡ Faulty k p) where
-    faulty : read_chart s ≡ chart_refused k p
+  module _ (k : Refusal) (p : ℕ) (found : r ≡ Faulty k p) where
+    faulty : read_chart s ≡ chart_refused (number k) p
     unfolding read_chart on_field
     faulty = rw (← given, found)
 
-    pub chart_faulty : (x : ChartRead) → x ≡ chart_answer (chart_refused k p) → x ≡ chart_answer (read_chart s)
-    chart_faulty x e = rw faulty e
+    pub chart_faulty : (x : Stopped ChartSizes) → x ≡ no_head k p → ChartAnswer (read_chart s) (Err x)
+    chart_faulty = refused s k p faulty
 
-    pub chart_faulty_filled : (packed : List (List ℕ)) → Room packed → Filled (read_chart s).chart.steps packed packed
-    chart_faulty_filled packed = untouched s k p packed faulty
-
-  module _ (e : ℕ) (found : r ≡ Passed e) where
-    over : read_chart s ≡ chart_refused 2 0
-    unfolding read_chart on_field
-    over = rw (← given, found)
-
-    pub chart_over : (x : ChartRead) → x ≡ chart_answer (chart_refused 2 0) → x ≡ chart_answer (read_chart s)
-    chart_over x q = rw over q
-
-    pub chart_over_filled : (packed : List (List ℕ)) → Room packed → Filled (read_chart s).chart.steps packed packed
-    chart_over_filled packed = untouched s 2 0 packed over
+    pub chart_faulty_filled : (table : StepTable) → Room table → Filled (read_chart s).chart.steps table table
+    chart_faulty_filled = untouched s k p faulty
 
   module _ (p a e : ℕ) (found : r ≡ Whole p a e) where
-    module _ (v : ℕ) (judged : v ≡ head_fault (part s a e)) where
-      module _ (fails : v ≡ 0 → ⊥) where
-        bad : read_chart s ≡ chart_refused v p
-        unfolding read_chart on_field pick
-        bad = rw (← given, found, ← judged, ne_eqb v 0 fails)
+    module _ (k : Refusal) (judged : number k ≡ head_fault (part s a e)) where
+      bad : read_chart s ≡ chart_refused (number k) p
+      unfolding read_chart on_field pick
+      bad = rw (← given, found, ← judged, ne_eqb (number k) 0 (λ z. omega (arith, number_some k)))
 
-        pub chart_bad : (x : ChartRead) → x ≡ chart_answer (chart_refused v p) → x ≡ chart_answer (read_chart s)
-        chart_bad x q = rw bad q
+      pub chart_bad : (x : Stopped ChartSizes) → x ≡ no_head k p → ChartAnswer (read_chart s) (Err x)
+      chart_bad = refused s k p bad
 
-        pub chart_bad_filled : (packed : List (List ℕ)) → Room packed → Filled (read_chart s).chart.steps packed packed
-        chart_bad_filled packed = untouched s v p packed bad
+      pub chart_bad_filled : (table : StepTable) → Room table → Filled (read_chart s).chart.steps table table
+      chart_bad_filled = untouched s k p bad
 
-      module _ (passes : v ≡ 0) (h : HeadBody) (read : h ≡ head_body (part s a e)) where
-        good : read_chart s ≡ with_steps (part s a e) (scan_steps s h.stages e)
-        unfolding read_chart on_field pick
-        good = rw (← given, found, ← judged, eq-eqb v 0 passes, read)
+    module _ (passes : 0 ≡ head_fault (part s a e)) (h : HeadBody) (read : h ≡ head_body (part s a e)) where
+      good : read_chart s ≡ with_steps (part s a e) (scan_steps s h.stages e)
+      unfolding read_chart on_field pick
+      good = rw (← given, found, ← passes, read)
 
-        module _ (y : StepsRead) (packed packed' : List (List ℕ)) (over : Over s e h.stages packed packed' y) where
-          -- the last step's group is the highest
-          groups_are : (n : ℕ) → n ≡ groups_to y.steps y.group → n ≡ group_count (read_chart s).chart
-          groups_are n q = q ∙ ap (λ (z : StepsRead). groups_to z.steps z.group) over.answer ∙ rw good (rw read (groups_scanned s (two (part s a e) 0) (two (part s a e) 2) (two (part s a e) 4) e))
+      module _ (table table' : StepTable) (n q : ℕ) (y : StepsRead) (over : Over s e h.stages table table' n q y) where
+        -- the last step's group is the highest
+        sizes_are : (z : ChartSizes) → z ≡ sizes_so_far h y → z ≡ sizes_of (read_chart s).chart
+        sizes_are z is = is ∙ go
+          where
+            groups_are : groups_to y.steps y.group ≡ group_count (read_chart s).chart
+            groups_are = rw (← over.counted, ← over.highest) (rw good (rw read (groups_scanned s (two (part s a e) 0) (two (part s a e) 2) (two (part s a e) 4) e)))
 
-          pub chart_good : (n : ℕ) → n ≡ groups_to y.steps y.group
-              → record { number = y.number; place = y.place; stages = h.stages; start = h.start; end = h.end; steps = y.steps; groups = n } ≡ chart_answer (read_chart s)
-          chart_good n q = rw (groups_are n q, good, over.answer, read)
+            go : sizes_so_far h y ≡ sizes_of (read_chart s).chart
+            go = rw (groups_are, ← over.counted, good, read)
 
-          pub chart_good_filled : Room packed → Filled (read_chart s).chart.steps packed packed'
-          chart_good_filled = rw good (over.filled (rw read (head_fits (part s a e) (sym passes ∙ judged)).few_stages))
+        pub chart_number : (read_chart s).number ≡ n
+        chart_number = rw good over.numbered
 
-pub ruleset chart-laws = (
-  chart_empty,
-  chart_empty_filled,
-  chart_faulty,
-  chart_faulty_filled,
-  chart_over,
-  chart_over_filled,
-  chart_bad,
-  chart_bad_filled,
-  chart_good,
-  chart_good_filled,
-)
+        pub chart_place : (read_chart s).place ≡ q
+        chart_place = rw good over.placed
+
+        pub chart_filled : Room table → Filled (read_chart s).chart.steps table table'
+        chart_filled = rw good (over.filled (rw read (head_fits (part s a e) passes).few_stages))
+
+      pub chart_good : (table table' : StepTable) (y : StepsRead) → Over s e h.stages table table' 0 0 y → (z : ChartSizes) → z ≡ sizes_so_far h y → ChartAnswer (read_chart s) (Ok z)
+      chart_good table table' y over z is = (chart_number table table' 0 0 y over, chart_place table table' 0 0 y over, sizes_are table table' 0 0 y over z is)
+
+      pub chart_stopped : (table table' : StepTable) (f : Stopped StepsRead) → Over s e h.stages table table' (number f.fault.refusal) f.fault.place f.passed
+          → (z : ChartSizes) → z ≡ sizes_so_far h f.passed → ChartAnswer (read_chart s) (Err (record { fault = f.fault; passed = z }))
+      chart_stopped table table' f over z is = (chart_number table table' _ _ f.passed over, chart_place table table' _ _ f.passed over, sizes_are table table' _ _ f.passed over z is)

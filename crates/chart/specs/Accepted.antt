@@ -16,8 +16,7 @@ use Rattle.theory.specs.Limits.{Small, Ticked, OneKind, Valid}
 use Rattle.definitions.specs.Plans.{graph}
 use Rattle.definitions.specs.declared.Field.{Field}
 use Rattle.definitions.specs.declared.Field.TheVariants.{Absent, Faulty, Passed, Whole}
-use Rattle.fields.specs.First.{first_number}
-use Rattle.fields.specs.Positions.{within}
+use Rattle.fields.specs.Positions.{number_some, within}
 use Rattle.fields.specs.Remarks.{or_kind, or_given}
 use Rattle.fields.specs.Scans.{scan_keeps}
 use Rattle.chart.specs.Kinds.{allowed_tag, groups_to}
@@ -230,7 +229,7 @@ chart_accepted s = go (first_field s (only 1 6)) refl
         → Within (on_field r (chart_refused 2 0) chart_refused (λ end. chart_refused 2 0) found).chart
     go Absent g p = absurd (omega arith)
     go (Passed e) g p = absurd (omega arith)
-    go (Faulty k q) g p = absurd (omega (arith, first_number s (only 1 6) k q g))
+    go (Faulty k q) g p = absurd (omega (arith, number_some k))
     go (Whole q a e) g p =
         head_passed (part s a e) (with_steps (part s a e) (scan_steps s (two (part s a e) 0) e)) q (eqb (head_fault (part s a e)) 0) refl
         (λ h. chart_valid (part s a e) (scan_steps s (two (part s a e) 0) e).passed h (scanned_fit s (two (part s a e) 0) e)) p

@@ -5,7 +5,9 @@ use Rattle.std.proofs.Common.{◌∙◌, ap, length-set, get_or-set_same, get_or
 use Rattle.definitions.specs.Charts.{ChartStep, no_step}
 use Rattle.theory.specs.Basics.{length-map_run, get_d_map_upto, upto_grown, rest_kept}
 use Rattle.chart_fields.specs.Ends.{ends_of, from_of, to_of, tag_of, group_of, froms, tos, tags, groups, froms_at, tos_at, tags_at, groups_at, from_packed, to_packed, tag_packed, group_packed}
+use Rattle.chart_fields.specs.Stored.{stored}
 use Rattle.chart.specs.Tables.{ends_in, costs_in, Steps, steps_in, held_step, held_steps, Room, Filled}
+use Rattle.chart_fields.specs.declared.table.StepTable.{StepTable}
 
 module _ (count : ℕ) (t : Steps) where
   pub held_count : length (held_steps count t) ≡ count
@@ -31,26 +33,6 @@ module _ (count : ℕ) (t : Steps) where
   pub held_tag : (e : ℕ) → e < count → (get_or (held_steps count t) e no_step).tag ≡ get_or t.tag e 0
   held_tag e h = ap (λ (x : ChartStep). x.tag) (held_step_lem e h)
 
--- the table with one more entry in each column
-abbrev pub stored : List (List ℕ) → ℕ → ℕ → ℕ → List (List ℕ)
-stored packed e ends cost =
-    let first = set packed 0 (set (ends_in packed) e ends) in
-    set first 1 (set (costs_in first) e cost)
-
--- its columns
-stored_ends : (packed : List (List ℕ)) (e ends cost : ℕ) → length packed ≡ 2 → ends_in (stored packed e ends cost) ≡ set (ends_in packed) e ends
-stored_ends [] e ends cost h = absurd (omega arith)
-stored_ends (a ∷ []) e ends cost h = absurd (omega arith)
-stored_ends (a ∷ b ∷ r) e ends cost h = refl
-
-stored_costs : (packed : List (List ℕ)) (e ends cost : ℕ) → length packed ≡ 2 → costs_in (stored packed e ends cost) ≡ set (costs_in packed) e cost
-stored_costs [] e ends cost h = absurd (omega arith)
-stored_costs (a ∷ []) e ends cost h = absurd (omega arith)
-stored_costs (a ∷ b ∷ r) e ends cost h = refl
-
-stored_columns : (packed : List (List ℕ)) (e ends cost : ℕ) → length (stored packed e ends cost) ≡ length packed
-stored_columns packed e ends cost = simp length-set
-
 -- what a step is packed with is taken out again
 pub record Packs (x : ChartStep) (ends : ℕ) : Type 0 where
   pub packs : ends ≡ ends_of x.tag x.group x.from x.to
@@ -59,8 +41,8 @@ pub record Packs (x : ChartStep) (ends : ℕ) : Type 0 where
   pub low_tag : x.tag < 4
 
 -- step x stored: its kind, group and stages in one number, and its cost
-module _ (count : ℕ) (packed : List (List ℕ)) (x : ChartStep) (ends : ℕ) (p : Packs x ends) (room : Room packed) (below : count < 1024) where
-  abbrev after : List (List ℕ)
+module _ (count : ℕ) (packed : StepTable) (x : ChartStep) (ends : ℕ) (p : Packs x ends) (room : Room packed) (below : count < 1024) where
+  abbrev after : StepTable
   after = stored packed count ends x.cost
 
   abbrev t : Steps
@@ -70,14 +52,13 @@ module _ (count : ℕ) (packed : List (List ℕ)) (x : ChartStep) (ends : ℕ) (
   t' = steps_in after
 
   new_ends : ends_in after ≡ set (ends_in packed) count ends
-  new_ends = stored_ends packed count ends x.cost room.columns
+  new_ends = refl
 
   new_costs : costs_in after ≡ set (costs_in packed) count x.cost
-  new_costs = stored_costs packed count ends x.cost room.columns
+  new_costs = refl
 
   pub stored_room : Room after
   stored_room = record {
-    columns = stored_columns packed count ends x.cost ∙ room.columns;
     ends = ap length new_ends ∙ length-set (ends_in packed) count ends ∙ room.ends;
     costs = ap length new_costs ∙ length-set (costs_in packed) count x.cost ∙ room.costs;
   }
@@ -129,7 +110,7 @@ module _ (count : ℕ) (packed : List (List ℕ)) (x : ChartStep) (ends : ℕ) (
   held_grown = upto_grown (held_step t) (held_step t') count x stored_before stored_here
 
   -- past the new step the columns stay
-  module _ (start : List (List ℕ)) where
+  module _ (start : StepTable) where
     pub ends_kept : drop count (ends_in packed) ≡ drop count (ends_in start) → drop (count + 1) (ends_in after) ≡ drop (count + 1) (ends_in start)
     ends_kept q = ap (drop (count + 1)) new_ends ∙ rest_kept count (count + 1) count ends (ends_in packed) (ends_in start) (omega arith) (omega arith) q
 
@@ -138,6 +119,6 @@ module _ (count : ℕ) (packed : List (List ℕ)) (x : ChartStep) (ends : ℕ) (
         ap (drop (count + 1)) new_costs ∙ rest_kept count (count + 1) count x.cost (costs_in packed) (costs_in start) (omega arith) (omega arith) q
 
 -- no step stored
-pub nothing_filled : (packed : List (List ℕ)) → Room packed → Filled [] packed packed
+pub nothing_filled : (packed : StepTable) → Room packed → Filled [] packed packed
 unfolding held_steps
 nothing_filled packed room = record { held = refl; ends_rest = refl; costs_rest = refl; room = room }

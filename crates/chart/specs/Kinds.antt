@@ -1,6 +1,6 @@
 -- The kind of a chart's steps: which one is due at a place, and that of the steps before.
 -- Assumes nothing.
-use Rattle.std.specs.Prelude.{ℕ, ◌+◌, ◌<◌, ◌≡◌, Bool, ◌⊎◌, length}
+use Rattle.std.specs.Prelude.{ℕ, ◌+◌, ◌<◌, ◌≡◌, Bool, Option, Some, None, ◌⊎◌, length}
 use Rattle.std.proofs.Math.Path.{refl}
 use Rattle.std.proofs.Common.{sym, ◌∙◌, inl, inr, arith, eqb-true}
 use Rattle.std.proofs.Math.Bool.{true, false}
@@ -13,22 +13,36 @@ use Rattle.definitions.specs.Charts.{ChartStep, no_step, plain, grouped, step_le
 use Rattle.definitions.specs.declared.Field.TheVariants.{Whole}
 use Rattle.fields.specs.Positions.{HasField, only_known}
 use Rattle.fields.specs.Remarks.{has_whole}
+use Rattle.chart_fields.specs.Kinds.{kind_tag}
+use Rattle.chart_fields.specs.declared.kinds.StepKind.{StepKind}
+use Rattle.chart_fields.specs.declared.kinds.StepKind.TheVariants.{Plain, Grouped}
 use Rattle.chart.specs.declared.reader.StepsRead.{StepsRead}
 
+abbrev pub kind_if : Bool → StepKind
+kind_if true = Grouped
+kind_if false = Plain
+
 -- the kind of the step that may stand at a place: grouped where the tag says so, else plain
-unfoldable pub kind_at : List ℕ → ℕ → ℕ
-kind_at s at = pick (eqb (get_or s at 0) grouped) grouped plain
+unfoldable pub kind_at : List ℕ → ℕ → StepKind
+kind_at s at = kind_if (eqb (get_or s at 0) grouped)
 
--- before the first step the kind that is due is that of what stands there
-unfoldable pub due_kind : List ℕ → StepsRead → ℕ
-due_kind s r = pick (eqb r.steps 0) (kind_at s r.place) r.tag
+-- the kind that is due: that of the steps before, and before the first that of what stands there
+abbrev pub kind_or : Option StepKind → StepKind → StepKind
+kind_or (Some k) other = k
+kind_or None other = other
 
-abbrev pub Due : List ℕ → StepsRead → Type 0
-Due s r = due_kind s r ≡ r.tag
+unfoldable pub due_kind : List ℕ → StepsRead → StepKind
+due_kind s r = kind_or r.kind (kind_at s r.place)
 
--- a walk that goes on takes steps of the same kind
-abbrev pub SameKind : StepsRead → StepsRead → Type 0
-SameKind t r = r.going ≡ true → r.tag ≡ t.tag
+-- a step of this kind goes with those before
+abbrev pub GoesWith : Option StepKind → StepKind → Type 0
+GoesWith (Some k) kind = k ≡ kind
+GoesWith None kind = Unit {0}
+
+-- a whole step of this kind, which goes with those before, stands where the next field is due
+pub record HasStep (s : List ℕ) (r : StepsRead) (kind : StepKind) : Type 0 where
+  pub has : HasField s r.place (kind_tag kind) (step_length (kind_tag kind))
+  pub goes : GoesWith r.kind kind
 
 -- how many groups a diagram may name over so many steps, where the last one's is the highest
 unfoldable pub groups_to : ℕ → ℕ → ℕ
@@ -36,31 +50,18 @@ groups_to steps group = pick (eqb steps 0) 0 (group + 1)
 
 -- ---- what is known of the kind behind some steps
 
-pub record KindAfter (before : List ChartStep) (tag len : ℕ) : Type 0 where
-  pub known : (tag ≡ plain) ⊎ (tag ≡ grouped)
-  pub long : len ≡ step_length tag
-  pub same : 0 < length before → (get_or before 0 no_step).tag ≡ tag
-
-pub kind_start : KindAfter [] 2 8
-unfolding pick
-kind_start = record { known = inl refl; long = refl; same = λ h. absurd (omega arith) }
+abbrev pub KindAfter : List ChartStep → Option StepKind → Type 0
+KindAfter before (Some k) = (0 < length before) × ((get_or before 0 no_step).tag ≡ kind_tag k)
+KindAfter before None = length before ≡ 0
 
 -- a tag of either kind is no remark's
-pub kind_low : (tag : ℕ) → (tag ≡ plain) ⊎ (tag ≡ grouped) → tag < 128
-kind_low tag (inl q) = omega arith
-kind_low tag (inr q) = omega arith
-
-pub kind_at_known : (s : List ℕ) (at : ℕ) → (kind_at s at ≡ plain) ⊎ (kind_at s at ≡ grouped)
-unfolding kind_at pick
-kind_at_known s at = go (eqb (get_or s at 0) grouped)
-  where
-    go : (b : Bool) → (pick b grouped plain ≡ plain) ⊎ (pick b grouped plain ≡ grouped)
-    go true = inr refl
-    go false = inl refl
+kind_low : (k : StepKind) → kind_tag k < 128
+kind_low Plain = omega arith
+kind_low Grouped = omega arith
 
 -- ---- where the kind that is due is the one that may stand there, a field of it is just what the grammar allows
 
-module _ (s : List ℕ) (at tag len : ℕ) where
+module _ (s : List ℕ) (at : ℕ) where
   -- only the tag at the place matters
   kind_of : (k l : ℕ → Kind) → k (get_or s at 0) ≡ l (get_or s at 0) → field_at s at k ≡ field_at s at l
   unfolding field_at
@@ -70,37 +71,62 @@ module _ (s : List ℕ) (at tag len : ℕ) where
   unfolding or_remark
   or_same k l e = rw e
 
-  first_kind : (tag ≡ plain) ⊎ (tag ≡ grouped) → kind_at s at ≡ tag → step_kind [] (get_or s at 0) ≡ only tag (step_length tag) (get_or s at 0)
+  abbrev of : StepKind → ℕ → Kind
+  of k = only (kind_tag k) (step_length (kind_tag k))
+
+  first_kind : step_kind [] (get_or s at 0) ≡ of (kind_at s at) (get_or s at 0)
   unfolding kind_at step_kind pick only
-  first_kind is due = go (eqb (get_or s at 0) grouped) refl is due
+  first_kind = go (eqb (get_or s at 0) grouped) refl
     where
-      go : (b : Bool) → eqb (get_or s at 0) grouped ≡ b → (tag ≡ plain) ⊎ (tag ≡ grouped) → pick b grouped plain ≡ tag
-          → pick b (exactly (step_length grouped)) (only plain (step_length plain) (get_or s at 0)) ≡ only tag (step_length tag) (get_or s at 0)
-      go true e is q = rw (← q, e)
-      go false e is q = rw (← q)
+      go : (b : Bool) → eqb (get_or s at 0) grouped ≡ b
+          → pick b (exactly (step_length grouped)) (only plain (step_length plain) (get_or s at 0)) ≡ of (kind_if b) (get_or s at 0)
+      go true e = rw e
+      go false e = refl
 
-  kinds_agree : (before : List ChartStep) → KindAfter before tag len → (length before ≡ 0 → kind_at s at ≡ tag) → step_kind before (get_or s at 0) ≡ only tag (step_length tag) (get_or s at 0)
+  later_kind : (before : List ChartStep) (k : StepKind) → 0 < length before → (get_or before 0 no_step).tag ≡ kind_tag k → step_kind before (get_or s at 0) ≡ of k (get_or s at 0)
   unfolding step_kind
-  kinds_agree [] k due = first_kind k.known (due refl)
-  kinds_agree (x ∷ before) k due = go (k.same (omega arith))
-    where
-      go : x.tag ≡ tag → step_kind (x ∷ before) (get_or s at 0) ≡ only tag (step_length tag) (get_or s at 0)
-      go e = rw e
+  later_kind [] k h e = absurd (omega arith)
+  later_kind (x ∷ before) k h e = rw (← e)
 
-  pub due_same : (before : List ChartStep) → KindAfter before tag len → (length before ≡ 0 → kind_at s at ≡ tag)
-      → field_at s at (or_remark (only tag (step_length tag))) ≡ field_at s at (or_remark (step_kind before))
-  due_same before k due = sym (kind_of (or_remark (step_kind before)) (or_remark (only tag (step_length tag))) (or_same (step_kind before) (only tag (step_length tag)) (kinds_agree before k due)))
+  kinds_agree : (before : List ChartStep) (kind : Option StepKind) → KindAfter before kind → step_kind before (get_or s at 0) ≡ of (kind_or kind (kind_at s at)) (get_or s at 0)
+  kinds_agree before (Some k) h = later_kind before k h.0 h.1
+  kinds_agree [] None h = first_kind
+  kinds_agree (x ∷ before) None h = absurd (omega arith)
 
-  -- a whole step of that kind stands there
-  pub stands_whole : (before : List ChartStep) → KindAfter before tag len → HasField s at tag (step_length tag)
-      → Whole at (at + 3) (at + 3 + step_length tag) ≡ field_at s at (or_remark (step_kind before))
-  unfolding kind_at pick
-  stands_whole before k has =
-      has_whole s at tag (step_length tag) (kind_low tag k.known) has ∙ due_same before k (λ h. is k.known has.tagged)
-    where
-      is : (tag ≡ plain) ⊎ (tag ≡ grouped) → get_or s at 0 ≡ tag → kind_at s at ≡ tag
-      is (inl q) e = rw (e, q)
-      is (inr q) e = rw (e, q)
+  same_at : (before : List ChartStep) (kind : Option StepKind) → KindAfter before kind
+      → field_at s at (or_remark (of (kind_or kind (kind_at s at)))) ≡ field_at s at (or_remark (step_kind before))
+  same_at before kind h =
+      let k = kind_or kind (kind_at s at) in
+      sym (kind_of (or_remark (step_kind before)) (or_remark (of k)) (or_same (step_kind before) (of k) (kinds_agree before kind h)))
+
+  -- a step that goes with those before is of the kind that is due
+  stands_due : (kind : Option StepKind) (k : StepKind) → GoesWith kind k → HasField s at (kind_tag k) (step_length (kind_tag k)) → kind_or kind (kind_at s at) ≡ k
+  unfolding kind_at
+  stands_due (Some j) k g has = g
+  stands_due None Plain g has = rw has.tagged
+  stands_due None Grouped g has = rw has.tagged
+
+-- what is looked for, by the kind that is due
+pub due_same : (s : List ℕ) (r : StepsRead) (before : List ChartStep) (k : StepKind) → k ≡ due_kind s r → KindAfter before r.kind
+    → field_at s r.place (or_remark (only (kind_tag k) (step_length (kind_tag k)))) ≡ field_at s r.place (or_remark (step_kind before))
+unfolding due_kind
+due_same s r before k due h = rw due (same_at s r.place before r.kind h)
+
+-- a whole step of that kind is found
+pub stands_whole : (s : List ℕ) (r : StepsRead) (before : List ChartStep) (k : StepKind) → HasStep s r k → KindAfter before r.kind
+    → Whole r.place (r.place + 3) (r.place + 3 + step_length (kind_tag k)) ≡ field_at s r.place (or_remark (step_kind before))
+stands_whole s r before k h a =
+    has_whole s r.place (kind_tag k) (step_length (kind_tag k)) (kind_low k) h.has
+    ∙ rw (← (stands_due s r.place r.kind k h.goes h.has)) (same_at s r.place before r.kind a)
+
+-- the kind that is due goes with the steps before
+pub due_goes : (s : List ℕ) (r : StepsRead) (k : StepKind) → k ≡ due_kind s r → GoesWith r.kind k
+unfolding due_kind
+due_goes s r k due = go r.kind due
+  where
+    go : (kind : Option StepKind) → k ≡ kind_or kind (kind_at s r.place) → GoesWith kind k
+    go (Some j) e = sym e
+    go None e = tt
 
 -- ---- a tag that the grammar allows
 

@@ -1,43 +1,57 @@
 -- The walk over the steps of a chart file, turn by turn.
 -- Assumes nothing.
-use Rattle.std.specs.Prelude.{ℕ, ◌+◌, ◌≤◌, ◌≡◌, true, List, length}
+use Rattle.std.specs.Prelude.{ℕ, ◌≤◌, ◌≡◌, List, None, Result, Ok, Err, length}
 use Rattle.definitions.specs.Charts.{ChartStep, last_from, last_group, step_grammar, scan_steps}
+use Rattle.definitions.specs.Refusals.{number}
 use Rattle.fields.specs.Scans.{Reading}
-use Rattle.fields.specs.Turns.{Stands, Turn}
-use Rattle.chart_fields.specs.Ends.{ends_of}
-use Rattle.chart_fields.specs.declared.bodies.StepBody.{StepBody}
-use Rattle.chart.specs.Held.{stored}
+use Rattle.fields.specs.Turns.{Turn}
+use Rattle.fields.specs.declared.fault.Stopped.{Stopped}
+use Rattle.chart_fields.specs.declared.table.StepTable.{StepTable}
 use Rattle.chart.specs.Kinds.{KindAfter}
-use Rattle.chart.specs.Tables.{Room, Filled, steps_answer}
+use Rattle.chart.specs.Tables.{Room, Filled}
 use Rattle.chart.specs.declared.reader.StepsRead.{StepsRead}
 
+-- before the first step, which is due at a place
+abbrev pub begun : ℕ → StepsRead
+begun place = record { place = place; steps = 0; last = 0; group = 0; kind = None }
+
 -- what is read so far at r, and that the rest of the walk is still to come
-pub record SoFar (s : List ℕ) (first stages : ℕ) (packed₀ packed : List (List ℕ)) (r : StepsRead) : Type 0 where
+pub record SoFar (s : List ℕ) (first stages : ℕ) (table₀ table : StepTable) (r : StepsRead) : Type 0 where
   pub before : List ChartStep
   pub reading : Reading s (step_grammar stages) first r.place before
   pub counted : length before ≡ r.steps
   pub latest : last_from before ≡ r.last
   pub highest : last_group before ≡ r.group
-  pub kind : KindAfter before r.tag r.len
-  pub filled : stages ≤ 256 → Room packed₀ → Filled before packed₀ packed
+  pub kind : KindAfter before r.kind
+  pub filled : stages ≤ 256 → Room table₀ → Filled before table₀ table
 
--- the walk is over: the answer, and what the table holds
-pub record Over (s : List ℕ) (first stages : ℕ) (packed₀ packed : List (List ℕ)) (r : StepsRead) : Type 0 where
-  pub answer : r ≡ steps_answer (scan_steps s stages first)
-  pub filled : stages ≤ 256 → Room packed₀ → Filled (scan_steps s stages first).passed packed₀ packed
+-- the walk is over at r: the number and the place that it gives, and what the table holds
+pub record Over (s : List ℕ) (first stages : ℕ) (table₀ table : StepTable) (number place : ℕ) (r : StepsRead) : Type 0 where
+  pub numbered : (scan_steps s stages first).number ≡ number
+  pub placed : (scan_steps s stages first).place ≡ place
+  pub counted : length (scan_steps s stages first).passed ≡ r.steps
+  pub highest : last_group (scan_steps s stages first).passed ≡ r.group
+  pub filled : stages ≤ 256 → Room table₀ → Filled (scan_steps s stages first).passed table₀ table
 
--- by its origin, the first place and the table then: what is read so far at r, and where the walk stands
-abbrev pub SoFarAt : List ℕ → ℕ → List (List ℕ) → StepsRead → ℕ × List (List ℕ) → Type 0
-SoFarAt s stages packed r o = SoFar s o.0 stages o.1 packed r
+-- at a fault
+abbrev pub Stops : List ℕ → ℕ → ℕ → StepTable → StepTable → Stopped StepsRead → Type 0
+Stops s first stages table₀ table e = Over s first stages table₀ table (number e.fault.refusal) e.fault.place e.passed
 
-abbrev pub StandsAt : List ℕ → ℕ → List (List ℕ) → StepsRead → ℕ × List (List ℕ) → Type 0
-StandsAt s stages packed r o = Stands r.going (SoFarAt s stages packed r o) (Over s o.0 stages o.1 packed r)
+-- at the file's end or at a fault
+abbrev pub Ends : List ℕ → ℕ → ℕ → StepTable → StepTable → Result StepsRead (Stopped StepsRead) → Type 0
+Ends s first stages table₀ table (Ok r) = Over s first stages table₀ table 0 0 r
+Ends s first stages table₀ table (Err e) = Stops s first stages table₀ table e
 
--- from t to r, by one field or by a run of them
-abbrev pub Takes : List ℕ → ℕ → StepsRead → List (List ℕ) → List (List ℕ) → StepsRead → Type 0
-Takes s stages t packed packed' r = Turn s t.place r.place r.going (SoFarAt s stages packed t) (StandsAt s stages packed' r)
+-- by its origin, the first place and the table then: what is read so far, and where the walk stops
+abbrev pub SoFarAt : List ℕ → ℕ → StepTable → StepsRead → ℕ × StepTable → Type 0
+SoFarAt s stages table r o = SoFar s o.0 stages o.1 table r
 
--- step x, which passed at t, is in the table, and the next one is due at `end`
-pub record Stores (t : StepsRead) (x : StepBody) (len end : ℕ) (packed packed' : List (List ℕ)) (r : StepsRead) : Type 0 where
-  pub is : r ≡ record { number = 0; place = end; steps = t.steps + 1; last = x.from; group = x.group; tag = x.tag; len = len; going = true }
-  pub table : (ends : ℕ) × (ends ≡ ends_of x.tag x.group x.from x.to) × (packed' ≡ stored packed t.steps ends x.cost)
+abbrev pub StopsAt : List ℕ → ℕ → StepTable → Stopped StepsRead → ℕ × StepTable → Type 0
+StopsAt s stages table e o = Stops s o.0 stages o.1 table e
+
+abbrev pub place_of : StepsRead → ℕ
+place_of r = r.place
+
+-- from t on, by one field or by a run of them
+abbrev pub Takes : List ℕ → ℕ → StepsRead → StepTable → StepTable → Result StepsRead (Stopped StepsRead) → Type 0
+Takes s stages t table table' = Turn s place_of t.place (SoFarAt s stages table t) (SoFarAt s stages table') (StopsAt s stages table')

@@ -2,5 +2,7 @@
 #![tactic(auto)]
 
 mod reader;
+mod sizes;
 
-pub use reader::{ChartRead, read_chart};
+pub use reader::read_chart;
+pub use sizes::ChartSizes;

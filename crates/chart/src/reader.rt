@@ -1,352 +1,247 @@
-// The reader of the chart file: its steps go into a table with two columns.
-ghost use Rattle.std.specs.Prelude.{◌≡◌, true, false, ◌⊎◌, ◌<◌};
+// The reader of the chart file: its steps go into a table.
+ghost use Rattle.std.specs.Prelude.{◌≡◌, Some, IfOk};
 ghost use Rattle.definitions.specs.Fields.{only, or_remark, field_at};
-ghost use Rattle.definitions.specs.Charts.{step_length, chart_refused, read_chart};
-ghost use Rattle.fields.specs.Positions.{HasField};
-ghost use Rattle.chart.specs.Kinds.{kind_at, due_kind, Due, SameKind, groups_to};
-ghost use Rattle.chart.specs.Tables.{Room, Filled, chart_answer};
-ghost use Rattle.chart.specs.Turns.{Over, Stores, Takes};
+ghost use Rattle.definitions.specs.Charts.{step_length, read_chart};
+ghost use Rattle.chart_fields.specs.Kinds.{kind_tag};
+ghost use Rattle.chart.specs.Kinds.{kind_if, kind_at, due_kind, HasStep, groups_to};
+ghost use Rattle.chart.specs.Tables.{Room, Filled, sizes_so_far, no_sizes, ChartAnswer};
+ghost use Rattle.chart.specs.Turns.{begun, Ends, Takes};
 
-use chart_fields::{
-    COST, ENDS, StepBody, ends_of, head_fault, head_of, step_fault, step_length, step_of,
-};
-use definitions::{Field, Group, Stage};
-use fields::reader::{moved, new, next};
-use fields::{first_field, goes_on, next_field};
+use crate::sizes::ChartSizes;
+use chart_fields::{HeadBody, StepKind, StepTable, check_head, check_step, head_of, step_of};
+use definitions::{Field, Refusal};
+use fields::{Fault, Reader, Stopped, first_field, is_whole};
 
 // The steps read so far.
 #[derive(Clone, Copy)]
 pub struct StepsRead {
-    // the refusal's number, 0 where there is none
-    pub number: u8,
-    // where the next field is due; once the walk is over, the refusal's place, 0 where there is none
+    // where the next field is due
     pub place: usize,
     // how many steps passed
     pub steps: usize,
-    // the stage that the last of them leaves, 0 before the first and once the walk is over
+    // the stage that the last of them leaves, 0 before the first
     pub last: u16,
     // the group of the last of them, 0 before the first
     pub group: u16,
-    // the kind of steps that are due, and the length of their bodies: before the first step as that may be, from then on its
-    // kind; 0 once the walk is over
-    pub tag: u8,
-    pub len: u16,
-    // whether the walk goes on
-    pub going: bool,
+    // their kind, none before the first
+    pub kind: Option<StepKind>,
 }
 
-fn stopped(read: StepsRead, number: u8, place: usize) -> StepsRead
-    ensures { result ≡ record { number = number; place = place; steps = read.steps; last = 0; group = read.group; tag = 0; len = 0; going = false } }
-{
-    StepsRead {
-        number,
-        place,
-        steps: read.steps,
-        last: 0,
-        group: read.group,
-        tag: 0,
-        len: 0,
-        going: false,
+impl StepsRead {
+    // Before the first step, which is due at this place.
+    fn start(place: usize) -> StepsRead
+        ensures { result ≡ begun place }
+    {
+        StepsRead {
+            place,
+            steps: 0,
+            last: 0,
+            group: 0,
+            kind: None,
+        }
     }
-}
 
-// A step that passed, into the table; behind it the next one is due, at `end`.
-fn store(
-    read: StepsRead,
-    step: StepBody,
-    len: u16,
-    end: usize,
-    steps: &mut [[u32; 1024]; 2],
-) -> StepsRead
-    requires { (read.steps < 1024) × (step.group < 1024) }
-    ensures { Stores read step len end steps.old steps.new result }
-{
-    let count = read.steps;
-    let ends = ends_of(
-        step.tag,
-        Group(step.group),
-        Stage(step.from),
-        Stage(step.to),
-    );
-    steps[ENDS][count] = ends;
-    steps[COST][count] = step.cost;
-    StepsRead {
-        number: 0,
-        place: end,
-        steps: count + 1,
-        last: step.from,
-        group: step.group,
-        tag: step.tag,
-        len,
-        going: true,
+    // The walk ends at a fault.
+    fn stopped(self, refusal: Refusal, place: usize) -> Stopped<StepsRead>
+        ensures { result ≡ record { fault = record { refusal = refusal; place = place }; passed = self } }
+    {
+        Stopped {
+            fault: Fault { refusal, place },
+            passed: self,
+        }
     }
-}
 
-// The plain step whose field stands whole at the read's place, into the table. The kind is a constant here and below, so that
-// no test of it is left in the loop.
-fn put_plain(file: &[u8], read: StepsRead, stages: u16, steps: &mut [[u32; 1024]; 2]) -> StepsRead
-    requires { HasField file.now read.place 2 8 × (read.tag ≡ 2) }
-    ensures takes { Takes file.now stages read steps.old steps.new result }
-    ensures same_kind { SameKind read result }
-{
-    let count = read.steps;
-    let place = read.place;
-    let start = place + 3;
-    let end = start + 8;
-    let body = &file[start..end];
-    let fault = step_fault(body, stages, 2, read.last, read.group, count);
-    if fault != 0 {
-        return stopped(read, fault, place);
+    // The kind of steps that is due: that of those before, and before the first that of what stands there.
+    #[tactic(auto, unfolding(crate::specs::Kinds::due_kind))]
+    fn due_kind(self, file: &[u8]) -> StepKind
+        ensures { result ≡ due_kind file.now self }
+    {
+        match self.kind {
+            Some(kind) => kind,
+            None => kind_at(file, self.place),
+        }
     }
-    store(read, step_of(body, 2, count), 8, end, steps)
-}
 
-// The plain steps that stand one behind the other from the read's place on, into the table: a loop of its own, so that the
-// compiler keeps what it counts in registers.
-fn put_plains(file: &[u8], first: StepsRead, stages: u16, steps: &mut [[u32; 1024]; 2]) -> StepsRead
-    requires { HasField file.now first.place 2 8 × (first.tag ≡ 2) }
-    ensures { Takes file.now stages first steps.old steps.new result }
-{
-    let mut read = first;
-    let mut here = true;
-    while here {
-        read = put_plain(file, read, stages, steps);
-        here = goes_on(file, read.going, read.place, 2, 8);
+    // What stands where the next field is due: a remark, or a step of this kind.
+    fn find_step(self, file: &[u8], kind: StepKind) -> Field
+        ensures { result ≡ field_at file.now self.place (or_remark (only (kind_tag kind) (step_length (kind_tag kind)))) }
+    {
+        Reader::new(file)
+            .moved(self.place)
+            .next(kind.tag(), kind.length())
     }
-    read
-}
 
-// The grouped step whose field stands whole at the read's place, into the table.
-fn put_grouped(file: &[u8], read: StepsRead, stages: u16, steps: &mut [[u32; 1024]; 2]) -> StepsRead
-    requires { HasField file.now read.place 3 10 × (read.tag ≡ 3) }
-    ensures takes { Takes file.now stages read steps.old steps.new result }
-    ensures same_kind { SameKind read result }
-{
-    let count = read.steps;
-    let place = read.place;
-    let start = place + 3;
-    let end = start + 10;
-    let body = &file[start..end];
-    let wrong = step_fault(body, stages, 3, read.last, read.group, count);
-    if wrong != 0 {
-        return stopped(read, wrong, place);
-    }
-    store(read, step_of(body, 3, count), 10, end, steps)
-}
-
-// The grouped steps that stand one behind the other from the read's place on, into the table.
-fn put_groupeds(
-    file: &[u8],
-    first: StepsRead,
-    stages: u16,
-    steps: &mut [[u32; 1024]; 2],
-) -> StepsRead
-    requires { HasField file.now first.place 3 10 × (first.tag ≡ 3) }
-    ensures { Takes file.now stages first steps.old steps.new result }
-{
-    let mut read = first;
-    let mut here = true;
-    while here {
-        read = put_grouped(file, read, stages, steps);
-        here = goes_on(file, read.going, read.place, 3, 10);
-    }
-    read
-}
-
-// The steps that stand one behind the other from the read's place on, into the table.
-fn put_steps(file: &[u8], first: StepsRead, stages: u16, steps: &mut [[u32; 1024]; 2]) -> StepsRead
-    requires has_field { HasField file.now first.place first.tag (step_length first.tag) }
-    requires kind { (first.tag ≡ 2) ⊎ (first.tag ≡ 3) }
-    ensures { Takes file.now stages first steps.old steps.new result }
-{
-    if first.tag == 3 {
-        return put_groupeds(file, first, stages, steps);
-    }
-    put_plains(file, first, stages, steps)
-}
-
-// One turn of the walk, of the kind that is due: the end, a fault, a remark, or a run of steps, which go into the table.
-fn take_found(
-    file: &[u8],
-    found: Field,
-    read: StepsRead,
-    stages: u16,
-    steps: &mut [[u32; 1024]; 2],
-) -> StepsRead
-    requires stands { found ≡ field_at file.now read.place (or_remark (only read.tag (step_length read.tag))) }
-    requires due { Due file.now read × ((read.tag ≡ 2) ⊎ (read.tag ≡ 3)) }
-    ensures { Takes file.now stages read steps.old steps.new result }
-{
-    let count = read.steps;
-    match found {
-        Field::Absent => stopped(read, 0, 0),
-        Field::Faulty { number, place } => stopped(read, number, place),
-        Field::Passed { end } => StepsRead {
-            number: 0,
-            place: end,
-            steps: count,
-            last: read.last,
-            group: read.group,
-            tag: read.tag,
-            len: read.len,
-            going: true,
-        },
-        Field::Whole { .. } => put_steps(file, read, stages, steps),
+    // How many groups a diagram may name over these steps: those up to the last step's.
+    #[tactic(auto, unfolding(crate::specs::Kinds::groups_to, definitions::specs::Basics::pick))]
+    fn groups(self) -> usize
+        ensures { result ≡ groups_to self.steps self.group }
+    {
+        if self.steps == 0 {
+            return 0;
+        }
+        usize::from(self.group) + 1
     }
 }
 
 // The kind of the step that may stand at a place: grouped where its tag says so, else plain.
-fn kind_at(file: &[u8], at: usize) -> u8
+#[tactic(auto, unfolding(crate::specs::Kinds::kind_at))]
+fn kind_at(file: &[u8], at: usize) -> StepKind
     ensures { result ≡ kind_at file.now at }
 {
-    if file.len() <= at {
-        return 2;
-    }
-    let found = file[at];
-    if found == 3 {
-        return 3;
-    }
-    2
+    kind_if(at < file.len() && file[at] == StepKind::Grouped.tag())
 }
 
-// The kind of steps that is due: before the first step that of what stands there.
-fn due_kind(file: &[u8], read: StepsRead) -> u8
-    ensures { result ≡ due_kind file.now read }
+fn kind_if(grouped: bool) -> StepKind
+    ensures { result ≡ kind_if grouped }
 {
-    if read.steps == 0 {
-        return kind_at(file, read.place);
+    if grouped {
+        StepKind::Grouped
+    } else {
+        StepKind::Plain
     }
-    read.tag
 }
 
-// What stands at the read's place, where a step of the kind `tag` is due; it is looked at again should another kind have been
-// looked for.
-fn look_again(file: &[u8], found: Field, read: StepsRead, tag: u8) -> Field
-    requires { found ≡ field_at file.now read.place (or_remark (only read.tag (step_length read.tag))) }
-    ensures { result ≡ field_at file.now read.place (or_remark (only tag (step_length tag))) }
-{
-    if tag == read.tag {
-        return found;
-    }
-    next_field(file, read.place, tag, step_length(tag))
-}
-
-// One turn of the walk, with the kind that is due.
-fn take_steps(
+// The step whose field stands whole at the read's place, into the table. The kind is a constant here and below, so that no
+// test of it is left in the loop.
+fn put_step<const GROUPED: bool>(
     file: &[u8],
-    found: Field,
     read: StepsRead,
     stages: u16,
-    steps: &mut [[u32; 1024]; 2],
-) -> StepsRead
-    requires { (found ≡ field_at file.now read.place (or_remark (only read.tag (step_length read.tag))))
-        × ((read.tag ≡ 2) ⊎ (read.tag ≡ 3)) }
-    ensures { Takes file.now stages read steps.old steps.new result }
+    steps: &mut StepTable,
+) -> Result<StepsRead, Stopped<StepsRead>>
+    requires { HasStep file.now read (kind_if GROUPED) }
+    ensures takes { Takes file.now stages read steps.old steps.new result }
+    ensures kind { IfOk result (λ r. r.kind ≡ Some (kind_if GROUPED)) }
 {
-    let tag = due_kind(file, read);
-    let here = look_again(file, found, read, tag);
-    let first = StepsRead {
-        number: 0,
-        place: read.place,
-        steps: read.steps,
-        last: read.last,
-        group: read.group,
-        tag,
-        len: step_length(tag),
-        going: true,
-    };
-    take_found(file, here, first, stages, steps)
-}
-
-// The steps from a place on, into the table: a reader, kept in a local, walks over them.
-fn read_steps(file: &[u8], first: usize, stages: u16, steps: &mut [[u32; 1024]; 2]) -> StepsRead
-    ensures { Over file.now first stages steps.old steps.new result }
-{
-    let mut reader = moved(new(file), first);
-    let mut read = StepsRead {
-        number: 0,
-        place: first,
-        steps: 0,
-        last: 0,
-        group: 0,
-        tag: 2,
-        len: 8,
-        going: true,
-    };
-    while read.going {
-        let found = next(reader, read.tag, read.len);
-        read = take_steps(file, found, read, stages, steps);
-        reader = moved(reader, read.place);
+    let kind = kind_if(GROUPED);
+    let start = read.place + 3;
+    let end = start + usize::from(kind.length());
+    let body = &file[start..end];
+    if let Err(refusal) = check_step(body, stages, kind, read.last, read.group, read.steps) {
+        return Err(read.stopped(refusal, read.place));
     }
-    read
+    let step = step_of(body, kind, read.steps);
+    steps.put(read.steps, step);
+    Ok(StepsRead {
+        place: end,
+        steps: read.steps + 1,
+        last: step.from,
+        group: step.group,
+        kind: Some(kind),
+    })
 }
 
-// A chart file, read: the refusal's number and place, 0 and 0 where it is accepted, and the chart as far as its
-// fields passed.
-#[derive(Clone, Copy)]
-pub struct ChartRead {
-    pub number: u8,
-    pub place: usize,
-    pub stages: u16,
-    pub start: u16,
-    pub end: u16,
-    pub steps: usize,
-    // how many groups a diagram may name
-    pub groups: usize,
-}
-
-// How many groups a diagram may name over the steps that were read: those up to the last step's.
-fn groups_of(read: StepsRead) -> usize
-    ensures { result ≡ groups_to read.steps read.group }
+// Such steps as stand one behind the other from the read's place on: a loop of its own, so that the compiler keeps what it
+// counts in registers.
+fn put_run<const GROUPED: bool>(
+    file: &[u8],
+    first: StepsRead,
+    stages: u16,
+    steps: &mut StepTable,
+) -> Result<StepsRead, Stopped<StepsRead>>
+    requires { HasStep file.now first (kind_if GROUPED) }
+    ensures { Takes file.now stages first steps.old steps.new result }
 {
-    if read.steps == 0 {
-        return 0;
-    }
-    read.group as usize + 1
-}
-
-// The chart of a file; its steps go into the table.
-pub fn read_chart(file: &[u8], steps: &mut [[u32; 1024]; 2]) -> ChartRead
-    ensures value { result ≡ chart_answer (read_chart file.now) }
-    ensures filled { let read = read_chart file.now in
-        Room steps.old → Filled read.chart.steps steps.old steps.new }
-{
-    match first_field(file, 1, 6) {
-        Field::Absent => refused(2, 0),
-        Field::Faulty { number, place } => refused(number, place),
-        Field::Passed { end: _ } => refused(2, 0),
-        Field::Whole { place, start, end } => {
-            let body = &file[start..end];
-            let fault = head_fault(body);
-            if fault != 0 {
-                return refused(fault, place);
-            }
-            let head = head_of(body);
-            let read = read_steps(file, end, head.stages, steps);
-            ChartRead {
-                number: read.number,
-                place: read.place,
-                stages: head.stages,
-                start: head.start,
-                end: head.end,
-                steps: read.steps,
-                groups: groups_of(read),
-            }
+    let kind = kind_if(GROUPED);
+    let mut read = first;
+    loop {
+        read = put_step::<GROUPED>(file, read, stages, steps)?;
+        if !is_whole(file, read.place, kind.tag(), kind.length()) {
+            return Ok(read);
         }
     }
 }
 
-// The answer where no head passed.
-fn refused(number: u8, place: usize) -> ChartRead
-    ensures { result ≡ chart_answer (chart_refused number place) }
+// The steps of this kind that stand one behind the other from the read's place on, into the table.
+fn put_steps(
+    file: &[u8],
+    first: StepsRead,
+    kind: StepKind,
+    stages: u16,
+    steps: &mut StepTable,
+) -> Result<StepsRead, Stopped<StepsRead>>
+    requires { HasStep file.now first kind }
+    ensures { Takes file.now stages first steps.old steps.new result }
 {
-    ChartRead {
-        number,
-        place,
-        stages: 0,
-        start: 0,
-        end: 0,
-        steps: 0,
-        groups: 0,
+    match kind {
+        StepKind::Plain => put_run::<false>(file, first, stages, steps),
+        StepKind::Grouped => put_run::<true>(file, first, stages, steps),
+    }
+}
+
+// The steps from a place on, into the table.
+fn read_steps(
+    file: &[u8],
+    first: usize,
+    stages: u16,
+    steps: &mut StepTable,
+) -> Result<StepsRead, Stopped<StepsRead>>
+    ensures { Ends file.now first stages steps.old steps.new result }
+{
+    let mut read = StepsRead::start(first);
+    loop {
+        let kind = read.due_kind(file);
+        match read.find_step(file, kind) {
+            Field::Absent => return Ok(read),
+            Field::Faulty { refusal, place } => return Err(read.stopped(refusal, place)),
+            Field::Passed { end } => read.place = end,
+            Field::Whole { .. } => read = put_steps(file, read, kind, stages, steps)?,
+        }
+    }
+}
+
+// The sizes of a chart with this head and the steps that were read.
+fn sizes(head: HeadBody, read: StepsRead) -> ChartSizes
+    ensures { result ≡ sizes_so_far head read }
+{
+    ChartSizes {
+        stages: head.stages,
+        start: head.start,
+        end: head.end,
+        steps: read.steps,
+        groups: read.groups(),
+    }
+}
+
+// No head passed.
+fn no_head(refusal: Refusal, place: usize) -> Stopped<ChartSizes>
+    ensures { result ≡ record { fault = record { refusal = refusal; place = place }; passed = no_sizes } }
+{
+    Stopped {
+        fault: Fault { refusal, place },
+        passed: ChartSizes {
+            stages: 0,
+            start: 0,
+            end: 0,
+            steps: 0,
+            groups: 0,
+        },
+    }
+}
+
+// The chart of a file: its sizes, or why and where it is refused, with the sizes as far as its fields passed. Its steps go
+// into the table.
+pub fn read_chart(file: &[u8], steps: &mut StepTable) -> Result<ChartSizes, Stopped<ChartSizes>>
+    ensures value { ChartAnswer (read_chart file.now) result }
+    ensures filled { let read = read_chart file.now in
+        Room steps.old → Filled read.chart.steps steps.old steps.new }
+{
+    match first_field(file, 1, 6) {
+        Field::Absent | Field::Passed { .. } => Err(no_head(Refusal::Tag, 0)),
+        Field::Faulty { refusal, place } => Err(no_head(refusal, place)),
+        Field::Whole { place, start, end } => {
+            let body = &file[start..end];
+            if let Err(refusal) = check_head(body) {
+                return Err(no_head(refusal, place));
+            }
+            let head = head_of(body);
+            match read_steps(file, end, head.stages, steps) {
+                Ok(read) => Ok(sizes(head, read)),
+                Err(Stopped { fault, passed }) => Err(Stopped {
+                    fault,
+                    passed: sizes(head, passed),
+                }),
+            }
+        }
     }
 }

@@ -1,2 +1,4 @@
+pub mod Kinds
 pub mod Bodies
 pub mod Ends
+pub mod Stored

@@ -2,32 +2,36 @@
 ghost use Rattle.std.specs.Prelude.{◌≡◌, ◌≤◌, ◌<◌, eqb, length};
 ghost use Rattle.definitions.specs.Basics.{pick};
 ghost use Rattle.definitions.specs.Fields.{two, four};
-ghost use Rattle.definitions.specs.Charts.{grouped, head_fault, group_fault, step_fault, rounded, step_length};
+ghost use Rattle.definitions.specs.Charts.{grouped, head_fault, group_fault, step_fault, rounded};
+ghost use Rattle.definitions.specs.Refusals.{fault_number};
 ghost use Rattle.chart_fields.specs.Bodies.{head_body, Long, step_body};
+ghost use Rattle.chart_fields.specs.Kinds.{kind_tag};
 
+use crate::kinds::StepKind;
+use definitions::Refusal;
 use field_numbers::{read_u16, read_u32};
 
-// What is wrong with a head's body, 0: nothing.
-pub fn head_fault(b: &[u8]) -> u8
+// Whether a head's body keeps its limits.
+pub fn check_head(b: &[u8]) -> Result<(), Refusal>
     requires { length b.now ≡ 6 }
-    ensures { result ≡ head_fault b.now }
+    ensures { fault_number result ≡ head_fault b.now }
 {
     let stages = read_u16(b, 0);
     if stages == 0 {
-        return 4;
+        return Err(Refusal::HeadLimit);
     }
     if 256 < stages {
-        return 4;
+        return Err(Refusal::HeadLimit);
     }
     let start = read_u16(b, 2);
     if stages <= start {
-        return 4;
+        return Err(Refusal::HeadLimit);
     }
     let end = read_u16(b, 4);
     if stages <= end {
-        return 4;
+        return Err(Refusal::HeadLimit);
     }
-    0
+    Ok(())
 }
 
 // What a head's body holds.
@@ -49,59 +53,56 @@ pub fn head_of(b: &[u8]) -> HeadBody
     }
 }
 
-// How long the body of a step is.
-pub fn step_length(tag: u8) -> u16
-    ensures { result ≡ step_length tag }
-{
-    if tag == 3 {
-        return 10;
-    }
-    8
-}
-
-// What is wrong with the group that a step names, where the step before is of the group `last`; 0: nothing.
-fn group_fault(b: &[u8], last: u16) -> u8
+// Whether a step may name its group where the step before is of the group `last`.
+fn check_group(b: &[u8], last: u16) -> Result<(), Refusal>
     requires { 10 ≤ length b.now }
-    ensures { result ≡ group_fault last b.now }
+    ensures { fault_number result ≡ group_fault last b.now }
 {
     let group = read_u16(b, 8);
     if 1023 < group {
-        return 14; // no group has such a number
+        return Err(Refusal::GroupLimit); // no group has such a number
     }
     if group < last {
-        return 14; // out of order
+        return Err(Refusal::GroupLimit); // out of order
     }
-    0
+    Ok(())
 }
 
-// What is wrong with a step's body after `count` steps, the last of which leaves the stage `last` and is of the group
-// `group`; 0: nothing. The value is judged as the file has it, before it is rounded.
-pub fn step_fault(b: &[u8], stages: u16, tag: u8, last: u16, group: u16, count: usize) -> u8
-    requires { Long tag b.now }
-    ensures { result ≡ step_fault stages tag last group count b.now }
+// Whether a step's body keeps its limits after `count` steps, the last of which leaves the stage `last` and is of the group
+// `group`. The value is judged as the file has it, before it is rounded.
+pub fn check_step(
+    b: &[u8],
+    stages: u16,
+    kind: StepKind,
+    last: u16,
+    group: u16,
+    count: usize,
+) -> Result<(), Refusal>
+    requires { Long (kind_tag kind) b.now }
+    ensures { fault_number result ≡ step_fault stages (kind_tag kind) last group count b.now }
 {
     if 1024 <= count {
-        return 5; // the 1,025th
+        return Err(Refusal::StepOrder); // the 1,025th
     }
     let from = read_u16(b, 0);
     let to = read_u16(b, 2);
     let value = read_u32(b, 4);
     if to <= from {
-        return 10; // not to a higher stage
+        return Err(Refusal::StepTarget); // not to a higher stage
     }
     if stages <= to {
-        return 10; // to no stage of the chart
+        return Err(Refusal::StepTarget); // to no stage of the chart
     }
     if from < last {
-        return 5; // out of order
+        return Err(Refusal::StepOrder); // out of order
     }
     if 1000000 < value {
-        return 11; // too dear
+        return Err(Refusal::DearStep); // too dear
     }
-    if tag == 3 {
-        return group_fault(b, group);
+    match kind {
+        StepKind::Plain => Ok(()),
+        StepKind::Grouped => check_group(b, group),
     }
-    0
 }
 
 // What a step costs that has this value in the file: whole ticks of 50.
@@ -115,7 +116,7 @@ fn rounded_cost(value: u32) -> u32
 // What the body of a step holds, its cost rounded.
 #[derive(Clone, Copy)]
 pub struct StepBody {
-    pub tag: u8,
+    pub kind: StepKind,
     pub from: u16,
     pub to: u16,
     pub cost: u32,
@@ -123,26 +124,27 @@ pub struct StepBody {
 }
 
 // The group of step e: the one that it names, or its own number.
-fn group_in(b: &[u8], tag: u8, e: usize) -> u16
-    requires { Long tag b.now × (e < 1024) }
-    ensures { result ≡ pick (eqb tag grouped) (two b.now 8) e }
+#[tactic(auto, unfolding(definitions::specs::Basics::pick))]
+fn group_in(b: &[u8], kind: StepKind, e: usize) -> u16
+    requires { Long (kind_tag kind) b.now × (e < 1024) }
+    ensures { result ≡ pick (eqb (kind_tag kind) grouped) (two b.now 8) e }
 {
-    if tag == 3 {
-        return read_u16(b, 8);
+    match kind {
+        StepKind::Plain => e as u16,
+        StepKind::Grouped => read_u16(b, 8),
     }
-    e as u16
 }
 
-pub fn step_of(b: &[u8], tag: u8, e: usize) -> StepBody
-    requires long { Long tag b.now × (e < 1024) }
+pub fn step_of(b: &[u8], kind: StepKind, e: usize) -> StepBody
+    requires long { Long (kind_tag kind) b.now × (e < 1024) }
     requires cheap { four b.now 4 ≤ 1000000 }
-    ensures { result ≡ step_body tag e b.now }
+    ensures { result ≡ step_body kind e b.now }
 {
     StepBody {
-        tag,
+        kind,
         from: read_u16(b, 0),
         to: read_u16(b, 2),
         cost: rounded_cost(read_u32(b, 4)),
-        group: group_in(b, tag, e),
+        group: group_in(b, kind, e),
     }
 }

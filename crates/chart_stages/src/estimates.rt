@@ -7,9 +7,8 @@ ghost use Rattle.chart_stages.specs.Estimates.{WayFrom, EstimateTable};
 ghost use Rattle.theory.specs.Least.{Shows};
 ghost use Rattle.chart_stages.specs.Leaving.{Staged, Leaving};
 
-use chart_fields::{COST, ENDS, to_at};
-use convert::{lesser, wide};
-use definitions::{NONE, Shape, Stage};
+use chart_fields::StepTable;
+use definitions::{NONE, Shape, Stage, Step};
 
 // The smaller of what is known and the cost through a step to stage `t`. A sum is wider than an estimate, so one with none,
 // which is the largest of them, is never the smaller.
@@ -17,14 +16,14 @@ fn through(known: usize, estimates: &[u32; 256], t: Stage, cost: u32) -> usize
     requires { t.0 < 256 }
     ensures { result ≡ min known (cost + get_or estimates.now t.0 0) }
 {
-    let rest = wide(estimates[t.0 as usize]);
-    lesser(known, wide(cost) + rest)
+    let rest = estimates[t.0 as usize] as usize;
+    known.min(cost as usize + rest)
 }
 
 // The estimate of the stage that the steps from `start` to before `until` leave, by those of the stages after it.
 fn least_through<'a>(
     estimates: &'a [u32; 256],
-    steps: &'a [[u32; 1024]; 2],
+    steps: &'a StepTable,
     start: usize,
     until: usize,
 ) -> u32
@@ -32,10 +31,10 @@ fn least_through<'a>(
     ensures { let t = steps_in steps.now in
         (x : Leaving t start until estimates.now) → Shows (WayFrom (graph (chart_in x.z t)) x.s) result }
 {
-    let mut best = wide(NONE);
+    let mut best = NONE as usize;
     for e in start..until {
-        let t = to_at(&steps[ENDS], e);
-        best = through(best, estimates, t, steps[COST][e]);
+        let step = Step(e as u16);
+        best = through(best, estimates, steps.to(step), steps.cost(step));
     }
     best as u32
 }
@@ -45,7 +44,7 @@ fn least_through<'a>(
 pub fn fill_chart_estimates<'a>(
     estimates: &mut [u32; 256],
     z: Shape,
-    steps: &'a [[u32; 1024]; 2],
+    steps: &'a StepTable,
     first: &'a [u16; 257],
 )
     requires none_yet { estimates.old ≡ replicate 256 NONE }
@@ -53,10 +52,9 @@ pub fn fill_chart_estimates<'a>(
     ensures { EstimateTable (chart_in z (steps_in steps.now)) estimates.new }
 {
     let start = z.start.0 as usize;
-    let mut s = z.end.0 as usize;
-    estimates[s] = 0;
-    while start < s {
-        s -= 1;
+    let end = z.end.0 as usize;
+    estimates[end] = 0;
+    for s in (start..end).rev() {
         estimates[s] = least_through(estimates, steps, first[s] as usize, first[s + 1] as usize);
     }
 }

@@ -1,3 +1,4 @@
+pub mod Refusing
 pub mod Tables
 pub mod Outcome
 pub mod Ready

@@ -13,7 +13,7 @@ use Rattle.chart_stages.specs.FirstSteps.{FirstTable, Firsts, first_leaves, leav
 use Rattle.chart_stages.specs.HeldGraph.{held_firsts}
 use Rattle.diagram.specs.Held.{length_held}
 use Rattle.rows.specs.Rows.{row_at}
-use Rattle.checks.specs.declared.WalkTables.{WalkTables}
+use Rattle.checks.specs.declared.walk.WalkTables.{WalkTables}
 use Rattle.checks.specs.Tables.{Read, read, Named, Tables, chart_in, diagram_in}
 use Rattle.definitions.specs.declared.Shape.{Shape}
 

@@ -4,24 +4,9 @@
 ghost use Rattle.std.specs.Prelude.{◌≡◌, ◌≤◌, length, take};
 
 use std::fs::File;
-use std::io::Read;
 use std::rt::Files;
 use std::str;
-
-// Reads until the buffer is full, the input ends or a read fails, and returns how many bytes it put at the buffer's start.
-fn read_full<F: Read>(file: &mut F, buf: &mut [u8]) -> usize
-    ensures within { result ≤ length buf.new }
-    ensures counted { result ≡ length (take result buf.new) }
-{
-    let mut done = 0;
-    while done < buf.len() {
-        match file.read(&mut buf[done..]) {
-            Ok(n) if n > 0 => done += n,
-            _ => break,
-        }
-    }
-    done
-}
+use whole_reads::read_full;
 
 // Reads the start of a file, as far as the buffer goes, and returns how many bytes it put there: 0 where the file can't
 // be opened or read.
@@ -33,7 +18,7 @@ fn read_file<R: Files>(rt: &R, path: &[u8], buf: &mut [u8]) -> usize
         return 0;
     };
     match File::open(rt, path) {
-        Ok(mut file) => read_full(&mut file, buf),
+        Ok(mut file) => read_full(&mut file, buf).0,
         Err(_) => 0,
     }
 }
@@ -52,7 +37,7 @@ pub fn run<R: Files + Print + Eprint>(rt: &R, chart: &[u8], rules: &[u8]) {
         &rules_bytes[..rules_length],
         &mut out,
     );
-    if let Err(e) = rt.write_all(&out[0..length]) {
+    if let Err(e) = rt.write_all(&out[..length]) {
         let _ = eprintln!(rt; "plan: the output is not complete: {e}");
     }
 }

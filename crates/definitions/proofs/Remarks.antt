@@ -14,6 +14,7 @@ use Rattle.definitions.specs.Answers.{refused, read_files, load}
 use Rattle.definitions.specs.Marked.{st, nd, values, chart, rules}
 use Rattle.definitions.proofs.Examples.{alike, rooted, chart_refusal, rules_refusal, load_refusal, whole_chart}
 use Rattle.definitions.specs.declared.Field.TheVariants.{Faulty}
+use Rattle.definitions.specs.declared.Refusal.TheVariants.{LongFile}
 
 -- remarks of the first tag before each field after the head, and one of the last tag at the end
 abbrev noted : List (List ℕ) → List ℕ
@@ -113,7 +114,7 @@ unfolding full_files pick only or_remark field_at first_field on_field scan head
 full_files_hold = refl
 
 module _ (s : List ℕ) (long : longest < length s) where
-  pub long_first : (kind : ℕ → Kind) → first_field s kind ≡ Faulty 9 longest
+  pub long_first : (kind : ℕ → Kind) → first_field s kind ≡ Faulty LongFile longest
   unfolding first_field pick
   long_first kind = rw (lt-leb (length s) longest long)
 

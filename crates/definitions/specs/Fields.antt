@@ -4,6 +4,8 @@ use Rattle.std.specs.Prelude.{ℕ, zero, suc, ◌+◌, ◌-◌, ◌*◌, Bool, t
 use Rattle.definitions.specs.Basics.{pick}
 use Rattle.definitions.specs.declared.Field.{Field}
 use Rattle.definitions.specs.declared.Field.TheVariants.{Absent, Faulty, Passed, Whole}
+use Rattle.definitions.specs.declared.Refusal.TheVariants.{Cut, Tag, Length, LongFile}
+use Rattle.definitions.specs.Refusals.{number}
 
 -- the two-byte and the four-byte number at a place
 abbrev pub two : List ℕ → ℕ → ℕ
@@ -61,10 +63,10 @@ field_at s at kind =
     let tag = get_or s at 0 in
     let len = two s (at + 1) in
     pick (leb (length s) at) Absent
-    (pick (ltb (length s - at) 3) (Faulty 1 at)
-    (pick (is_foreign (kind tag)) (Faulty 2 at)
-    (pick (not (length_fits (kind tag) len)) (Faulty 3 at)
-    (pick (ltb (length s - at - 3) len) (Faulty 1 at)
+    (pick (ltb (length s - at) 3) (Faulty Cut at)
+    (pick (is_foreign (kind tag)) (Faulty Tag at)
+    (pick (not (length_fits (kind tag) len)) (Faulty Length at)
+    (pick (ltb (length s - at - 3) len) (Faulty Cut at)
     (pick (is_passed_over (kind tag)) (Passed (at + 3 + len))
     (Whole at (at + 3) (at + 3 + len)))))))
 
@@ -74,12 +76,12 @@ longest = 32768
 
 -- A file's first field. Its length comes first: a file that is too long is 9, at the place of its first byte too many
 unfoldable pub first_field : List ℕ → (ℕ → Kind) → Field
-first_field s kind = pick (not (leb (length s) longest)) (Faulty 9 longest) (field_at s 0 kind)
+first_field s kind = pick (not (leb (length s) longest)) (Faulty LongFile longest) (field_at s 0 kind)
 
--- by cases on what stands in a file
+-- by cases on what stands in a file; a faulty field by its number and place
 unfoldable pub on_field {ℓ} : {A : Type ℓ} → Field → A → (ℕ → ℕ → A) → (ℕ → A) → (ℕ → ℕ → ℕ → A) → A
 on_field Absent absent faulty passed whole = absent
-on_field (Faulty number place) absent faulty passed whole = faulty number place
+on_field (Faulty refusal place) absent faulty passed whole = faulty (number refusal) place
 on_field (Passed end) absent faulty passed whole = passed end
 on_field (Whole place start end) absent faulty passed whole = whole place start end
 

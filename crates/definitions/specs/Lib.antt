@@ -1,4 +1,5 @@
 pub mod Basics
+pub mod Refusals
 pub mod Fields
 pub mod Charts
 pub mod Diagrams

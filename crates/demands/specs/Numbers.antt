@@ -11,6 +11,7 @@ use Rattle.definitions.specs.Fields.{two, part, Kind, only, or_remark, field_at,
 use Rattle.definitions.specs.Charts.{ChartRead, head_fault, step_fault, last_from, chart_refused, with_steps, step_grammar, scan_steps, read_chart, group_count, group_fault, last_group}
 use Rattle.definitions.specs.Diagrams.{InnerNode, no_node, node_fault, inner_node_of, padding, node_fault_after, DiagramRead, diagram_refused, with_nodes, node_grammar, scan_nodes, read_diagram}
 use Rattle.definitions.specs.Answers.{Load, ready, refused, read_files}
+use Rattle.definitions.specs.Refusals.{number}
 use Rattle.definitions.specs.declared.Field.{Field}
 use Rattle.definitions.specs.declared.Field.TheVariants.{Absent, Faulty, Passed, Whole}
 use Rattle.theory.specs.Basics.{true_not_false}
@@ -30,7 +31,7 @@ module _ (mode : Bool) where
 
   abbrev OwnField : Field → Type 0
   OwnField Absent = Unit {0}
-  OwnField (Faulty number place) = Own number
+  OwnField (Faulty refusal place) = Own (number refusal)
   OwnField (Passed end) = Unit {0}
   OwnField (Whole place start end) = Unit {0}
 
@@ -103,7 +104,7 @@ module _ (mode : Bool) where
         go : (r : Field) → OwnField r → ((at : ℕ) (before : List A) → Own (scan s g n at before).number) → Own (on_field r (stopped before 0 0) (stopped before) (λ end. scan s g n end before) found).number
         go Absent f k = refl
         go (Passed e) f k = k e before
-        go (Faulty number place) f k = f
+        go (Faulty refusal place) f k = f
         go (Whole place a e) f k =
             let tag = get_or s place 0 in
             let body = part s a e in
@@ -121,7 +122,7 @@ module _ (mode : Bool) where
       go : (r : Field) → OwnField r → Own (on_field r (chart_refused 2 0) chart_refused (λ end. chart_refused 2 0) found).number
       go Absent f = refl
       go (Passed e) f = refl
-      go (Faulty number place) f = f
+      go (Faulty refusal place) f = f
       go (Whole place a e) f =
           let b = part s a e in
           both (λ (x : ChartRead). Own x.number) (eqb (head_fault b) 0)
@@ -139,7 +140,7 @@ module _ (mode : Bool) where
       go : (r : Field) → OwnField r → Own (on_field r (diagram_refused 2 0) diagram_refused (λ end. diagram_refused 2 0) (λ place start end. with_nodes (two (part s start end) 0) (scan_nodes mode s steps end))).number
       go Absent f = refl
       go (Passed e) f = refl
-      go (Faulty number place) f = f
+      go (Faulty refusal place) f = f
       go (Whole place a e) f =
           rooted (two (part s a e) 0) (scan_nodes mode s steps e)
           (scan_own s (node_grammar mode steps) (λ before tag b. after_own steps before b) (length s) e [])

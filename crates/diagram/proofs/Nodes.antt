@@ -1,73 +1,65 @@
 -- The walk over the nodes: how it begins, and one law for each way out of a turn.
 -- Assumes nothing.
 use Prim.Native.Nat.{ℕ, suc, ◌+◌, ◌-◌, ◌≤◌, ◌<◌}
+use Rattle.std.specs.Prelude.{Result, Ok, Err, ◌⊎◌}
+use Rattle.std.proofs.Common.{inl, inr}
 use mathlib.Core.Path.{◌≡◌, refl, sym, ◌∙◌, ap}
-use mathlib.Core.Bool.{Bool, true, false, not, ◌&&◌}
+use mathlib.Core.Bool.{Bool, true, false, ◌&&◌}
 use mathlib.Core.List.{List, [], ◌∷◌, ◌++◌, map, append-nil, append_assoc, map-append}
-use lib.ListN.{length, get_or, take, set, length-append, length-set, replicate}
+use lib.ListN.{length, get_or, take, set, length-append, length-set}
 use lib.Seq.{take-suc-set}
 use native.Mathlib.Omega.{arith}
 use Rattle.definitions.specs.Basics.{pick, upto}
 use Rattle.definitions.specs.Fields.{two, part, only, or_remark, field_at, stopped}
 use Rattle.definitions.specs.Diagrams.{InnerNode, no_node, node_fault, inner_node_of, padding, node_fault_after, node_grammar, scan_nodes}
+use Rattle.definitions.specs.Refusals.{number}
 use Rattle.definitions.specs.declared.Field.{Field}
 use Rattle.definitions.specs.declared.Field.TheVariants.{Absent, Faulty, Passed, Whole}
-use Rattle.theory.specs.Basics.{pick_true, pick_false, rest_kept}
+use Rattle.definitions.specs.declared.Refusal.{Refusal}
+use Rattle.theory.specs.Basics.{either, pick_true, pick_false, rest_kept}
 use Rattle.theory.specs.Padding.{padding_level, padding_alike, padding_none, fault_beyond, fault_within}
-use Rattle.fields.specs.Positions.{passed_within, HasField}
-use Rattle.fields.specs.Remarks.{has_whole, has_less}
+use Rattle.fields.specs.Positions.{passed_within, HasField, number_some}
+use Rattle.fields.specs.Remarks.{has_whole, whole_has, has_less}
 use Rattle.fields.specs.Scans.{reading_start, reading_done, reading_faulty, reading_passed, reading_bad, reading_step}
-use Rattle.fields.specs.Turns.{turn_on, turn_over}
+use Rattle.fields.specs.declared.fault.Stopped.{Stopped}
 use Rattle.diagram_fields.specs.Words.{word_of, unpacked, lo_of, hi_of, step_of, node_word, word_node}
+use Rattle.unique_table.specs.Held.{Blank}
 use Rattle.unique_table.specs.Nodes.{nodes_long, node_listed}
-use Rattle.unique_table.specs.Stores.{blank, empty_table, empty_nodes}
-use Rattle.unique_table.specs.Tables.{UniqueTable, unique_table, node_at, count_in, nodes_in, Table, Finds, Adds}
-use Rattle.diagram.specs.Files.{Room}
-use Rattle.diagram.specs.Turns.{Stored, SoFar, Fresh, Takes}
+use Rattle.unique_table.specs.Tables.{UniqueTable, node_at, count_in, nodes_in, Table, Lacks, Found, Adds}
+use Rattle.diagram.specs.Files.{Room, nodes_end}
+use Rattle.diagram.specs.Turns.{Stored, SoFar, SoFarAt, Fresh, Over, Takes, Underway, Judged, limit_fault, padding_fault}
 use Rattle.diagram.specs.declared.reader.NodesRead.{NodesRead}
 use Rattle.diagram.specs.Limits.{NodeFits, node_fits, node_fault_same}
 
 -- ---- padding: one law for each way out of the test
 
 module _ (t : UniqueTable) (w : ℕ) (small : w < 4294967296) where
-  abbrev found : Bool → ℕ
-  found mode = pick (mode && padding (nodes_in t) (unpacked w)) 13 0
+  pub padding_taken : (mode : Bool) → mode ≡ false → 0 ≡ padding_fault mode t w
+  padding_taken mode e = sym (pick_false _ _ _ (rw e))
 
-  pub padding_taken : (mode : Bool) → not mode ≡ true → 0 ≡ found mode
-  unfolding pick
-  padding_taken true e = absurd (let z : ◌≡◌ {A = ℕ} 0 1 = cc in omega arith)
-  padding_taken false e = refl
+  module _ (mode : Bool) (strictly : mode ≡ true) where
+    refused_by : padding (nodes_in t) (unpacked w) ≡ true → 13 ≡ padding_fault mode t w
+    refused_by e = sym (pick_true _ _ _ (rw (strictly, e)))
 
-  module _ (mode : Bool) (strictly : not mode ≡ false) where
-    is_strict : mode ≡ true
-    is_strict = go mode strictly
-      where
-        go : (b : Bool) → not b ≡ false → b ≡ true
-        go true e = refl
-        go false e = absurd (let z : ◌≡◌ {A = ℕ} 0 1 = cc in omega arith)
-
-    refused_by : padding (nodes_in t) (unpacked w) ≡ true → 13 ≡ found mode
-    refused_by e = sym (pick_true _ _ _ (rw (is_strict, e)))
-
-    taken_by : padding (nodes_in t) (unpacked w) ≡ false → 0 ≡ found mode
-    taken_by e = sym (pick_false _ _ _ (rw (is_strict, e)))
+    taken_by : padding (nodes_in t) (unpacked w) ≡ false → 0 ≡ padding_fault mode t w
+    taken_by e = sym (pick_false _ _ _ (rw (strictly, e)))
 
     module _ (l h : ℕ) (el : l ≡ lo_of w) (eh : h ≡ hi_of w) where
-      pub padding_flat : l ≡ h → 13 ≡ found mode
+      pub padding_flat : l ≡ h → 13 ≡ padding_fault mode t w
       padding_flat e = refused_by (padding_level (nodes_in t) (unpacked w) (sym el ∙ e ∙ eh))
 
-      module _ (apart : l ≡ h → ⊥) (m : ℕ) (finds : Finds t w m) where
-        pub padding_double : 2 ≤ m → 13 ≡ found mode
-        padding_double i =
-            let q : m - 2 + 2 ≡ m = omega arith in
-            refused_by (padding_alike (nodes_in t) (unpacked w) (m - 2) (omega (arith, nodes_long t, finds.inside i))
-            (node_listed t (m - 2) (omega (arith, finds.inside i)) ∙ ap (λ (n : ℕ). unpacked (node_at t n)) q ∙ ap unpacked (finds.hit i)))
+      module _ (apart : l ≡ h → ⊥) where
+        pub padding_double : (m : ℕ) → Found t w m → 13 ≡ padding_fault mode t w
+        padding_double m found =
+            let q : m - 2 + 2 ≡ m = omega (arith, found.inner) in
+            refused_by (padding_alike (nodes_in t) (unpacked w) (m - 2) (omega (arith, nodes_long t, found.inner, found.inside))
+            (node_listed t (m - 2) (omega (arith, found.inner, found.inside)) ∙ ap (λ (n : ℕ). unpacked (node_at t n)) q ∙ ap unpacked found.hit))
 
-        pub padding_lacking : Table t → m < 2 → 0 ≡ found mode
-        padding_lacking table i =
+        pub padding_lacking : Table t → Lacks t w → 0 ≡ padding_fault mode t w
+        padding_lacking table lacks =
             taken_by (padding_none (nodes_in t) (unpacked w) (λ e. apart (el ∙ e ∙ sym eh)) (λ k j e.
             let here : k < count_in t = omega (arith, nodes_long t) in
-            finds.miss i (k + 2) (omega arith) (omega arith)
+            lacks (k + 2) (omega arith) (omega arith)
             (sym (word_node (node_at t (k + 2)) (table.fits (k + 2) (omega arith) (omega arith))) ∙ ap word_of (sym (node_listed t k here) ∙ e) ∙ word_node w small)))
 
 pub ruleset padding-laws = (padding_taken, padding_flat, padding_double, padding_lacking)
@@ -92,152 +84,183 @@ stored_grown before x count words₀ words counted below sofar =
       room = record { long = length-set words (count + 2) (word_of x) ∙ sofar.room.long };
     }
 
--- new chains beside a table
-pub fresh_chains : (steps : ℕ) (words : List ℕ) → steps ≤ 1024 → Room words → Fresh steps (replicate 1024 0) words
-fresh_chains steps words chart room = record {
-  chart = chart;
-  table = empty_table words room.long;
-  none = sym (nodes_long (unique_table words blank)) ∙ ap length (empty_nodes words);
-}
+-- a table without nodes, before the walk
+pub fresh_blank : (groups : ℕ) (words : List ℕ) (t : UniqueTable) → groups ≤ 1024 → Blank words t → Fresh groups t
+fresh_blank groups words t chart blank = record { chart = chart; table = blank.table; none = sym (nodes_long t) ∙ ap length blank.empty }
 
-pub nodes_start : (mode : Bool) (s : List ℕ) (first steps : ℕ) (chains words : List ℕ) → Fresh steps chains words → SoFar mode s first steps words chains words first 0
+pub nodes_start : (mode : Bool) (s : List ℕ) (first groups : ℕ) (t : UniqueTable) → Fresh groups t → SoFar mode s first groups t.nodes t (record { place = first; nodes = 0 })
 unfolding nodes_in
-nodes_start mode s first steps chains words fresh = record {
+nodes_start mode s first groups t fresh = record {
   chart = fresh.chart;
   before = [];
-  reading = reading_start s (node_grammar mode steps) first;
+  reading = reading_start s (node_grammar mode groups) first;
   counted = refl;
   table = fresh.table;
-  nodes = ap (λ (c : ℕ). map (λ i. unpacked (node_at (unique_table words chains) (i + 2))) (upto c)) fresh.none;
-  stored = nothing_stored words (record { long = fresh.table.nodes_long });
+  nodes = ap (λ (c : ℕ). map (λ i. unpacked (node_at t (i + 2))) (upto c)) fresh.none;
+  stored = nothing_stored t.nodes (record { long = fresh.table.nodes_long });
 }
 
--- ---- a node that passes has room in the table
+-- ---- a node that passes fits into one number
 
-module _ (v steps count : ℕ) (step_at : ℕ → ℕ) (b : List ℕ) (judged : v ≡ node_fault steps step_at count b) (passes : v ≡ 0) where
-  pub node_room : NodeFits steps step_at count b
-  node_room = node_fits steps step_at count b (sym passes ∙ judged)
+-- what the packing of a body asks for
+pub record Packs (b : List ℕ) : Type 0 where
+  pub lo : two b 2 < 512
+  pub hi : two b 4 < 512
 
-  pub node_lo_below : two b 2 < 512
-  node_lo_below = omega (arith, node_room.few, node_room.lo.below)
+pub node_packs : (groups : ℕ) (step_at : ℕ → ℕ) (count : ℕ) (b : List ℕ) → 0 ≡ node_fault groups step_at count b → Packs b
+node_packs groups step_at count b passes =
+    let f = node_fits groups step_at count b passes in
+    record { lo = omega (arith, f.few, f.lo.below); hi = omega (arith, f.few, f.hi.below) }
 
-  pub node_hi_below : two b 4 < 512
-  node_hi_below = omega (arith, node_room.few, node_room.hi.below)
+-- ---- the ways out of a turn from r
 
--- ---- the ways out of a turn from t
+-- what a reader found stands where the read is
+pub found_here : (f : Field) (s s' : List ℕ) (n n' : ℕ) → f ≡ field_at s n (or_remark (only 18 6)) → s ≡ s' → n ≡ n' → f ≡ field_at s' n' (or_remark (only 18 6))
+found_here f s s' n n' given p q = rw (← p, ← q) given
 
-module _ (mode : Bool) (s : List ℕ) (steps : ℕ) (t : NodesRead) (chains words : List ℕ) where
-  abbrev Here : ℕ → List ℕ → Type 0
-  Here first words₀ = SoFar mode s first steps words₀ chains words t.place t.nodes
+module _ (mode : Bool) (s : List ℕ) (groups : ℕ) (r : NodesRead) (t : UniqueTable) where
+  abbrev Here : ℕ × List ℕ → Type 0
+  Here o = SoFarAt mode s groups t r o
 
   -- as many nodes as the table has
-  pub count_is : (first : ℕ) (words₀ : List ℕ) → Here first words₀ → count_in (unique_table words chains) ≡ t.nodes
-  count_is first words₀ h = sym (nodes_long (unique_table words chains)) ∙ ap length h.nodes ∙ h.counted
+  count_is : (o : ℕ × List ℕ) → Here o → count_in t ≡ r.nodes
+  count_is o h = sym (nodes_long t) ∙ ap length h.nodes ∙ h.counted
 
-  few_here : (first : ℕ) (words₀ : List ℕ) → Here first words₀ → t.nodes ≤ 510
-  few_here first words₀ h = omega (arith, count_is first words₀ h, h.table.few)
+  -- the walk is over
+  ends : (o : ℕ × List ℕ) (h : Here o) (e : Result ℕ (Stopped ℕ)) (k p : ℕ) → nodes_end e ≡ record { number = k; place = p; nodes = r.nodes }
+      → scan_nodes mode s groups o.0 ≡ stopped h.before k p → Over mode s o.0 groups o.1 t e
+  ends o h e k p q is = record {
+    few = rw q (omega (arith, count_is o h, h.table.few));
+    answer = rw (q, is, h.counted) refl;
+    chained = rw is h.nodes;
+    stored = rw is h.stored;
+  }
 
-  -- the walk stops
-  stops : (number place : ℕ) (x : NodesRead) → x ≡ record { number = number; place = place; nodes = t.nodes; going = false }
-      → ((first : ℕ) (words₀ : List ℕ) (h : Here first words₀) → scan_nodes mode s steps first ≡ stopped h.before number place)
-      → Takes mode s steps t chains words chains words x
-  stops number place x e is = rw e (turn_over s t.place place (λ o h. let q = is o.0 o.1 h in record {
-    few = few_here o.0 o.1 h;
-    answer = rw (q, h.counted);
-    chained = rw q h.nodes;
-    stored = rw q h.stored;
-  }))
+  module _ (f : Field) (given : f ≡ field_at s r.place (or_remark (only 18 6))) (o : ℕ × List ℕ) (h : Here o) where
+    pub take_done : f ≡ Absent → Over mode s o.0 groups o.1 t (Ok r.nodes)
+    take_done found = ends o h (Ok r.nodes) 0 0 refl (reading_done s (node_grammar mode groups) o.0 r.place h.before h.reading f given found)
 
-  module _ (f : Field) (given : f ≡ field_at s t.place (or_remark (only 18 6))) where
-    pub take_done : f ≡ Absent → (x : NodesRead) → x ≡ record { number = 0; place = 0; nodes = t.nodes; going = false } → Takes mode s steps t chains words chains words x
-    take_done found x e = stops 0 0 x e (λ first words₀ h. reading_done s (node_grammar mode steps) first t.place h.before h.reading f given found)
+    pub take_faulty : (k : Refusal) (p : ℕ) → f ≡ Faulty k p → (e : Stopped ℕ) → e ≡ record { fault = record { refusal = k; place = p }; passed = r.nodes }
+        → Over mode s o.0 groups o.1 t (Err e)
+    take_faulty k p found e q =
+        ends o h (Err e) (number k) p (rw q refl) (reading_faulty s (node_grammar mode groups) o.0 r.place h.before h.reading f given k p found)
 
-    pub take_faulty : (k p : ℕ) → f ≡ Faulty k p → (x : NodesRead) → x ≡ record { number = k; place = p; nodes = t.nodes; going = false }
-        → Takes mode s steps t chains words chains words x
-    take_faulty k p found x e =
-        stops k p x e (λ first words₀ h. reading_faulty s (node_grammar mode steps) first t.place h.before h.reading f given k p found)
+    pub take_run : (p a e : ℕ) → f ≡ Whole p a e → HasField s r.place 18 6 × Underway mode s groups t r
+    take_run p a e found = (whole_has s r.place 18 6 p a e f given found, (o, h))
 
-    pub take_passed : (e : ℕ) → f ≡ Passed e → Takes mode s steps t chains words chains words (record { number = 0; place = e; nodes = t.nodes; going = true })
-    take_passed e found =
-        let w = passed_within s t.place (or_remark (only 18 6)) e (sym found ∙ given) in
-        turn_on s t.place e (omega (arith, w.later, w.inside)) (λ o h. record {
-          chart = h.chart;
-          before = h.before;
-          reading = reading_passed s (node_grammar mode steps) o.0 t.place h.before h.reading f given e found;
-          counted = h.counted;
-          table = h.table;
-          nodes = h.nodes;
-          stored = h.stored;
-        })
+    module _ (e : ℕ) (found : f ≡ Passed e) where
+      pub passed_less : length s - e < length s - r.place
+      passed_less = let w = passed_within s r.place (or_remark (only 18 6)) e (sym found ∙ given) in omega (arith, w.later, w.inside)
+
+      pub take_passed : SoFar mode s o.0 groups o.1 t (record { place = e; nodes = r.nodes })
+      take_passed = record {
+        chart = h.chart;
+        before = h.before;
+        reading = reading_passed s (node_grammar mode groups) o.0 r.place h.before h.reading f given e found;
+        counted = h.counted;
+        table = h.table;
+        nodes = h.nodes;
+        stored = h.stored;
+      }
 
   -- a node stands there
-  module _ (has : HasField s t.place 18 6) (v : ℕ)
-      (judged : v ≡ node_fault steps (λ k. step_of (get_or words k 0)) t.nodes (part s (t.place + 3) (t.place + 3 + 6))) where
+  module _ (has : HasField s r.place 18 6) where
     abbrev b : List ℕ
-    b = part s (t.place + 3) (t.place + 3 + 6)
+    b = part s (r.place + 3) (r.place + 3 + 6)
 
-    whole : Whole t.place (t.place + 3) (t.place + 3 + 6) ≡ field_at s t.place (or_remark (only 18 6))
-    whole = has_whole s t.place 18 6 (omega arith) has
+    whole : Whole r.place (r.place + 3) (r.place + 3 + 6) ≡ field_at s r.place (or_remark (only 18 6))
+    whole = has_whole s r.place 18 6 (omega arith) has
 
-    module _ (first : ℕ) (words₀ : List ℕ) (h : Here first words₀) where
+    module _ (o : ℕ × List ℕ) (h : Here o) where
       -- the table has the steps of the nodes before
-      step_known : (k : ℕ) → 2 ≤ k → k < t.nodes + 2 → step_of (get_or words k 0) ≡ (get_or h.before (k - 2) no_node).step
+      step_known : (k : ℕ) → 2 ≤ k → k < r.nodes + 2 → step_of (get_or t.nodes k 0) ≡ (get_or h.before (k - 2) no_node).step
       step_known k i l =
           let q : k - 2 + 2 ≡ k = omega arith in
-          ap (λ (x : InnerNode). x.step) (ap (λ (n : ℕ). unpacked (get_or words n 0)) (sym q)
-          ∙ sym (node_listed (unique_table words chains) (k - 2) (omega (arith, count_is first words₀ h))) ∙ ap (λ (l : List InnerNode). get_or l (k - 2) no_node) h.nodes)
+          ap (λ (x : InnerNode). x.step) (ap (λ (n : ℕ). unpacked (get_or t.nodes n 0)) (sym q)
+          ∙ sym (node_listed t (k - 2) (omega (arith, count_is o h))) ∙ ap (λ (l : List InnerNode). get_or l (k - 2) no_node) h.nodes)
 
-      same_fault : v ≡ node_fault steps (λ k. (get_or h.before (k - 2) no_node).step) (length h.before) b
+      same_fault : limit_fault groups t r.nodes b ≡ node_fault groups (λ k. (get_or h.before (k - 2) no_node).step) (length h.before) b
       same_fault =
-          rw h.counted (judged ∙ node_fault_same steps (λ k. step_of (get_or words k 0)) (λ k. (get_or h.before (k - 2) no_node).step) t.nodes b step_known)
+          rw h.counted (node_fault_same groups (λ k. step_of (get_or t.nodes k 0)) (λ k. (get_or h.before (k - 2) no_node).step) r.nodes b step_known)
 
-    pub take_bad : (v ≡ 0 → ⊥) → (x : NodesRead) → x ≡ record { number = v; place = t.place; nodes = t.nodes; going = false } → Takes mode s steps t chains words chains words x
-    take_bad fails x q =
-        stops v t.place x q (λ first words₀ h.
-        let j = same_fault first words₀ h in
-        reading_bad s (node_grammar mode steps) first t.place h.before h.reading _ whole t.place (t.place + 3) (t.place + 3 + 6) refl v
-        (j ∙ sym (fault_beyond mode steps h.before b (λ z. fails (j ∙ z)))) fails)
-
-    -- it is within the limits
-    module _ (passes : v ≡ 0) (w : ℕ) (packed : w ≡ word_of (inner_node_of b)) (p : ℕ)
-        (padded : p ≡ pick (mode && padding (nodes_in (unique_table words chains)) (unpacked w)) 13 0) where
-      fits : NodeFits steps (λ k. step_of (get_or words k 0)) t.nodes b
-      fits = node_room v steps t.nodes _ b judged passes
-
-      module _ (first : ℕ) (words₀ : List ℕ) (h : Here first words₀) where
-        node_is : unpacked w ≡ inner_node_of b
+      -- it is within the limits
+      module _ (passes : 0 ≡ limit_fault groups t r.nodes b) where
+        node_is : unpacked (word_of (inner_node_of b)) ≡ inner_node_of b
         node_is =
-            ap unpacked packed
-            ∙ node_word (inner_node_of b) (omega (arith, fits.exists, h.chart)) (omega (arith, fits.few, fits.lo.below)) (omega (arith, fits.few, fits.hi.below))
+            let fits = node_fits groups (λ k. step_of (get_or t.nodes k 0)) r.nodes b passes in
+            node_word (inner_node_of b) (omega (arith, fits.exists, h.chart)) (omega (arith, fits.few, fits.lo.below)) (omega (arith, fits.few, fits.hi.below))
 
-        fault_is : p ≡ node_fault_after mode steps h.before b
+        fault_is : padding_fault mode t (word_of (inner_node_of b)) ≡ node_fault_after mode groups h.before b
         fault_is =
-            padded ∙ ap (λ (l : List InnerNode). pick (mode && padding l (unpacked w)) 13 0) h.nodes
+            ap (λ (l : List InnerNode). pick (mode && padding l (unpacked (word_of (inner_node_of b)))) 13 0) h.nodes
             ∙ ap (λ (x : InnerNode). pick (mode && padding h.before x) 13 0) node_is
-            ∙ sym (fault_within mode steps h.before b (sym (same_fault first words₀ h) ∙ passes))
+            ∙ sym (fault_within mode groups h.before b (sym same_fault ∙ sym passes))
 
-      pub take_padded : (p ≡ 0 → ⊥) → (x : NodesRead) → x ≡ record { number = p; place = t.place; nodes = t.nodes; going = false } → Takes mode s steps t chains words chains words x
-      take_padded fails x q =
-          stops p t.place x q (λ first words₀ h.
-          reading_bad s (node_grammar mode steps) first t.place h.before h.reading _ whole t.place (t.place + 3) (t.place + 3 + 6) refl p
-          (fault_is first words₀ h) fails)
+      -- the number of what is refused is that of the definition
+      judged_is : (e : Refusal) → Judged mode groups t r.nodes b (Err e) → number e ≡ node_fault_after mode groups h.before b
+      judged_is e j =
+          either j
+          (λ q. q ∙ same_fault ∙ sym (fault_beyond mode groups h.before b (λ z. omega (arith, number_some e, q ∙ same_fault ∙ z))))
+          (λ q. q.1 ∙ fault_is q.0)
 
-      pub take_node : p ≡ 0 → (n : ℕ) (chains' words' : List ℕ) → Adds (unique_table words chains) w n (unique_table words' chains')
-          → Takes mode s steps t chains words chains' words' (record { number = 0; place = t.place + 3 + 6; nodes = t.nodes + 1; going = true })
-      take_node z n chains' words' adds = turn_on s t.place (t.place + 3 + 6) (has_less s t.place 18 6 has) (λ o h.
-          let x = inner_node_of b in
-          let stored_is : words' ≡ set words (t.nodes + 2) (word_of x) =
-          adds.stored ∙ ap (λ (i : ℕ). set words i w) (adds.number ∙ ap (λ (k : ℕ). k + 2) (count_is o.0 o.1 h)) ∙ ap (set words (t.nodes + 2)) packed in
-          record {
-            chart = h.chart;
-            before = h.before ++ x ∷ [];
-            reading =
-                reading_step s (node_grammar mode steps) o.0 t.place h.before h.reading _ whole t.place (t.place + 3) (t.place + 3 + 6) refl p
-                (fault_is o.0 o.1 h) z;
-            counted = omega (arith, length-append h.before (x ∷ []), h.counted);
-            table = adds.table;
-            nodes = adds.nodes ∙ ap (λ (l : List InnerNode). l ++ unpacked w ∷ []) h.nodes ∙ ap (λ (y : InnerNode). h.before ++ y ∷ []) (node_is o.0 o.1 h);
-            stored = rw stored_is (stored_grown h.before x t.nodes o.1 words h.counted fits.few h.stored);
-          })
+    pub take_refused : (k : Refusal) → Judged mode groups t r.nodes b (Err k) → (e : Stopped ℕ) → e ≡ record { fault = record { refusal = k; place = r.place }; passed = r.nodes }
+        → (o : ℕ × List ℕ) → Here o → Over mode s o.0 groups o.1 t (Err e)
+    take_refused k judged e q o h =
+        ends o h (Err e) (number k) r.place (rw q refl)
+        (reading_bad s (node_grammar mode groups) o.0 r.place h.before h.reading _ whole r.place (r.place + 3) (r.place + 3 + 6) refl (number k)
+        (judged_is o h k judged) (λ z. omega (arith, number_some k)))
 
-pub ruleset take-laws = (take_done, take_faulty, take_passed)
+    module _ (w : ℕ) (judged : Judged mode groups t r.nodes b (Ok w)) where
+      fits : NodeFits groups (λ k. step_of (get_or t.nodes k 0)) r.nodes b
+      fits = node_fits groups (λ k. step_of (get_or t.nodes k 0)) r.nodes b judged.0
+
+      pub take_room : Underway mode s groups t r → Table t × (count_in t < 510)
+      take_room u = (u.1.table, omega (arith, fits.few, count_is u.0 u.1))
+
+      pub take_node : (n : ℕ) (t' : UniqueTable) → Adds t w n t' → Takes mode s groups r t t' (Ok (record { place = r.place + 3 + 6; nodes = r.nodes + 1 }))
+      take_node n t' adds = (
+        has_less s r.place 18 6 has,
+        λ o h.
+            let x = inner_node_of b in
+            let stored_is : t'.nodes ≡ set t.nodes (r.nodes + 2) (word_of x) =
+            adds.stored ∙ ap (λ (i : ℕ). set t.nodes i w) (adds.number ∙ ap (λ (k : ℕ). k + 2) (count_is o h)) ∙ ap (set t.nodes (r.nodes + 2)) judged.1 in
+            record {
+              chart = h.chart;
+              before = h.before ++ x ∷ [];
+              reading =
+                  reading_step s (node_grammar mode groups) o.0 r.place h.before h.reading _ whole r.place (r.place + 3) (r.place + 3 + 6) refl 0
+                  (judged.2 ∙ ap (padding_fault mode t) judged.1 ∙ fault_is o h judged.0) refl;
+              counted = omega (arith, length-append h.before (x ∷ []), h.counted);
+              table = adds.table;
+              nodes =
+                  adds.nodes ∙ ap (λ (l : List InnerNode). l ++ unpacked w ∷ []) h.nodes
+                  ∙ ap (λ (y : InnerNode). h.before ++ y ∷ []) (ap unpacked judged.1 ∙ node_is o h judged.0);
+              stored = rw stored_is (stored_grown h.before x r.nodes o.1 t.nodes h.counted fits.few h.stored);
+            },
+      )
+
+-- ---- a run of nodes, from `first` to r
+
+pub record Run (mode : Bool) (s : List ℕ) (groups : ℕ) (first : NodesRead) (t₀ : UniqueTable) (r : NodesRead) (t : UniqueTable) : Type 0 where
+  pub sofar : (o : ℕ × List ℕ) → SoFarAt mode s groups t₀ first o → SoFarAt mode s groups t r o
+  pub nearer : (r.place ≡ first.place) ⊎ (length s - r.place < length s - first.place)
+
+module _ (mode : Bool) (s : List ℕ) (groups : ℕ) (first : NodesRead) (t₀ : UniqueTable) where
+  pub run_start : Run mode s groups first t₀ first t₀
+  run_start = record { sofar = λ o h. h; nearer = inl refl }
+
+  module _ (r : NodesRead) (t : UniqueTable) (run : Run mode s groups first t₀ r t) where
+    pub run_underway : Underway mode s groups t₀ first → Underway mode s groups t r
+    run_underway u = (u.0, run.sofar u.0 u.1)
+
+    pub run_next : (t' : UniqueTable) (r' : NodesRead) → Takes mode s groups r t t' (Ok r') → Run mode s groups first t₀ r' t'
+    run_next t' r' takes = record {
+      sofar = λ o h. takes.1 o (run.sofar o h);
+      nearer = either run.nearer (λ q. inr (omega (arith, takes.0, ap (λ (p : ℕ). length s - p) q))) (λ q. inr (omega (arith, takes.0)));
+    }
+
+    pub run_stopped : (t' : UniqueTable) (e : Stopped ℕ) → Takes mode s groups r t t' (Err e) → Takes mode s groups first t₀ t' (Err e)
+    run_stopped t' e takes o h = takes o (run.sofar o h)
+
+    pub run_done : HasField s first.place 18 6 → (HasField s r.place 18 6 → ⊥) → Takes mode s groups first t₀ t (Ok r)
+    run_done has lacks = (either run.nearer (λ q. absurd (lacks (rw q has))) (λ q. q), run.sofar)

@@ -3,4 +3,4 @@
 
 mod reader;
 
-pub use reader::{DiagramRead, read_diagram};
+pub use reader::{DiagramSizes, read_diagram};

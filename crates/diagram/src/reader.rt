@@ -1,95 +1,98 @@
 // The reader of the diagram file: its inner nodes go into a table, each at its number. Chains beside the table find a node
 // that is alike to an earlier one (a unique table).
-ghost use Rattle.std.specs.Prelude.{◌≡◌, true, false, ◌&&◌, ◌≤◌};
+ghost use Rattle.std.specs.Prelude.{◌≡◌, true, false, ◌&&◌, ◌≤◌, length};
 ghost use Rattle.definitions.specs.Basics.{pick};
-ghost use Rattle.definitions.specs.Fields.{only, or_remark, field_at};
-ghost use Rattle.definitions.specs.Diagrams.{padding, diagram_refused};
+ghost use Rattle.definitions.specs.Diagrams.{padding};
+ghost use Rattle.definitions.specs.Refusals.{fault_number};
 ghost use Rattle.diagram_fields.specs.Words.{unpacked};
 ghost use Rattle.fields.specs.Positions.{HasField};
-ghost use Rattle.unique_table.specs.Tables.{unique_table, Table, nodes_in};
-ghost use Rattle.diagram.specs.Files.{Room, Reads, diagram_answer};
-ghost use Rattle.diagram.specs.Turns.{Fresh, Underway, Over, Takes};
+ghost use Rattle.unique_table.specs.Tables.{Table, nodes_in};
+ghost use Rattle.unique_table.specs.Held.{held, SameArray};
+ghost use Rattle.diagram.specs.Files.{Room, Reads};
+ghost use Rattle.diagram.specs.Turns.{Fresh, Underway, Over, Takes, Judged, Rest};
 
-use definitions::Field;
-use diagram_fields::{hi_of, leaf_word, lo_of, node_fault, node_word};
+use definitions::{Field, Refusal};
+use diagram_fields::{check_node, hi_of, leaf_word, lo_of, node_word};
 use field_numbers::read_u16;
-use fields::reader::{moved, new, next};
-use fields::{first_field, goes_on};
-use unique_table::{add, find};
+use fields::{Fault, Reader, Stopped, first_field, is_whole};
+use unique_table::UniqueTable;
 
 // The nodes read so far.
 #[derive(Clone, Copy)]
 pub struct NodesRead {
-    // the refusal's number, 0 where there is none
-    pub number: u8,
-    // where the next field is due; once the walk is over, the refusal's place, 0 where there is none
+    // where the next field is due
     pub place: usize,
     // how many nodes passed
     pub nodes: usize,
-    // whether the walk goes on
-    pub going: bool,
 }
 
-fn stopped(nodes: usize, number: u8, place: usize) -> NodesRead
-    ensures { result ≡ record { number = number; place = place; nodes = nodes; going = false } }
+// A refusal at a place, behind what passed.
+fn stopped<T: Copy>(refusal: Refusal, place: usize, passed: T) -> Stopped<T>
+    ensures { result ≡ record { fault = record { refusal = refusal; place = place }; passed = passed } }
 {
-    NodesRead {
-        number,
-        place,
-        nodes,
-        going: false,
+    Stopped {
+        fault: Fault { refusal, place },
+        passed,
     }
 }
 
-// 13 where padding is refused and a node is padding behind those in the table, else 0.
-fn padding_fault<'a>(strict: bool, inner: &'a [u32; 512], chains: &'a [u16; 1024], w: u32) -> u8
-    requires { Table (unique_table inner.now chains.now) }
-    ensures { result ≡ pick (strict && padding (nodes_in (unique_table inner.now chains.now)) (unpacked w)) 13 0 }
+// Refuses a node that is padding behind those in the table, where padding is refused.
+fn check_padding(strict: bool, table: &UniqueTable, w: u32) -> Result<(), Refusal>
+    requires { Table (held table.now) }
+    ensures { fault_number result ≡ pick (strict && padding (nodes_in (held table.now)) (unpacked w)) 13 0 }
 {
     if !strict {
-        return 0;
+        return Ok(());
     }
     if lo_of(w) == hi_of(w) {
-        return 13;
+        return Err(Refusal::Padding);
     }
-    if 2 <= find(inner, chains, w) {
-        return 13;
+    match table.find(w) {
+        Some(_) => Err(Refusal::Padding),
+        None => Ok(()),
     }
-    0
+}
+
+// A node's body behind the nodes of the table, in one number.
+fn judge(
+    body: &[u8],
+    groups: usize,
+    strict: bool,
+    table: &UniqueTable,
+    count: usize,
+) -> Result<u32, Refusal>
+    requires { (length body.now ≡ 6) × Table (held table.now) }
+    ensures { Judged strict groups (held table.now) count body.now result }
+{
+    check_node(body, groups, &*table.nodes, count)?;
+    let w = node_word(body);
+    check_padding(strict, table, w)?;
+    Ok(w)
 }
 
 // The node whose field stands whole at the read's place, into the table.
 fn put_node(
     file: &[u8],
     read: NodesRead,
-    steps: usize,
+    groups: usize,
     strict: bool,
-    chains: &mut [u16; 1024],
-    inner: &mut [u32; 512],
-) -> NodesRead
-    requires { HasField file.now read.place 18 6 × Underway strict file.now steps chains.old inner.old read }
-    ensures { Takes strict file.now steps read chains.old inner.old chains.new inner.new result }
+    table: &mut UniqueTable,
+) -> Result<NodesRead, Stopped<usize>>
+    requires { HasField file.now read.place 18 6 × Underway strict file.now groups (held table.old) read }
+    ensures same { SameArray table.old table.new }
+    ensures takes { Takes strict file.now groups read (held table.old) (held table.new) result }
 {
-    let count = read.nodes;
-    let place = read.place;
-    let start = place + 3;
+    let start = read.place + 3;
     let end = start + 6;
-    let body = &file[start..end];
-    let fault = node_fault(body, steps, inner, count);
-    if fault != 0 {
-        return stopped(count, fault, place);
-    }
-    let w = node_word(body);
-    let padded = padding_fault(strict, inner, chains, w);
-    if padded != 0 {
-        return stopped(count, padded, place);
-    }
-    add(inner, chains, w);
-    NodesRead {
-        number: 0,
-        place: end,
-        nodes: count + 1,
-        going: true,
+    match judge(&file[start..end], groups, strict, table, read.nodes) {
+        Ok(w) => {
+            table.add(w);
+            Ok(NodesRead {
+                place: end,
+                nodes: read.nodes + 1,
+            })
+        }
+        Err(refusal) => Err(stopped(refusal, read.place, read.nodes)),
     }
 }
 
@@ -98,139 +101,114 @@ fn put_node(
 fn put_nodes(
     file: &[u8],
     first: NodesRead,
-    steps: usize,
+    groups: usize,
     strict: bool,
-    chains: &mut [u16; 1024],
-    inner: &mut [u32; 512],
-) -> NodesRead
-    requires { HasField file.now first.place 18 6 × Underway strict file.now steps chains.old inner.old first }
-    ensures { Takes strict file.now steps first chains.old inner.old chains.new inner.new result }
+    table: &mut UniqueTable,
+) -> Result<NodesRead, Stopped<usize>>
+    requires { HasField file.now first.place 18 6 × Underway strict file.now groups (held table.old) first }
+    ensures same { SameArray table.old table.new }
+    ensures takes { Takes strict file.now groups first (held table.old) (held table.new) result }
 {
     let mut read = first;
-    let mut here = true;
-    while here {
-        read = put_node(file, read, steps, strict, chains, inner);
-        here = goes_on(file, read.going, read.place, 18, 6);
+    while is_whole(file, read.place, 18, 6) {
+        read = put_node(file, read, groups, strict, table)?;
     }
-    read
+    Ok(read)
 }
 
-// One turn of the walk: the end, a fault, a remark, or a run of nodes, which go into the table.
-fn take_nodes(
-    file: &[u8],
-    found: Field,
-    read: NodesRead,
-    steps: usize,
-    strict: bool,
-    chains: &mut [u16; 1024],
-    inner: &mut [u32; 512],
-) -> NodesRead
-    requires { (found ≡ field_at file.now read.place (or_remark (only 18 6)))
-        × Underway strict file.now steps chains.old inner.old read }
-    ensures { Takes strict file.now steps read chains.old inner.old chains.new inner.new result }
-{
-    let count = read.nodes;
-    match found {
-        Field::Absent => stopped(count, 0, 0),
-        Field::Faulty { number, place } => stopped(count, number, place),
-        Field::Passed { end } => NodesRead {
-            number: 0,
-            place: end,
-            nodes: count,
-            going: true,
-        },
-        Field::Whole { .. } => put_nodes(file, read, steps, strict, chains, inner),
-    }
-}
-
-// The nodes from a place on, into the table, of which the chains are new: a reader, kept in a local, walks over them.
+// The nodes from a place on, into a table without nodes: a reader, kept in a local, walks over them. Answers how many
+// there are.
 fn read_nodes(
     file: &[u8],
     first: usize,
-    steps: usize,
+    groups: usize,
     strict: bool,
-    chains: &mut [u16; 1024],
-    inner: &mut [u32; 512],
-) -> NodesRead
-    requires { Fresh steps chains.old inner.old }
-    ensures { Over strict file.now first steps inner.old chains.new inner.new result }
+    table: &mut UniqueTable,
+) -> Result<usize, Stopped<usize>>
+    requires { Fresh groups (held table.old) }
+    ensures same { SameArray table.old table.new }
+    ensures over { Over strict file.now first groups table.old.nodes.now (held table.new) result }
 {
-    let mut reader = moved(new(file), first);
+    let mut reader = Reader::new(file).moved(first);
     let mut read = NodesRead {
-        number: 0,
         place: first,
         nodes: 0,
-        going: true,
     };
-    while read.going {
-        let found = next(reader, 18, 6);
-        read = take_nodes(file, found, read, steps, strict, chains, inner);
-        reader = moved(reader, read.place);
+    loop {
+        read = match reader.next(18, 6) {
+            Field::Absent => return Ok(read.nodes),
+            Field::Faulty { refusal, place } => return Err(stopped(refusal, place, read.nodes)),
+            Field::Passed { end } => NodesRead {
+                place: end,
+                nodes: read.nodes,
+            },
+            Field::Whole { .. } => put_nodes(file, read, groups, strict, table)?,
+        };
+        reader = reader.moved(read.place);
     }
-    read
 }
 
-// A diagram file, read: the refusal's number and place, 0 and 0 where it is accepted, and the diagram as far as its
-// fields passed.
+// The root of a diagram, and how many inner nodes it has.
 #[derive(Clone, Copy)]
-pub struct DiagramRead {
-    pub number: u8,
-    pub place: usize,
+pub struct DiagramSizes {
     pub root: u16,
     pub nodes: usize,
 }
 
-// The answer where no head passed.
-fn refused(number: u8, place: usize) -> DiagramRead
-    ensures { result ≡ diagram_answer (diagram_refused number place) }
+// The nodes behind the head, and whether the root is one of them.
+fn read_rest(
+    file: &[u8],
+    end: usize,
+    root: u16,
+    groups: usize,
+    strict: bool,
+    inner: &mut [u32; 512],
+) -> Result<DiagramSizes, Stopped<DiagramSizes>>
+    requires { (groups ≤ 1024) × Room inner.old }
+    ensures { Rest strict file.now end root groups inner.old inner.new result }
 {
-    DiagramRead {
-        number,
-        place,
-        root: 0,
-        nodes: 0,
+    let mut table = UniqueTable::over(inner);
+    match read_nodes(file, end, groups, strict, &mut table) {
+        Err(Stopped { fault, passed }) => Err(Stopped {
+            fault,
+            passed: DiagramSizes {
+                root,
+                nodes: passed,
+            },
+        }),
+        Ok(nodes) => {
+            let sizes = DiagramSizes { root, nodes };
+            if nodes + 2 <= root as usize {
+                return Err(stopped(Refusal::NodeLimit, 0, sizes));
+            }
+            Ok(sizes)
+        }
     }
 }
 
-// The diagram of a file over a chart of so many steps; its inner nodes go into the table, and 0 and 1 are marked. Padding
-// (a node with lo equal to hi, or alike to an earlier one) is refused where `strict` is set, and else taken.
-pub fn read_diagram(file: &[u8], steps: usize, strict: bool, inner: &mut [u32; 512]) -> DiagramRead
-    requires { (steps ≤ 1024) × Room inner.old }
-    ensures { Reads strict file.now steps inner.old inner.new result }
+// The diagram of a file over so many groups; its inner nodes go into the table, and 0 and 1 are marked. Padding (a node with
+// lo equal to hi, or alike to an earlier one) is refused where `strict` is set, and else taken. A refused file gives the
+// diagram as far as its fields passed.
+pub fn read_diagram(
+    file: &[u8],
+    groups: usize,
+    strict: bool,
+    inner: &mut [u32; 512],
+) -> Result<DiagramSizes, Stopped<DiagramSizes>>
+    requires { (groups ≤ 1024) × Room inner.old }
+    ensures { Reads strict file.now groups inner.old inner.new result }
 {
     let leaf = leaf_word();
     inner[0] = leaf;
     inner[1] = leaf;
+    let none = DiagramSizes { root: 0, nodes: 0 };
     match first_field(file, 17, 2) {
-        Field::Absent => refused(2, 0),
-        Field::Faulty { number, place } => refused(number, place),
-        Field::Passed { end: _ } => refused(2, 0),
+        Field::Absent => Err(stopped(Refusal::Tag, 0, none)),
+        Field::Faulty { refusal, place } => Err(stopped(refusal, place, none)),
+        Field::Passed { end: _ } => Err(stopped(Refusal::Tag, 0, none)),
         Field::Whole { start, end, .. } => {
             let root = read_u16(&file[start..end], 0);
-            let mut chains = [0u16; 1024];
-            let read = read_nodes(file, end, steps, strict, &mut chains, inner);
-            if read.number != 0 {
-                return DiagramRead {
-                    number: read.number,
-                    place: read.place,
-                    root,
-                    nodes: read.nodes,
-                };
-            }
-            if read.nodes + 2 <= root as usize {
-                return DiagramRead {
-                    number: 6,
-                    place: 0,
-                    root,
-                    nodes: read.nodes,
-                };
-            }
-            DiagramRead {
-                number: 0,
-                place: 0,
-                root,
-                nodes: read.nodes,
-            }
+            read_rest(file, end, root, groups, strict, inner)
         }
     }
 }

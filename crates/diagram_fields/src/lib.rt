@@ -4,5 +4,5 @@
 mod bodies;
 mod words;
 
-pub use bodies::{node_fault, node_word};
+pub use bodies::{check_node, node_word};
 pub use words::{hi_at, hi_of, leaf_word, lo_at, lo_of, step_at, step_of, word};

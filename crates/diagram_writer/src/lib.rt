@@ -5,37 +5,31 @@ ghost use Rattle.std.specs.Prelude.{◌+◌, ◌*◌, ◌≤◌, length};
 ghost use Rattle.definitions.specs.Answers.{Filed};
 ghost use Rattle.definitions.specs.Basics.{each};
 ghost use Rattle.definitions.specs.Bytes.{node_bytes, diagram_bytes};
-ghost use Rattle.buffer.specs.Appending.{Appended};
+ghost use Rattle.buffer.specs.Writing.{Wrote};
 ghost use Rattle.unique_table.specs.Tables.{unique_table, Table, count_in, nodes_in};
 ghost use Rattle.diagram_writer.specs.Files.{drawn};
 
+use buffer::Writer;
 use definitions::{Answer, Node, Step};
 use diagram_fields::{hi_of, lo_of, step_of};
 use field_writer::{write_diagram_head, write_node};
 use file_answers::file_answer;
 use unique_table::count;
 
-// The inner nodes in the order of the table, from a place on. Returns the place behind them.
-fn write_nodes<'a>(
-    out: &mut [u8],
-    at: usize,
-    nodes: &'a [u32; 512],
-    chains: &'a [u16; 1024],
-) -> usize
+// The inner nodes in the order of the table.
+fn write_nodes<'a>(out: &mut Writer, nodes: &'a [u32; 512], chains: &'a [u16; 1024])
     requires { Table (unique_table nodes.now chains.now)
-        × (at + 9 * count_in (unique_table nodes.now chains.now) ≤ length out.old) }
+        × (out.old.at + 9 * count_in (unique_table nodes.now chains.now) ≤ length out.old.out.now) }
     ensures { let made = nodes_in (unique_table nodes.now chains.now) in
-        Appended out.old at (each node_bytes made) out.new result }
+        Wrote out.old (each node_bytes made) out.new }
 {
     let all = count(chains);
-    let mut end = at;
     let mut k: usize = 0;
     while k < all {
         let w = nodes[k + 2];
-        end = write_node(out, end, Step(step_of(w)), Node(lo_of(w)), Node(hi_of(w)));
+        write_node(out, Step(step_of(w)), Node(lo_of(w)), Node(hi_of(w)));
         k += 1;
     }
-    end
 }
 
 // The file of the table's diagram with this root, where the buffer has room for it; else 7.
@@ -54,7 +48,8 @@ pub fn write_diagram<'a>(
     if out.len() < bytes {
         return answer;
     }
-    let at = write_diagram_head(out, 0, Node(root));
-    write_nodes(out, at, nodes, chains);
+    let mut file = Writer { out, at: 0 };
+    write_diagram_head(&mut file, Node(root));
+    write_nodes(&mut file, nodes, chains);
     answer
 }

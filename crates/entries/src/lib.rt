@@ -11,9 +11,5 @@ pub fn clear(entries: &mut [u32], count: usize)
     requires { count ≤ length entries.old }
     ensures { entries.new ≡ replicate count NONE ++ drop count entries.old }
 {
-    let mut i: usize = 0;
-    while i < count {
-        entries[i] = NONE;
-        i += 1;
-    }
+    entries[..count].fill(NONE);
 }

@@ -1,58 +1,53 @@
-// Numbers and headers of tagged fields, written into a lent buffer. Each function writes at a place and returns the place behind what it wrote. The caller tests
-// first that there is room.
+// Numbers and headers of tagged fields, written into a lent buffer behind what stands there. The caller tests first that there is room.
 #![tactic(auto)]
 
 ghost use Rattle.std.specs.Prelude.{[], ◌∷◌, ◌+◌, ◌*◌, ◌≤◌, ◌<◌, length};
 ghost use Rattle.definitions.specs.Basics.{each};
 ghost use Rattle.definitions.specs.Bytes.{le2, le4, header};
-ghost use Rattle.buffer.specs.Appending.{Appended};
+ghost use Rattle.buffer.specs.Writing.{Wrote};
+
+use buffer::Writer;
 
 // A byte.
-pub fn write_u8(out: &mut [u8], at: usize, n: u8) -> usize
-    requires { at < length out.old }
-    ensures { Appended out.old at (n ∷ []) out.new result }
+pub fn write_u8(w: &mut Writer, n: u8)
+    requires { w.old.at < length w.old.out.now }
+    ensures { Wrote w.old (n ∷ []) w.new }
 {
-    out[at] = n;
-    at + 1
+    w.out[w.at] = n;
+    w.at += 1;
 }
 
 // A number in two bytes, low byte first.
-pub fn write_u16(out: &mut [u8], at: usize, n: u16) -> usize
-    requires { at + 2 ≤ length out.old }
-    ensures { Appended out.old at (le2 n) out.new result }
+pub fn write_u16(w: &mut Writer, n: u16)
+    requires { w.old.at + 2 ≤ length w.old.out.now }
+    ensures { Wrote w.old (le2 n) w.new }
 {
-    let at = write_u8(out, at, (n % 256) as u8);
-    write_u8(out, at, (n / 256) as u8)
+    w.copy(&n.to_le_bytes());
 }
 
 // A number in four bytes, low byte first.
-pub fn write_u32(out: &mut [u8], at: usize, n: u32) -> usize
-    requires { at + 4 ≤ length out.old }
-    ensures { Appended out.old at (le4 n) out.new result }
+pub fn write_u32(w: &mut Writer, value: u32)
+    requires { w.old.at + 4 ≤ length w.old.out.now }
+    ensures { Wrote w.old (le4 value) w.new }
 {
-    let at = write_u16(out, at, (n % 65536) as u16);
-    write_u16(out, at, (n / 65536) as u16)
+    w.copy(&value.to_le_bytes());
 }
 
 // Numbers in two bytes each.
-pub fn write_numbers(out: &mut [u8], at: usize, numbers: &[u16]) -> usize
-    requires { at + 2 * length numbers.now ≤ length out.old }
-    ensures { Appended out.old at (each le2 numbers.now) out.new result }
+pub fn write_numbers(w: &mut Writer, numbers: &[u16])
+    requires { w.old.at + 2 * length numbers.now ≤ length w.old.out.now }
+    ensures { Wrote w.old (each le2 numbers.now) w.new }
 {
-    let mut end = at;
-    let mut i: usize = 0;
-    while i < numbers.len() {
-        end = write_u16(out, end, numbers[i]);
-        i += 1;
+    for n in numbers {
+        write_u16(w, *n);
     }
-    end
 }
 
 // A field's tag and the length of its body.
-pub fn write_header(out: &mut [u8], at: usize, tag: u8, len: u16) -> usize
-    requires { at + 3 ≤ length out.old }
-    ensures { Appended out.old at (header tag len) out.new result }
+pub fn write_header(w: &mut Writer, tag: u8, len: u16)
+    requires { w.old.at + 3 ≤ length w.old.out.now }
+    ensures { Wrote w.old (header tag len) w.new }
 {
-    let at = write_u8(out, at, tag);
-    write_u16(out, at, len)
+    write_u8(w, tag);
+    write_u16(w, len);
 }

@@ -1,25 +1,21 @@
 -- The first field of a file: too long, or what stands at place 0; and what is known of a whole one.
 -- Assumes nothing.
 use Rattle.std.specs.Prelude.{ℕ, ◌≤◌, ◌<◌, ◌≡◌, not, List, leb, length, get_or}
-use Rattle.std.proofs.Common.{sym, ◌∙◌, subst, arith}
-use Rattle.definitions.specs.Fields.{two, part, Kind, only, field_at, longest, first_field}
+use Rattle.std.proofs.Common.{sym, ◌∙◌}
+use Rattle.definitions.specs.Fields.{two, part, only, field_at, longest, first_field}
 use Rattle.definitions.proofs.Remarks.{long_first, short_first}
 use Rattle.definitions.specs.declared.Field.{Field}
 use Rattle.definitions.specs.declared.Field.TheVariants.{Faulty, Whole}
-use Rattle.theory.specs.Choices.{past, both}
-use Rattle.fields.specs.Positions.{Numbered, numbered, Within, within, unlike_faulty, only_length, whole_order, whole_length}
+use Rattle.definitions.specs.declared.Refusal.TheVariants.{LongFile}
+use Rattle.theory.specs.Choices.{past}
+use Rattle.fields.specs.Positions.{Within, within, unlike_faulty, only_length, whole_order, whole_length}
 
 module _ (s : List ℕ) (tag len : ℕ) where
-  pub first_long : longest < length s → Faulty 9 longest ≡ first_field s (only tag len)
+  pub first_long : longest < length s → Faulty LongFile longest ≡ first_field s (only tag len)
   first_long h = sym (long_first s h (only tag len))
 
   pub first_short : length s ≤ longest → (r : Field) → r ≡ field_at s 0 (only tag len) → r ≡ first_field s (only tag len)
   first_short h r e = e ∙ sym (short_first s h (only tag len))
-
--- a fault has a number other than 0
-pub first_number : (s : List ℕ) (kind : ℕ → Kind) (number place : ℕ) → Faulty number place ≡ first_field s kind → 0 < number
-unfolding first_field
-first_number s kind number place p = subst Numbered (sym p) (both Numbered (not (leb (length s) longest)) (omega arith) (numbered s 0 kind))
 
 -- what a caller asks of the body that it was given
 module _ (s : List ℕ) (tag len p a e : ℕ) (r : Field) (given : r ≡ first_field s (only tag len)) (found : r ≡ Whole p a e) where

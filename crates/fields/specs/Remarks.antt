@@ -11,6 +11,7 @@ use Rattle.definitions.specs.Basics.{pick}
 use Rattle.definitions.specs.Fields.{two, Kind, passed_over, is_foreign, is_passed_over, length_fits, is_remark, only, or_remark, field_at}
 use Rattle.definitions.specs.declared.Field.{Field}
 use Rattle.definitions.specs.declared.Field.TheVariants.{Faulty, Passed, Whole}
+use Rattle.definitions.specs.declared.Refusal.TheVariants.{Cut}
 use Rattle.theory.specs.Basics.{true_not_false}
 use Rattle.fields.specs.Positions.{field_short, field_passed, Within, within, only_known, only_length, HasField, only_has}
 
@@ -40,19 +41,6 @@ module _ (kind : ℕ → Kind) (tag : ℕ) where
 -- ---- at a place
 
 module _ (s : List ℕ) (at : ℕ) where
-  -- with the tests of the code as premises
-  pub remark_absent : length s ≤ at → false ≡ remark_at s at
-  unfolding remark_at
-  remark_absent p = let q : length s - at < 3 = omega arith in rw (lt-leb 3 (length s - at) q)
-
-  pub remark_short : length s - at < 3 → false ≡ remark_at s at
-  unfolding remark_at
-  remark_short p = rw (lt-leb 3 (length s - at) p)
-
-  pub remark_tag : 3 ≤ length s - at → leb 128 (get_or s at 0) ≡ remark_at s at
-  unfolding remark_at
-  remark_tag p = rw (le-leb 3 (length s - at) p)
-
   module _ (there : remark_at s at ≡ true) where
     both_true : (a b : Bool) → (a && b) ≡ true → (a ≡ true) × (b ≡ true)
     both_true true b p = (refl, p)
@@ -73,7 +61,7 @@ module _ (s : List ℕ) (at : ℕ) where
       fits = ap (λ (k : Kind). length_fits k (two s (at + 1))) is_over
 
     module _ (said : ℕ) (read : said ≡ two s (at + 1)) where
-      pub remark_cut : length s - at < 3 + said → (kind : ℕ → Kind) → Faulty 1 at ≡ field_at s at (or_remark kind)
+      pub remark_cut : length s - at < 3 + said → (kind : ℕ → Kind) → Faulty Cut at ≡ field_at s at (or_remark kind)
       remark_cut p kind = field_short s at (or_remark kind) (omega (arith, remark_left)) remark_left (ap is_foreign (is_over kind)) (fits kind) (omega (arith, remark_left))
 
       pub remark_over : 3 + said ≤ length s - at → (kind : ℕ → Kind) → Passed (at + (3 + said)) ≡ field_at s at (or_remark kind)
@@ -95,8 +83,6 @@ module _ (s : List ℕ) (at : ℕ) where
 
     pub remark_none : (h : Bool) → h ≡ remark_at s at → h ≡ false → (r : Field) → r ≡ field_at s at kind → r ≡ field_at s at (or_remark kind)
     remark_none h read p r e = e ∙ no_remark (sym read ∙ p)
-
-pub ruleset remark-laws = (remark_absent, remark_short, remark_tag)
 
 -- ---- a field of one tag and length, whose tag is no remark's
 

@@ -1,6 +1,6 @@
 -- The walk from field to field, over any grammar: one law for each case of a turn, what a reader's loop keeps, and an induction.
 -- Assumes nothing.
-use Prim.Native.Nat.{ℕ, zero, suc, pred, ◌+◌, ◌≤◌, ◌<◌}
+use Prim.Native.Nat.{ℕ, zero, suc, pred, ◌+◌, ◌≤◌}
 use Rattle.std.specs.Prelude.{◌≡◌, Bool, length, get_or}
 use Rattle.std.proofs.Math.Path.{refl, sym}
 use Rattle.std.proofs.Common.{◌∙◌, arith}
@@ -12,18 +12,11 @@ use Rattle.definitions.specs.Basics.{pick}
 use Rattle.definitions.specs.Fields.{part, Kind, or_remark, field_at, on_field, Grammar, Scan, stopped, scan}
 use Rattle.definitions.specs.declared.Field.{Field}
 use Rattle.definitions.specs.declared.Field.TheVariants.{Absent, Faulty, Passed, Whole}
+use Rattle.definitions.specs.declared.Refusal.{Refusal}
+use Rattle.definitions.specs.Refusals.{number}
 use Rattle.fields.specs.Positions.{field_absent, within, passed_within}
 
--- how far a walk is from its end: one turn more than the bytes left while it goes on, none once it is over
-abbrev pub left_of : Bool → ℕ → ℕ
-left_of true bytes = suc bytes
-left_of false bytes = 0
-
-pub left_less : (going : Bool) (a b : ℕ) → (going ≡ true → a < b) → left_of going a < suc b
-left_less true a b h = omega (arith, h refl)
-left_less false a b h = omega arith
-
-absent_faulty : {n p : ℕ} → Absent ≡ Faulty n p → ⊥
+absent_faulty : {r : Refusal} {p : ℕ} → Absent ≡ Faulty r p → ⊥
 absent_faulty p = let z : ◌≡◌ {A = ℕ} 0 1 = cc in omega arith
 
 absent_passed : {e : ℕ} → Absent ≡ Passed e → ⊥
@@ -52,10 +45,11 @@ module _ {A : Type 0} (s : List ℕ) (g : Grammar A) where
   scan_absent (suc n) at before p = rw (← p)
 
   module _ (at : ℕ) (before : List A) where
-    pub scan_faulty : (turns number place : ℕ) → length s ≤ at + turns → Faulty number place ≡ field_at s at (kinds before) → scan s g turns at before ≡ stopped before number place
+    pub scan_faulty : (turns : ℕ) (refusal : Refusal) (place : ℕ) → length s ≤ at + turns → Faulty refusal place ≡ field_at s at (kinds before)
+        → scan s g turns at before ≡ stopped before (number refusal) place
     unfolding scan on_field
-    scan_faulty zero number place h p = absurd (absent_faulty (field_absent s at (kinds before) (omega arith) ∙ sym p))
-    scan_faulty (suc n) number place h p = rw (← p)
+    scan_faulty zero refusal place h p = absurd (absent_faulty (field_absent s at (kinds before) (omega arith) ∙ sym p))
+    scan_faulty (suc n) refusal place h p = rw (← p)
 
     pub scan_passed : (turns e : ℕ) → length s ≤ at + turns → Passed e ≡ field_at s at (kinds before) → scan s g turns at before ≡ scan s g (pred turns) e before
     unfolding scan on_field
@@ -88,8 +82,8 @@ module _ {A : Type 0} (s : List ℕ) (g : Grammar A) where
     pub reading_done : r ≡ Absent → scan s g (length s) first [] ≡ stopped before 0 0
     reading_done p = read.same ∙ scan_absent read.turns at before (sym p ∙ given)
 
-    pub reading_faulty : (number place : ℕ) → r ≡ Faulty number place → scan s g (length s) first [] ≡ stopped before number place
-    reading_faulty number place p = read.same ∙ scan_faulty at before read.turns number place read.enough (sym p ∙ given)
+    pub reading_faulty : (refusal : Refusal) (place : ℕ) → r ≡ Faulty refusal place → scan s g (length s) first [] ≡ stopped before (number refusal) place
+    reading_faulty refusal place p = read.same ∙ scan_faulty at before read.turns refusal place read.enough (sym p ∙ given)
 
     pub reading_passed : (e : ℕ) → r ≡ Passed e → Reading first e before
     reading_passed e p = record {
@@ -140,7 +134,7 @@ module _ {A : Type 0} (s : List ℕ) (g : Grammar A) where
             → on_field r (stopped before 0 0) (stopped before) (λ end. scan s milder n end before) (found milder n before)
             ≡ on_field r (stopped before 0 0) (stopped before) (λ end. scan s g n end before) (found g n before)
         go Absent k z = refl
-        go (Faulty number place) k z = refl
+        go (Faulty refusal place) k z = refl
         go (Passed end) k z = k end before z
         go (Whole p a e') k z = chosen p a e' k (eqb (fault_of p before a e') 0) refl z
 
@@ -167,6 +161,6 @@ module _ {A : Type 0} (s : List ℕ) (g : Grammar A) where
           go : (r : Field) → r ≡ field_at s at (kinds before) → ((at : ℕ) (before : List A) → P before → P (scan s g n at before).passed)
               → P (on_field r (stopped before 0 0) (stopped before) (λ end. scan s g n end before) (on n before)).passed
           go Absent w k = p
-          go (Faulty number place) w k = p
+          go (Faulty refusal place) w k = p
           go (Passed e) w k = k e before p
           go (Whole q a e) w k = chosen q a e w k (eqb (fault_of q before a e) 0) refl

@@ -2,11 +2,11 @@
 ghost use Rattle.std.specs.Prelude.{◌≡◌, true, ℕ, ◌+◌, ◌*◌, ◌<◌, ◌^◌, length, get_or};
 ghost use Rattle.definitions.specs.Fields.{two, Kind, only, or_remark, field_at, first_field};
 ghost use Rattle.definitions.specs.declared.Field.TheVariants.{Faulty, Whole};
-ghost use Rattle.fields.specs.Positions.{HasField, Tells, GoesOn};
+ghost use Rattle.fields.specs.Positions.{HasField, Tells};
 ghost use Rattle.fields.specs.Remarks.{remark_at};
 
-use definitions::Field;
-use field_numbers::{read_u16, wide};
+use definitions::{Field, Refusal};
+use field_numbers::read_u16;
 
 // The longest file that is read, in bytes.
 const LONGEST: usize = 32768;
@@ -21,27 +21,23 @@ fn header(s: &[u8], at: usize) -> u32
     requires { at + 2 < length s.now }
     ensures { result ≡ get_or s.now at 0 + 256 * two s.now (at + 1) }
 {
-    wide(s[at]) as u32 + 256 * read_u16(s, at + 1) as u32
+    u32::from(s[at]) + 256 * u32::from(read_u16(s, at + 1))
 }
 
 // Whether a whole field of this tag and length stands at a place: one test for its end, one for its header.
-fn is_whole(s: &[u8], at: usize, tag: u8, len: u16) -> bool
+pub fn is_whole(s: &[u8], at: usize, tag: u8, len: u16) -> bool
     ensures { Tells result s.now at tag len }
 {
-    let field = 3 + len as usize;
-    if s.len() < field {
-        return false;
-    }
-    if s.len() - field < at {
-        return false;
-    }
-    header(s, at) == tag as u32 + 256 * len as u32
+    let field = 3 + usize::from(len);
+    field <= s.len()
+        && at <= s.len() - field
+        && header(s, at) == u32::from(tag) + 256 * u32::from(len)
 }
 
-fn faulty(number: u8, place: usize) -> Field
-    ensures { result ≡ Faulty number place }
+fn faulty(refusal: Refusal, place: usize) -> Field
+    ensures { result ≡ Faulty refusal place }
 {
-    Field::Faulty { number, place }
+    Field::Faulty { refusal, place }
 }
 
 // A whole field of this length.
@@ -52,7 +48,7 @@ fn whole(at: usize, len: u16) -> Field
     Field::Whole {
         place: at,
         start: at + 3,
-        end: at + 3 + len as usize,
+        end: at + 3 + usize::from(len),
     }
 }
 
@@ -66,15 +62,15 @@ fn fault_at(s: &[u8], at: usize, tag: u8, len: u16) -> Field
         return Field::Absent;
     }
     if s.len() - at < 3 {
-        return faulty(1, at);
+        return faulty(Refusal::Cut, at);
     }
     if s[at] != tag {
-        return faulty(2, at);
+        return faulty(Refusal::Tag, at);
     }
     if read_u16(s, at + 1) != len {
-        return faulty(3, at);
+        return faulty(Refusal::Length, at);
     }
-    faulty(1, at)
+    faulty(Refusal::Cut, at)
 }
 
 // What stands at a place where only a field of this tag and length is due.
@@ -92,34 +88,19 @@ pub fn first_field(s: &[u8], tag: u8, len: u16) -> Field
     ensures { result ≡ first_field s.now (only tag len) }
 {
     if LONGEST < s.len() {
-        return faulty(9, LONGEST);
+        return faulty(Refusal::LongFile, LONGEST);
     }
     field_at(s, 0, tag, len)
 }
 
 // ---- after the head
 
-// Whether a walk that stands at a place goes on with a whole field of this tag and length.
-pub fn goes_on(s: &[u8], going: bool, at: usize, tag: u8, len: u16) -> bool
-    ensures { GoesOn result going s.now at tag len }
-{
-    if going {
-        return is_whole(s, at, tag, len);
-    }
-    false
-}
-
 // Whether the header of a remark stands at a place.
+#[tactic(auto, unfolding(crate::specs::Remarks::remark_at))]
 fn is_remark(s: &[u8], at: usize) -> bool
     ensures { result ≡ remark_at s.now at }
 {
-    if s.len() <= at {
-        return false;
-    }
-    if s.len() - at < 3 {
-        return false;
-    }
-    REMARK <= s[at]
+    3 <= s.len().saturating_sub(at) && REMARK <= s[at]
 }
 
 // The remark whose header stands at a place: it is passed over, or its body is cut (1), whatever the other tags mean there.
@@ -127,9 +108,9 @@ fn remark_at(s: &[u8], at: usize) -> Field
     requires { remark_at s.now at ≡ true }
     ensures { (kind : ℕ → Kind) → result ≡ field_at s.now at (or_remark kind) }
 {
-    let field = 3 + read_u16(s, at + 1) as usize;
+    let field = 3 + usize::from(read_u16(s, at + 1));
     if s.len() - at < field {
-        return faulty(1, at);
+        return faulty(Refusal::Cut, at);
     }
     Field::Passed { end: at + field }
 }

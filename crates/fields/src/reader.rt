@@ -13,23 +13,25 @@ pub struct Reader<'a> {
     pub at: usize,
 }
 
-// At the file's start.
-pub fn new<'a>(src: &'a [u8]) -> Reader<'a>
-    ensures { (result.src ≡ src.entry) × (result.at ≡ 0) }
-{
-    Reader { src, at: 0 }
-}
+impl<'a> Reader<'a> {
+    // At the file's start.
+    pub fn new(src: &'a [u8]) -> Reader<'a>
+        ensures { (result.src ≡ src.entry) × (result.at ≡ 0) }
+    {
+        Reader { src, at: 0 }
+    }
 
-// Moved on to a place of the same file.
-pub fn moved<'a>(r: Reader<'a>, at: usize) -> Reader<'a>
-    ensures { (result.src ≡ r.entry.src) × (result.at ≡ at) }
-{
-    Reader { src: r.src, at }
-}
+    // Moved on to a place of the same file.
+    pub fn moved(self, at: usize) -> Reader<'a>
+        ensures { (result.src ≡ self.entry.src) × (result.at ≡ at) }
+    {
+        Reader { src: self.src, at }
+    }
 
-// The next field: a remark, or one of this tag and length, which is due, or what is wrong there.
-pub fn next<'a>(r: Reader<'a>, tag: u8, len: u16) -> Field
-    ensures { result ≡ field_at r.entry.src.now r.entry.at (or_remark (only tag len)) }
-{
-    next_field(r.src, r.at, tag, len)
+    // The next field: a remark, or one of this tag and length, which is due, or what is wrong there.
+    pub fn next(self, tag: u8, len: u16) -> Field
+        ensures { result ≡ field_at self.entry.src.now self.entry.at (or_remark (only tag len)) }
+    {
+        next_field(self.src, self.at, tag, len)
+    }
 }

@@ -4,9 +4,9 @@
 ghost use Rattle.chart.specs.Tables.{steps_in};
 ghost use Rattle.guided_ends.specs.Ends.{Ending, Concludes};
 
-use chart_fields::ENDS;
-use checks::{accepted, refusal};
-use definitions::{Answer, Node, Shape};
+use chart_fields::StepTable;
+use checks::{Refused, accepted, refusal};
+use definitions::{Answer, Node, Refusal, Shape};
 use trace::write_plan;
 
 // The node of a goal pair, and what the way to it costs.
@@ -26,7 +26,7 @@ pub struct Ended {
 // The answer by how the search ended; where a goal pair was settled, the trail from the start to it is written as the plan.
 pub fn conclude<'a>(
     via: &'a [u32],
-    steps: &'a [[u32; 1024]; 2],
+    steps: &'a StepTable,
     row: &'a [u32; 256],
     z: Shape,
     ended: Ended,
@@ -37,9 +37,9 @@ pub fn conclude<'a>(
         Concludes z via.now table row.now ended plan.old plan.new result }
 {
     match ended.goal {
-        None => refusal(8, 0, 0, ended.count),
+        None => refusal(Refused::of_call(Refusal::NoLegalPlan), ended.count),
         Some(goal) => {
-            let length = write_plan(via, &steps[ENDS], row, z.start, z.end, goal.node, plan);
+            let length = write_plan(via, steps, row, z.start, z.end, goal.node, plan);
             accepted(goal.cost, length, ended.count)
         }
     }

@@ -7,7 +7,7 @@ ghost use Rattle.guided_expand.specs.Progress.{progress_of};
 ghost use Rattle.guided_expand.specs.Opening.{Opened, Opening, Leading};
 ghost use Rattle.guided_expand.specs.Kinds.{GroupOf, Kind};
 
-use chart_fields::{COST, ENDS, group_at, tag_at, to_at};
+use chart_fields::StepTable;
 use checks::WalkTables;
 use definitions::{Group, NONE, Node, Step};
 use guided_keys::open_block;
@@ -44,8 +44,7 @@ fn offer<'t>(
         (x : Leading (walked tables.entry) (estimates_of estimates.entry) source pairs e.0 t.0 before)
         → Opened x.by source e.0 (e.0 + 1) before after }
 {
-    let i = e.0 as usize;
-    let stage = to_at(&tables.steps[ENDS], i);
+    let stage = tables.steps.to(e);
     let rest = estimates.of_pair(stage, t);
     if rest == NONE {
         return;
@@ -53,17 +52,17 @@ fn offer<'t>(
     let y = pair_at(tables.row, stage, t);
     let queue = &mut *work.queue;
     open_block(queue.keys, filled, y, pairs);
-    let v = source.cost + tables.steps[COST][i] + rest;
+    let v = source.cost + tables.steps.cost(e) + rest;
     work.relax(source.key, y, v, packed(stage, e, source.pair.node));
 }
 
 // The group of step e: the one that it names, where the steps name groups; else the one of its own number.
-fn group_of<'a, const GROUPED: bool>(steps: &'a [[u32; 1024]; 2], e: Step) -> Group
+fn group_of<'a, const GROUPED: bool>(steps: &'a StepTable, e: Step) -> Group
     requires { e.0 < 1024 }
     ensures { GroupOf GROUPED (steps_in steps.now) e.0 result.0 }
 {
     if GROUPED {
-        return group_at(&steps[ENDS], e.0 as usize);
+        return steps.group(e);
     }
     Group(e.0)
 }
@@ -121,7 +120,7 @@ pub fn settle<'t>(
         (x : Opening on (estimates_of estimates.entry) source pairs before)
         → Opened x.by source (get_or on.first s 0) (get_or on.first (s + 1) 0) before after }
 {
-    if tag_at(&tables.steps[ENDS], 0) == 3 {
+    if tables.steps.is_grouped() {
         settle_kind::<true>(work, filled, pairs, tables, estimates, source);
     } else {
         settle_kind::<false>(work, filled, pairs, tables, estimates, source);

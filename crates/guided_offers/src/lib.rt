@@ -17,7 +17,8 @@ pub struct Estimates<'a> {
 }
 
 impl<'a> Estimates<'a> {
-    // The larger of the stage's estimate and the node's: none if either is.
+    // The larger of the stage's estimate and the node's: none if either is. A number, as in the tables, and no Option: who knows
+    // that a pair has an estimate reckons with it untested.
     pub fn of_pair(self, s: Stage, n: Node) -> u32
         requires { (s.0 < 256) × (n.0 < 512) }
         ensures { result ≡ paired (estimates_of self.entry) s.0 n.0 }

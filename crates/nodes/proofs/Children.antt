@@ -4,8 +4,6 @@ use mathlib.Core.Path.{◌≡◌}
 use mathlib.Core.List.{List}
 use lib.ListN.{get_or}
 use native.Mathlib.Omega.{arith}
-use mir.Val.{Fits}
-use mir.Syntax.{w64}
 use Rattle.nodes.specs.Walks.{Falls}
 
 module _ (child : List ℕ) (count n : ℕ) (falls : Falls child (count + 1)) (i : 2 ≤ n) (l : n < count + 2) where
@@ -13,10 +11,5 @@ module _ (child : List ℕ) (count n : ℕ) (falls : Falls child (count + 1)) (i
   child_below = falls.below n i (omega arith)
 
   module _ (v : ℕ) (is : v ≡ get_or child n 0) where
-    pub child_fits : Fits w64 v
-    child_fits = omega (arith, child_below, falls.inside)
-
     pub child_inside : v < 512
     child_inside = omega (arith, child_below, falls.inside)
-
-pub ruleset child-laws = (child_fits, child_inside)

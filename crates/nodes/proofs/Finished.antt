@@ -1,6 +1,6 @@
 -- The loops of `finishes` and of `fill_finishing`: their invariants, with one law for each way on.
 use Prim.Native.Nat.{ℕ, zero, suc, ◌+◌, ◌≤◌, ◌<◌}
-use mathlib.Core.Path.{◌≡◌, refl, sym, ◌∙◌, ap}
+use mathlib.Core.Path.{◌≡◌, sym, ◌∙◌, ap}
 use mathlib.Core.Bool.{Bool, true, false}
 use mathlib.Core.List.{List}
 use lib.Dec.{eqb}
@@ -13,7 +13,7 @@ use Rattle.theory.specs.Limits.{Ordered}
 use Rattle.theory.specs.Diagrams.{finish_leaf, finish_inner}
 use Rattle.diagram.specs.Tables.{Held}
 use Rattle.diagram.specs.Held.{held_lo}
-use Rattle.nodes.specs.Walks.{Falls, Finishes, Finishing}
+use Rattle.nodes.specs.Walks.{Falls, Finishes}
 use Rattle.nodes.proofs.Children.{child_below}
 
 -- an inner node of a held diagram finishes where the node at its lo does
@@ -28,18 +28,12 @@ pub record Walked (lo : List ℕ) (n m : ℕ) : Type 0 where
   pub same : (d : Diagram) (step hi : List ℕ) → Held d step lo hi → n < size d → finish d n ≡ finish d m
 
 module _ (lo : List ℕ) (n : ℕ) where
-  pub walk_start : Walked lo n n
-  walk_start = record { below = omega arith; same = λ d step hi h l. refl }
-
   module _ (falls : Falls lo n) (m : ℕ) (w : Walked lo n m) where
     pub walk_next : 2 ≤ m → (v : ℕ) → v ≡ get_or lo m 0 → Walked lo n v
     walk_next i v is = record {
       below = omega (arith, falls.below m i w.below, w.below);
       same = λ d step hi h l. w.same d step hi h l ∙ finish_lo d step lo hi h m i (omega (arith, w.below)) ∙ ap (finish d) (sym is);
     }
-
-    pub walk_less : 2 ≤ m → (v : ℕ) → v ≡ get_or lo m 0 → v < m
-    walk_less i v is = omega (arith, falls.below m i w.below)
 
     pub walk_done : m < 2 → Finishes lo n (eqb m 1)
     walk_done i = record { is = λ d step hi h l. sym (ap (λ (k : ℕ). eqb k 1) (w.same d step hi h l ∙ finish_leaf d h.ordered m i)) }
@@ -87,7 +81,4 @@ module _ (lo : List ℕ) (count : ℕ) where
         below : get_or lo n 0 < n
         below = child_below lo count n f now.inner l
 
-    pub passed_done : count + 2 ≤ n → Finishing lo count yes
-    passed_done q = record { is = λ d step hi h f k l. now.is d step hi h f k (omega arith) l }
-
-pub ruleset passed-laws = (passed_start, passed_next, passed_done)
+pub ruleset passed-laws = (passed_start, passed_next)

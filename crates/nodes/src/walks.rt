@@ -7,6 +7,7 @@ use definitions::{Group, Node};
 use diagram_fields::{hi_at, lo_at, lo_of, step_at, step_of};
 
 // A node of a diagram, and the group that it tests: the mark where it is none of the inner ones.
+// The mark is kept as a number: `Marked` says that the table has it there, and one comparison then ends a walk.
 #[derive(Clone, Copy)]
 pub struct Lowered {
     pub node: Node,

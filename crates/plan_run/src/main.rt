@@ -2,32 +2,30 @@
 #![tactic(auto)]
 
 use std::io;
+use std::io::Write;
 
 // How many folders there are.
 const CASES: u8 = 173;
 
+// The path of a file in the folder of a case, whose number takes the place of the three digits.
+fn path_in(case: u8, mut path: [u8; 13]) -> io::Result<[u8; 13]> {
+    let mut folder = &mut path[..3];
+    write!(folder, "{case:03}")?;
+    Ok(path)
+}
+
 // Plans for the files of one folder, after a line with its number.
-fn run_case(rt: &HostRuntime, hundreds: u8, tens: u8, ones: u8) -> io::Result<()> {
-    let mut line = *b"case 000\n";
-    line[5] = hundreds;
-    line[6] = tens;
-    line[7] = ones;
-    rt.write_all(&line)?;
-    let mut chart = *b"000/chart.bin";
-    chart[0] = hundreds;
-    chart[1] = tens;
-    chart[2] = ones;
-    let mut rules = *b"000/rules.bin";
-    rules[0] = hundreds;
-    rules[1] = tens;
-    rules[2] = ones;
+fn run_case(rt: &HostRuntime, case: u8) -> io::Result<()> {
+    println!(rt; "case {case:03}")?;
+    let chart = path_in(case, *b"000/chart.bin")?;
+    let rules = path_in(case, *b"000/rules.bin")?;
     command::run(rt, &chart, &rules);
     Ok(())
 }
 
 fn main(rt: HostRuntime) -> io::Result<()> {
-    for n in 1..=CASES {
-        run_case(&rt, b'0' + n / 100, b'0' + n / 10 % 10, b'0' + n % 10)?;
+    for case in 1..=CASES {
+        run_case(&rt, case)?;
     }
     Ok(())
 }

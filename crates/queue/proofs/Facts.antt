@@ -10,6 +10,10 @@ use Rattle.heap_sift.proofs.Places.{in_pair, stands}
 use Rattle.heap.proofs.Facts.{heap_empty}
 use Rattle.queue.specs.Queue.{Counts, held, State, state, Contains, Queue, Empty}
 
+-- a queue that is made with no pair in its heap and none on its stack is empty
+pub empty_counts : Empty (record { heaped = 0; top = 0 })
+empty_counts = record { none_held = refl; none_stacked = refl }
+
 -- the empty queue, whatever stands in the slices and whatever the floor is
 pub queue_empty : {keys heap pos stack : List ℕ} {p floor : ℕ} {c : Counts} → Empty c
     → p ≤ 4294967296 → p ≤ length keys → p ≤ length heap → p ≤ length pos → p ≤ length stack

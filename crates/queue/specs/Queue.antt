@@ -56,7 +56,7 @@ pub record Past (p : ℕ) (x x' : State) : Type 0 where
   pub pos_past : drop p x'.pos ≡ drop p x.pos
   pub stack_past : drop p x'.stack ≡ drop p x.stack
 
--- what `empty` gives
+-- the counts of a queue that holds nothing
 pub record Empty (c : Counts) : Type 0 where
   pub none_held : held c ≡ 0
   pub none_stacked : c.top ≡ 0

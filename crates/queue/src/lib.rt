@@ -5,13 +5,13 @@
 #![tactic(auto)]
 
 ghost use Rattle.std.specs.Prelude.{ℕ, ◌≡◌, List};
-ghost use Rattle.queue.specs.Queue.{Counts, state, Empty, Inserting, Inserted, Decreasing, Decreased};
+ghost use Rattle.queue.specs.Queue.{Counts, Inserting, Inserted, Decreasing, Decreased};
 ghost use Rattle.queue.specs.Views.{counts_of, state_with, state_of, IsQueue, SameSlices, Takes};
 
 use heap::Heap;
 
-// The four slices, and how many pairs are in the heap and on the stack. No heap stands in it: of the slices of a struct in a
-// struct, a caller would not learn what they end as.
+// The four slices, and how many pairs are in the heap and on the stack: both are 0 in a queue that holds nothing. The heap's
+// slices stand here themselves: of a struct within this one a caller would not learn what its slices end as.
 #[derive(Drop)]
 pub struct Queue<'a> {
     pub keys: &'a mut [u32],

@@ -1,95 +1,82 @@
 // The text that the program writes, put into a buffer. Where the buffer is too short the text is cut at the buffer's end.
+// It is put together by hand: `write!` into a slice fails there.
 #![tactic(auto)]
 
 ghost use Rattle.std.specs.Prelude.{◌≤◌, length, take};
 ghost use Rattle.report.specs.Text.{item, last_item, step_word, step_lines, plan_text, refused_text, report};
 ghost use Rattle.buffer.specs.Appending.{Appended};
+ghost use Rattle.buffer.specs.Writing.{Wrote};
 
-use buffer::copy;
-use convert::lesser;
+use buffer::Writer;
 use definitions::Answer;
 use digits::write_number;
 
 // Writes a word and a number.
-fn write_item(out: &mut [u8], at: usize, word: &[u8], n: usize) -> usize
-    requires { at ≤ length out.old }
-    ensures { Appended out.old at (item word.now n) out.new result }
+fn write_item(w: &mut Writer, word: &[u8], n: usize)
+    requires { w.old.at ≤ length w.old.out.now }
+    ensures { Wrote w.old (item word.now n) w.new }
 {
-    let end = copy(out, at, word);
-    write_number(out, end, n)
+    w.copy(word);
+    write_number(w, n);
 }
 
 // Writes a word and a number at the end of a line.
-fn write_last_item(out: &mut [u8], at: usize, word: &[u8], n: usize) -> usize
-    requires { at ≤ length out.old }
-    ensures { Appended out.old at (last_item word.now n) out.new result }
+fn write_last_item(w: &mut Writer, word: &[u8], n: usize)
+    requires { w.old.at ≤ length w.old.out.now }
+    ensures { Wrote w.old (last_item word.now n) w.new }
 {
-    let end = write_item(out, at, word, n);
-    copy(out, end, b"\n")
+    write_item(w, word, n);
+    w.copy(b"\n");
 }
 
-// Writes the line of one step.
-fn write_step(out: &mut [u8], at: usize, step: u16) -> usize
-    requires { at ≤ length out.old }
-    ensures { Appended out.old at (last_item step_word step) out.new result }
+// Writes a line for each step.
+fn write_steps(w: &mut Writer, steps: &[u16])
+    requires { w.old.at ≤ length w.old.out.now }
+    ensures { Wrote w.old (step_lines steps.now) w.new }
 {
-    write_last_item(out, at, b"step ", step as usize)
-}
-
-// Writes a line for each of the first `count` steps of a plan slice.
-fn write_steps(out: &mut [u8], at: usize, plan: &[u16], count: usize) -> usize
-    requires { at ≤ length out.old }
-    ensures { Appended out.old at (step_lines (take count plan.now)) out.new result }
-{
-    let steps = lesser(count, plan.len());
-    let mut end = at;
-    let mut i: usize = 0;
-    while i < steps {
-        end = write_step(out, end, plan[i]);
-        i += 1;
+    for step in steps {
+        write_last_item(w, b"step ", *step as usize);
     }
-    end
 }
 
 // Writes the lines of a plan: its cost, its steps, and the counts of both searches.
-fn write_plan(
-    out: &mut [u8],
-    cost: u32,
-    plan: &[u16],
-    count: usize,
-    settled: usize,
-    reached: usize,
-) -> usize
-    ensures { Appended out.old 0 (plan_text cost (take count plan.now) settled reached) out.new result }
+fn write_plan(w: &mut Writer, cost: u32, steps: &[u16], settled: usize, reached: usize)
+    requires { w.old.at ≤ length w.old.out.now }
+    ensures { Wrote w.old (plan_text cost steps.now settled reached) w.new }
 {
-    let costs = write_last_item(out, 0, b"cost ", cost as usize);
-    let steps = write_steps(out, costs, plan, count);
-    let counts = write_item(out, steps, b"settled ", settled);
-    write_last_item(out, counts, b" reached ", reached)
+    write_last_item(w, b"cost ", cost as usize);
+    write_steps(w, steps);
+    write_item(w, b"settled ", settled);
+    write_last_item(w, b" reached ", reached);
 }
 
 // Writes the line of a refusal.
-fn write_refused(out: &mut [u8], number: u32, file: u32, place: usize) -> usize
-    ensures { Appended out.old 0 (refused_text number file place) out.new result }
+fn write_refused(w: &mut Writer, number: u32, file: u32, place: usize)
+    requires { w.old.at ≤ length w.old.out.now }
+    ensures { Wrote w.old (refused_text number file place) w.new }
 {
-    let numbers = write_item(out, 0, b"refused ", number as usize);
-    let files = write_item(out, numbers, b" file ", file as usize);
-    write_last_item(out, files, b" place ", place)
+    write_item(w, b"refused ", number as usize);
+    write_item(w, b" file ", file as usize);
+    write_last_item(w, b" place ", place);
 }
 
-// Writes the text for both searches' answers to the front of the buffer, and returns the text's length.
+// Writes the text for both searches' answers.
+fn write_answers(w: &mut Writer, guided: Answer, plan: &[u16], sweep: Answer)
+    requires { w.old.at ≤ length w.old.out.now }
+    ensures { Wrote w.old (report guided plan.now sweep) w.new }
+{
+    if guided.number != 0 {
+        return write_refused(w, guided.number, guided.file, guided.place);
+    }
+    let steps = &plan[..guided.length.min(plan.len())];
+    write_plan(w, guided.cost, steps, guided.count, sweep.count);
+}
+
+// Writes that text to the front of the buffer, and returns its length.
 pub fn write_report(out: &mut [u8], guided: Answer, plan: &[u16], sweep: Answer) -> usize
     ensures { Appended out.old 0 (report guided plan.now sweep) out.new result }
 {
-    if guided.number == 0 {
-        return write_plan(
-            out,
-            guided.cost,
-            plan,
-            guided.length,
-            guided.count,
-            sweep.count,
-        );
-    }
-    write_refused(out, guided.number, guided.file, guided.place)
+    let mut w = Writer { out, at: 0 };
+    write_answers(&mut w, guided, plan, sweep);
+    w.at
 }

@@ -1,13 +1,13 @@
 -- Laws of the table of row starts: while it is filled, and for the searches.
 -- Assumes nothing.
-use Rattle.std.specs.Prelude.{ℕ, ◌+◌, ◌*◌, ◌≤◌, ◌<◌, ◌≡◌, List, map, length, get_or, set, replicate}
+use Rattle.std.specs.Prelude.{ℕ, ◌*◌, ◌≤◌, ◌<◌, ◌≡◌, List, map, length, get_or, replicate}
 use Rattle.std.proofs.Math.Path.{sym}
-use Rattle.std.proofs.Common.{◌∙◌, arith, length-set, get_or-set_same, get_or-set_other, lt-ltb, le-ltb}
+use Rattle.std.proofs.Common.{◌∙◌, arith, lt-ltb, le-ltb}
 use Rattle.std.proofs.lemmas.List.{length-replicate, get_or-replicate}
 use Rattle.std.proofs.Math.Seq.{ext_get_or}
 use Rattle.definitions.specs.Basics.{upto}
 use Rattle.definitions.specs.Pairs.{row_start, row_starts}
-use Rattle.theory.specs.Basics.{either, lt_or_le, same_or_not, pick_true, pick_false, length-map_run, get_d_map_upto}
+use Rattle.theory.specs.Basics.{either, lt_or_le, pick_true, pick_false, length-map_run, get_d_map_upto}
 
 -- what the searches ask of it: the row of a stage of the chart starts at stage × N
 pub row_at : (stages width s : ℕ) → stages ≤ 256 → s < stages → get_or (row_starts stages width) s 0 ≡ s * width
@@ -15,37 +15,22 @@ unfolding row_starts row_start
 row_at stages width s h i = get_d_map_upto (row_start stages width) 256 s 0 (omega arith) ∙ pick_true _ _ _ (lt-ltb s stages i)
 
 -- the rows below s are filled
-pub record Filled (stages width s at : ℕ) (row : List ℕ) : Type 0 where
+pub record Filled (stages width s : ℕ) (row : List ℕ) : Type 0 where
   pub long : length row ≡ 256
-  pub next : at ≡ s * width
-  pub low : at ≤ s * 512
   pub below : (t : ℕ) → t < s → get_or row t 0 ≡ t * width
   pub above : (t : ℕ) → s ≤ t → t < 256 → get_or row t 0 ≡ 0
 
 module _ (stages width : ℕ) where
-  pub filled_none : {row : List ℕ} → row ≡ replicate 256 0 → Filled stages width 0 0 row
+  pub filled_none : {row : List ℕ} → row ≡ replicate 256 0 → Filled stages width 0 row
   filled_none blank = rw blank (record {
     long = length-replicate {A = ℕ} 256 0;
-    next = omega arith;
-    low = omega arith;
     below = λ t h. absurd (omega arith);
     above = λ t h i. get_or-replicate {A = ℕ} 256 t 0 0 i;
   })
 
-  pub filled_more : (s at : ℕ) (row : List ℕ) → s < 256 → width ≤ 512 → Filled stages width s at row → Filled stages width (s + 1) (at + width) (set row s at)
-  filled_more s at row h k f = record {
-    long = length-set row s at ∙ f.long;
-    next = omega (arith, f.next);
-    low = omega (arith, f.low);
-    below = λ t i. either (same_or_not t s)
-        (λ q. rw q (get_or-set_same row s at 0 (omega (arith, f.long)) ∙ f.next))
-        (λ q. get_or-set_other row s t at 0 q ∙ f.below t (omega arith));
-    above = λ t i j. get_or-set_other row s t at 0 (λ q. omega arith) ∙ f.above t (omega arith) j;
-  }
-
-  pub filled_all : (s at : ℕ) (row : List ℕ) → s ≡ stages → stages ≤ 256 → Filled stages width s at row → row ≡ row_starts stages width
+  pub filled_all : (s : ℕ) (row : List ℕ) → s ≡ stages → stages ≤ 256 → Filled stages width s row → row ≡ row_starts stages width
   unfolding row_starts row_start
-  filled_all s at row e h f =
+  filled_all s row e h f =
       ext_get_or 0 row (map (row_start stages width) (upto 256)) (f.long ∙ sym (length-map_run (row_start stages width) 0 256))
       (λ i l.
       let k : i < 256 = omega (arith, f.long) in

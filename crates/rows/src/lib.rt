@@ -10,11 +10,7 @@ pub fn fill_row_starts(row: &mut [u32; 256], stages: usize, width: usize)
     ensures { row.new ≡ row_starts stages width }
 {
     let gap = width as u32;
-    let mut at: u32 = 0;
-    let mut s: usize = 0;
-    while s < stages {
-        row[s] = at;
-        at += gap;
-        s += 1;
+    for s in 0..stages {
+        row[s] = s as u32 * gap;
     }
 }

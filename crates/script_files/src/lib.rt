@@ -2,4 +2,5 @@
 #![tactic(auto)]
 
 pub mod read;
+pub mod rules;
 pub mod write;

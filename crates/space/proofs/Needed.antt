@@ -1,46 +1,35 @@
 -- Laws of `space_needed`, by the outcome of the checks.
 -- Assumes nothing.
 use Prim.Native.Nat.{ℕ, ◌+◌, ◌-◌, ◌*◌, ◌≤◌}
-use mathlib.Core.Path.{◌≡◌, sym, ◌∙◌, ap, ap₂}
+use mathlib.Core.Path.{◌≡◌, sym, ap}
 use native.Mathlib.Nat.{mul-le-mul_right}
 use native.Mathlib.Omega.{arith}
-use Rattle.definitions.specs.Charts.{Chart}
-use Rattle.definitions.specs.Diagrams.{Diagram}
-use Rattle.definitions.specs.Answers.{Load, ready, refused, work_need, plan_need}
-use Rattle.checks.specs.Tables.{Read, LoadsAs, chart_in, diagram_in}
+use Rattle.definitions.specs.Answers.{Load, ready, work_need}
+use Rattle.definitions.specs.declared.Shape.{Shape}
+use Rattle.checks.specs.Tables.{Read, Tables, chart_in, diagram_in}
 use Rattle.checks.specs.Ready.{few_stages, few_nodes, width_is}
-use Rattle.checks.specs.declared.Loaded.{Loaded}
-use Rattle.space.specs.Space.{space_needed}
-use Rattle.space.specs.declared.Space.{Space}
+use Rattle.space.specs.Space.{Needed, space_needed}
 
--- the space that accepted files need
-abbrev spaced : ℕ → ℕ → Space
-spaced work plan = record { number = 0; file = 0; place = 0; work = work; plan = plan }
+module _ (t : Read) (z : Shape) (in_tables : Tables z t) where
+  -- the space that accepted files need
+  spaced : ℕ → Needed
+  spaced work = record { number = 0; file = 0; place = 0; work = work; plan = z.stages - 1 }
 
-module _ (t : Read) (x : Loaded) where
-  pub needed_refused : (o : Load) → LoadsAs o t x → (x.number ≡ 0 → ⊥)
-      → record { number = x.number; file = x.file; place = x.place; work = 0; plan = 0 } ≡ space_needed o
-  needed_refused (refused number file place) l h = rw (l.0.0, l.0.1, l.0.2)
-  needed_refused (ready c d) l h = absurd (h l.0)
-
-  pub needed_ready : (o : Load) → LoadsAs o t x → x.number ≡ 0
-      → spaced (x.shape.stages * (x.shape.nodes + 2)) (x.shape.stages - 1) ≡ space_needed o
-  needed_ready (refused number file place) l h = absurd (l.1 (sym l.0.0 ∙ h))
-  needed_ready (ready c d) l h =
-      let w : work_need (chart_in x.shape t) (diagram_in x.shape t) ≡ x.shape.stages * (x.shape.nodes + 2) =
-      ap (λ (n : ℕ). x.shape.stages * n) (width_is x.shape t l.3)
-      in
-      ap₂ spaced (sym w ∙ ap₂ (λ (i : Chart) (j : Diagram). work_need i j) l.1 l.2) (ap (λ (i : Chart). plan_need i) l.1)
+  pub needed_ready : (o : Load) → o ≡ ready (chart_in z t) (diagram_in z t)
+      → record { number = 0; file = 0; place = 0; work = z.stages * (z.nodes + 2); plan = z.stages - 1 } ≡ space_needed o
+  unfolding spaced
+  needed_ready o e =
+      let w : work_need (chart_in z t) (diagram_in z t) ≡ z.stages * (z.nodes + 2) = ap (λ (n : ℕ). z.stages * n) (width_is z t in_tables) in
+      rw e (ap spaced (sym w))
 
   -- what was read is small, so nothing overflows
   pub record Small : Type 0 where
-    pub one_stage : 1 ≤ x.shape.stages
-    pub narrow : x.shape.nodes ≤ 510
-    pub few_pairs : x.shape.stages * (x.shape.nodes + 2) ≤ 131072
+    pub one_stage : 1 ≤ z.stages
+    pub narrow : z.nodes ≤ 510
+    pub few_pairs : z.stages * (z.nodes + 2) ≤ 131072
 
-  pub small : (o : Load) → LoadsAs o t x → x.number ≡ 0 → Small
-  small (refused number file place) l h = absurd (l.1 (sym l.0.0 ∙ h))
-  small (ready c d) l h =
-      let f = few_nodes x.shape t l.3 in
-      let m = mul-le-mul_right (x.shape.nodes + 2) (few_stages x.shape t l.3) in
-      record { one_stage = l.3.valid.some_stages; narrow = f; few_pairs = omega (arith, f, m) }
+  pub small : Small
+  small =
+      let f = few_nodes z t in_tables in
+      let m = mul-le-mul_right (z.nodes + 2) (few_stages z t in_tables) in
+      record { one_stage = in_tables.valid.some_stages; narrow = f; few_pairs = omega (arith, f, m) }

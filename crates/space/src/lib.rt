@@ -4,17 +4,14 @@
 ghost use Rattle.std.specs.Prelude.{◌≡◌};
 ghost use Rattle.definitions.specs.Answers.{read_files};
 ghost use Rattle.definitions.specs.Diagrams.{strict};
-ghost use Rattle.space.specs.Space.{space_needed};
+ghost use Rattle.space.specs.Space.{space_needed, told};
 
-use checks::load;
+use chart_fields::StepTable;
+use checks::{Refused, load};
 
-// The refusal's number, file and place, or 0; and the entries that each work slice and the plan slice need, 0 where the
-// files are refused.
+// The entries that each work slice and the plan slice need.
 #[derive(Clone, Copy)]
 pub struct Space {
-    pub number: u32,
-    pub file: u32,
-    pub place: usize,
     pub work: usize,
     pub plan: usize,
 }
@@ -25,28 +22,15 @@ const MOST_PAIRS: usize = 131072;
 const MOST_STEPS: usize = 255;
 
 // Checks both files and says how much space the searches need for them.
-pub fn space_needed(chart: &[u8], rules: &[u8]) -> Space
-    ensures { result ≡ space_needed (read_files strict chart.now rules.now) }
+pub fn space_needed(chart: &[u8], rules: &[u8]) -> Result<Space, Refused>
+    ensures { told result ≡ space_needed (read_files strict chart.now rules.now) }
 {
-    let mut steps = [[0u32; 1024]; 2];
+    let mut steps = StepTable::blank();
     let mut inner = [0u32; 512];
-    let got = load(chart, rules, MOST_PAIRS, MOST_STEPS, &mut steps, &mut inner);
-    if got.number != 0 {
-        return Space {
-            number: got.number,
-            file: got.file,
-            place: got.place,
-            work: 0,
-            plan: 0,
-        };
-    }
-    let z = got.shape;
+    let z = load(chart, rules, MOST_PAIRS, MOST_STEPS, &mut steps, &mut inner)?;
     let stages = z.stages as usize;
-    Space {
-        number: 0,
-        file: 0,
-        place: 0,
+    Ok(Space {
         work: stages * (z.nodes + 2),
         plan: stages - 1,
-    }
+    })
 }

@@ -1,7 +1,7 @@
 -- A new node, its chain's head and the count are stored, and the table stays one.
 -- Assumes nothing.
 use Rattle.std.specs.Prelude.{ℕ, ◌+◌, ◌-◌, ◌≤◌, ◌<◌, ◌≡◌, refl, ◌⊎◌, length, get_or, set, replicate}
-use Rattle.std.proofs.Common.{sym, ◌∙◌, subst, inl, inr}
+use Rattle.std.proofs.Common.{sym, ◌∙◌, inl, inr}
 use Rattle.std.proofs.Math.Path.{ap}
 use mathlib.Core.List.{List, [], ◌∷◌, ◌++◌, map}
 use native.Mathlib.Omega.{arith}
@@ -10,8 +10,8 @@ use Rattle.std.proofs.lemmas.List.{length-replicate, get_or-replicate}
 use Rattle.std.proofs.Math.Seq.{get_or-set_same, get_or-set_other}
 use Rattle.definitions.specs.Basics.{upto}
 use Rattle.theory.specs.Basics.{either, lt_or_le, same_or_not, upto_grown}
-use Rattle.diagram_fields.specs.Words.{word_of, unpacked}
-use Rattle.unique_table.specs.Tables.{UniqueTable, unique_table, inner_node, node_at, next_of, head_of, count_in, nodes_in, hash, Table, Lacks, Finds, Adds, Interns, alone, found, full, added}
+use Rattle.diagram_fields.specs.Words.{unpacked}
+use Rattle.unique_table.specs.Tables.{UniqueTable, unique_table, node_at, next_of, head_of, count_in, nodes_in, hash, Table, Adds}
 
 module _ (t : UniqueTable) (table : Table t) (room : count_in t < 510) (w : ℕ) (w_Fits : w < 4294967296) (k n : ℕ)
     (chain : k ≡ hash w) (k-small : k < 512) (number : n ≡ count_in t + 2) where
@@ -169,21 +169,3 @@ empty_table nodes long =
 pub empty_nodes : (nodes : List ℕ) → nodes_in (unique_table nodes blank) ≡ []
 unfolding nodes_in
 empty_nodes nodes = ap (λ (c : ℕ). map (λ i. unpacked (node_at (unique_table nodes blank) (i + 2))) (upto c)) (blank_at 0 (omega arith))
-
--- ---- a law for each way out of `intern`
-
-module _ (t : UniqueTable) (table : Table t) (v l h : ℕ) where
-  pub intern_alone : l ≡ h → Interns t v l h l t
-  intern_alone e = alone e refl refl
-
-  module _ (apart : l ≡ h → ⊥) (w : ℕ) (word : w ≡ word_of (inner_node v l h)) (f : ℕ) (finds : Finds t w f) where
-    pub intern_found : 2 ≤ f → Interns t v l h f t
-    intern_found g = found apart g (finds.inside g) (finds.hit g ∙ word) refl
-
-    pub intern_full : f < 2 → 510 ≤ count_in t → Interns t v l h 512 t
-    intern_full g i = full apart (subst (Lacks t) word (finds.miss g)) (omega (arith, table.few)) refl refl
-
-    pub intern_added : f < 2 → count_in t < 510 → (r : ℕ) (t' : UniqueTable) → Adds t w r t' → Interns t v l h r t'
-    intern_added g i r t' a = added apart (subst (Lacks t) word (finds.miss g)) i (subst (λ (x : ℕ). Adds t x r t') word a)
-
-pub ruleset intern-laws = (intern_alone, intern_found, intern_full, intern_added)

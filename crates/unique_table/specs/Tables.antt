@@ -2,7 +2,7 @@
 -- are not the table's. In the second, of 1,024 numbers, the count of nodes is at 0, the next node of its chain at each node's number, and from 512 on the first node of
 -- each of 512 chains; 0 where there is none.
 -- Assumes nothing.
-use Rattle.std.specs.Prelude.{ℕ, ◌+◌, ◌*◌, ◌/◌, ◌%◌, ◌≤◌, ◌<◌, ◌≡◌, List, [], ◌∷◌, ◌++◌, map, length, get_or, set}
+use Rattle.std.specs.Prelude.{ℕ, ◌+◌, ◌*◌, ◌/◌, ◌%◌, ◌≤◌, ◌<◌, ◌≡◌, List, [], ◌∷◌, ◌++◌, map, length, get_or, set, Option, Some, None}
 use Rattle.definitions.specs.Basics.{upto}
 use Rattle.definitions.specs.Diagrams.{InnerNode}
 use Rattle.diagram_fields.specs.Words.{word_of, unpacked}
@@ -56,11 +56,16 @@ pub record Table (t : UniqueTable) : Type 0 where
 abbrev pub Lacks : UniqueTable → ℕ → Type 0
 Lacks t w = (n : ℕ) → 2 ≤ n → n < count_in t + 2 → node_at t n ≡ w → ⊥
 
--- r is the number of w, or below 2 where no node is w
-pub record Finds (t : UniqueTable) (w r : ℕ) : Type 0 where
-  pub inside : 2 ≤ r → r < count_in t + 2
-  pub hit : 2 ≤ r → node_at t r ≡ w
-  pub miss : r < 2 → Lacks t w
+-- r is the number of w
+pub record Found (t : UniqueTable) (w r : ℕ) : Type 0 where
+  pub inner : 2 ≤ r
+  pub inside : r < count_in t + 2
+  pub hit : node_at t r ≡ w
+
+-- what a search for w answers: its number, or none where no node is w
+abbrev pub Finds : UniqueTable → ℕ → Option ℕ → Type 0
+Finds t w (Some r) = Found t w r
+Finds t w None = Lacks t w
 
 -- w is the last node
 pub record Adds (t : UniqueTable) (w r : ℕ) (t' : UniqueTable) : Type 0 where
@@ -69,9 +74,20 @@ pub record Adds (t : UniqueTable) (w r : ℕ) (t' : UniqueTable) : Type 0 where
   pub table : Table t'
   pub nodes : nodes_in t' ≡ nodes_in t ++ unpacked w ∷ []
 
--- r is the reference of the node of v, l and h, or 512 where there is no room for it
-pub data Interns (t : UniqueTable) (v l h r : ℕ) (t' : UniqueTable) : Type 0 where
-  alone : l ≡ h → r ≡ l → t' ≡ t → Interns t v l h r t'
-  found : (l ≡ h → ⊥) → 2 ≤ r → r < count_in t + 2 → node_at t r ≡ word_of (inner_node v l h) → t' ≡ t → Interns t v l h r t'
-  full : (l ≡ h → ⊥) → Lacks t (word_of (inner_node v l h)) → count_in t ≡ 510 → r ≡ 512 → t' ≡ t → Interns t v l h r t'
-  added : (l ≡ h → ⊥) → Lacks t (word_of (inner_node v l h)) → count_in t < 510 → Adds t (word_of (inner_node v l h)) r t' → Interns t v l h r t'
+-- r is the reference of the node of v, l and h
+pub data Interned (t : UniqueTable) (v l h r : ℕ) (t' : UniqueTable) : Type 0 where
+  alone : l ≡ h → r ≡ l → t' ≡ t → Interned t v l h r t'
+  found : (l ≡ h → ⊥) → Found t (word_of (inner_node v l h)) r → t' ≡ t → Interned t v l h r t'
+  added : (l ≡ h → ⊥) → Lacks t (word_of (inner_node v l h)) → count_in t < 510 → Adds t (word_of (inner_node v l h)) r t' → Interned t v l h r t'
+
+-- there is no room for that node
+pub record Full (t : UniqueTable) (v l h : ℕ) (t' : UniqueTable) : Type 0 where
+  pub apart : l ≡ h → ⊥
+  pub lacks : Lacks t (word_of (inner_node v l h))
+  pub full : count_in t ≡ 510
+  pub same : t' ≡ t
+
+-- what interning a node of v, l and h answers: its reference, or none where there is no room for it
+abbrev pub Interns : UniqueTable → ℕ → ℕ → ℕ → Option ℕ → UniqueTable → Type 0
+Interns t v l h (Some r) t' = Interned t v l h r t'
+Interns t v l h None t' = Full t v l h t'

@@ -16,13 +16,14 @@ use std::fs::File;
 use std::io;
 use std::io::Read;
 
-// Reads until the buffer is full or the file ends, and returns how many bytes it put at the buffer's start.
-fn read_full(file: &mut File, buf: &mut [u8]) -> io::Result<usize>
+// Reads until the buffer is full or the input ends, and returns how many bytes it put at the buffer's start.
+// Kept beside `command::read_full`, which takes a failed read for the input's end: here it is an error.
+fn read_full<R: Read>(input: &mut R, buf: &mut [u8]) -> io::Result<usize>
     ensures { IfOk result (λ n. n ≤ length buf.new) }
 {
     let mut done = 0;
     while done < buf.len() {
-        let n = file.read(&mut buf[done..])?;
+        let n = input.read(&mut buf[done..])?;
         if n == 0 {
             break;
         }
@@ -36,14 +37,18 @@ fn play(rt: &HostRuntime, path: &str) -> io::Result<()> {
     let mut file = File::open(rt, path)?;
     let mut text = [0u8; 65536];
     let n = read_full(&mut file, &mut text)?;
-    let mut buf = [0u8; script::BUFFER];
-    script::run(rt, &text[..n], &mut buf)
+    script::run(rt, &text[..n])
 }
 
 fn main(rt: HostRuntime) -> io::Result<()> {
-    play(&rt, "readers.txt")?;
-    play(&rt, "remarks.txt")?;
-    play(&rt, "searches.txt")?;
-    play(&rt, "joins.txt")?;
-    play(&rt, "padding.txt")
+    for path in [
+        "readers.txt",
+        "remarks.txt",
+        "searches.txt",
+        "joins.txt",
+        "padding.txt",
+    ] {
+        play(&rt, path)?;
+    }
+    Ok(())
 }

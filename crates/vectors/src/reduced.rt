@@ -1,20 +1,18 @@
 // The reduction of a diagram, into a buffer that is full of one byte: what the call answers, the file that it writes, and
-// which bytes it has changed that should stay. Of the command's numbers a is how many bytes of the buffer are lent, and b
-// what it is full of.
-use crate::lend::lend_file;
-use crate::written::{MOST_BYTES, low_byte, show_written};
-use script_files::read::Command;
+// which bytes it has changed that should stay.
+use crate::lend::lend;
+use crate::written::{MOST_BYTES, show_written};
 use std::io;
 
-// The reduction.
-pub fn show_reduced<'a>(
+// The reduction, into so many bytes of the buffer.
+pub fn show_reduced(
     rt: &impl Print,
-    chart: &'a [u8],
-    rules: &'a [u8],
-    c: Command,
+    chart: &[u8],
+    rules: &[u8],
+    bytes: usize,
+    full: u8,
 ) -> io::Result<()> {
-    let full = low_byte(c.b);
     let mut file = [full; MOST_BYTES];
-    let a = reduce::reduce(chart, rules, lend_file(&mut file, c.a as usize));
+    let a = reduce::reduce(chart, rules, lend(&mut file, bytes));
     show_written(rt, a, &file, full)
 }

@@ -3,155 +3,96 @@ use crate::joins::show_join;
 use crate::reduced::show_reduced;
 use crate::searches::{show_guided, show_sweep};
 use crate::show::{show_chart, show_diagram, show_field};
-use script_files::read::{Command, line_end, part, read_command, rest_of_line};
-use script_files::write::{LONGEST, add, copy, put};
+use script_files::read::{Call, Command, Role, Script};
+use script_files::rules::Rule;
+use script_files::write::FileBuffer;
 use std::io;
 
-// The buffer has the file in the making at its start, and after it the chart, the diagram and the second diagram.
-const CHART: usize = LONGEST;
-
-const RULES: usize = 2 * LONGEST;
-
-const MORE: usize = 3 * LONGEST;
-
-pub const BUFFER: usize = 4 * LONGEST;
-
-// Where the next command stands, and how many bytes the file in the making, the chart and both diagrams have.
-#[derive(Clone, Copy)]
-pub struct State {
-    pub at: usize,
-    pub file: usize,
-    pub chart: usize,
-    pub rules: usize,
-    pub more: usize,
+// The file in the making, and those that calls read: the chart, the diagram and the second diagram.
+#[derive(Drop)]
+struct Files {
+    making: FileBuffer,
+    chart: FileBuffer,
+    rules: FileBuffer,
+    more: FileBuffer,
 }
 
-// What a command makes of the file in the making: how many bytes it has then.
-fn made(c: Command, buf: &mut [u8], z: State) -> usize {
-    let letter = c.letter;
-    match letter {
-        b'b' => {
-            put(buf, c.a as usize, (c.b % 256) as u8);
-            z.file
+impl Files {
+    // All empty.
+    fn new() -> Self {
+        Files {
+            making: FileBuffer::new(),
+            chart: FileBuffer::new(),
+            rules: FileBuffer::new(),
+            more: FileBuffer::new(),
         }
-        b'k' => c.a as usize,
-        b'o' => {
-            copy(buf, CHART, 0);
-            z.chart
+    }
+
+    // Adds fields to the file in the making.
+    fn add(&mut self, count: u64, rule: Rule) {
+        for i in 0..count {
+            self.making.add(rule.field(i));
         }
-        b'w' | b'v' | b'u' => 0,
-        _ => add(buf, z.file, c),
     }
-}
 
-// Takes the file in the making for another one where the command has this letter: how many bytes that has then.
-fn taken(c: Command, letter: u8, buf: &mut [u8], to: usize, size: usize, old: usize) -> usize {
-    if c.letter != letter {
-        return old;
+    // Takes the file in the making for another.
+    fn take(&mut self, role: Role) {
+        match role {
+            Role::Chart => self.chart = self.making,
+            Role::Rules => self.rules = self.making,
+            Role::More => self.more = self.making,
+        }
+        self.making.set_size(0);
     }
-    copy(buf, 0, to);
-    size
-}
 
-// A command that shows what a call answers: of the file in the making, or of the chart and the diagrams.
-fn shown<'a>(
-    rt: &impl Print,
-    c: Command,
-    file: &'a [u8],
-    chart: &'a [u8],
-    rules: &'a [u8],
-    more: &'a [u8],
-) -> io::Result<()> {
-    let letter = c.letter;
-    match letter {
-        b'C' => show_chart(rt, file),
-        b'D' => show_diagram(rt, file, c.a as usize, true),
-        b'L' => show_diagram(rt, file, c.a as usize, false),
-        b'F' => show_field(rt, chart, rules, (c.a % 4294967296) as u32, c.b as usize),
-        b'W' => show_sweep(rt, chart, rules, c),
-        b'G' => show_guided(rt, chart, rules, c),
-        b'J' => show_join(rt, chart, rules, more, c),
-        b'R' => show_reduced(rt, chart, rules, c),
-        _ => Ok(()),
+    // What a call answers.
+    fn show(&self, rt: &impl Print, call: Call) -> io::Result<()> {
+        let making = self.making.bytes();
+        let chart = self.chart.bytes();
+        let rules = self.rules.bytes();
+        match call {
+            Call::ReadChart => show_chart(rt, making),
+            Call::ReadDiagram { groups, strict } => show_diagram(rt, making, groups, strict),
+            Call::RefusedField { file, place } => show_field(rt, chart, rules, file, place),
+            Call::Sweep(lent) => show_sweep(rt, chart, rules, lent),
+            Call::Guided(lent) => show_guided(rt, chart, rules, lent),
+            Call::Conjoin(lent) => show_join(rt, chart, rules, self.more.bytes(), lent),
+            Call::Reduce { bytes, full } => show_reduced(rt, chart, rules, bytes, full),
+        }
     }
-}
 
-// A capital letter is a call, and a label follows it.
-fn takes_label(letter: u8) -> bool {
-    match letter {
-        b'A'..=b'Z' => true,
-        _ => false,
+    // A label, and what a call answers, on a line of their own.
+    fn show_line(&self, rt: &impl Print, label: &[u8], call: Option<Call>) -> io::Result<()> {
+        rt.write_all(label)?;
+        if let Some(call) = call {
+            self.show(rt, call)?;
+        }
+        rt.write_all(b"\n")
     }
-}
 
-// A command with a label, which ends its line: writes the label and what the call answers.
-fn labelled(rt: &impl Print, label: &[u8], c: Command, buf: &[u8], z: State) -> io::Result<()> {
-    rt.write_all(label)?;
-    shown(
-        rt,
-        c,
-        part(buf, 0, z.file),
-        part(buf, CHART, z.chart),
-        part(buf, RULES, z.rules),
-        part(buf, MORE, z.more),
-    )?;
-    rt.write_all(b"\n")
-}
-
-// The place after a command without a label; a comment goes to the line's end.
-fn after(s: &[u8], c: Command) -> usize {
-    if c.letter == b'#' {
-        return line_end(s, c.next);
+    // One command. After a call the file in the making is empty.
+    fn turn(&mut self, rt: &impl Print, command: Command) -> io::Result<()> {
+        match command {
+            Command::Add { count, rule } => self.add(count, rule),
+            Command::SetByte { place, byte } => self.making.set_byte(place, byte),
+            Command::SetSize(size) => self.making.set_size(size),
+            Command::Take(role) => self.take(role),
+            Command::Restore => self.making = self.chart,
+            Command::Show { label, call } => {
+                self.show_line(rt, label, call)?;
+                self.making.set_size(0);
+            }
+            Command::Nothing => {}
+        }
+        Ok(())
     }
-    c.next
-}
-
-// After a command with a label the file in the making is empty.
-fn shown_turn(rt: &impl Print, s: &[u8], buf: &[u8], c: Command, z: State) -> io::Result<State> {
-    labelled(rt, rest_of_line(s, c.next), c, buf, z)?;
-    Ok(State {
-        at: line_end(s, c.next),
-        file: 0,
-        chart: z.chart,
-        rules: z.rules,
-        more: z.more,
-    })
-}
-
-fn made_turn(s: &[u8], buf: &mut [u8], c: Command, z: State) -> State {
-    State {
-        at: after(s, c),
-        chart: taken(c, b'w', buf, CHART, z.file, z.chart),
-        rules: taken(c, b'v', buf, RULES, z.file, z.rules),
-        more: taken(c, b'u', buf, MORE, z.file, z.more),
-        file: made(c, buf, z),
-    }
-}
-
-// The next command, where one is left.
-fn turn(rt: &impl Print, s: &[u8], buf: &mut [u8], z: State) -> io::Result<State> {
-    let at = z.at;
-    if s.len() <= at {
-        return Ok(z);
-    }
-    let c = read_command(s, s[at], at + 1);
-    if takes_label(c.letter) {
-        return shown_turn(rt, s, buf, c, z);
-    }
-    Ok(made_turn(s, buf, c, z))
 }
 
 // Every command of a script, in order.
-pub fn run(rt: &impl Print, s: &[u8], buf: &mut [u8]) -> io::Result<()> {
-    let mut z = State {
-        at: 0,
-        file: 0,
-        chart: 0,
-        rules: 0,
-        more: 0,
-    };
-    for _ in 0..s.len() {
-        z = turn(rt, s, buf, z)?;
+pub fn run(rt: &impl Print, text: &[u8]) -> io::Result<()> {
+    let mut files = Files::new();
+    for command in Script::new(text) {
+        files.turn(rt, command)?;
     }
     Ok(())
 }

@@ -1,8 +1,8 @@
 -- `field_bytes::write_header` meets its contract.
-use Rattle.buffer.specs.Appends.{append_both}
 use borrow.Author.Rules.{rules}
+use Rattle.buffer.specs.Writing.{wrote_both}
 use Rattle.field_bytes.proofs.write_header.Goals as goal
 
 pub returns : goal.returns
 returns c =
-    append_both (search rules) c.write_u8-at.ensures c.write_u16.ensures
+    wrote_both (search rules) c.write_u8.ensures c.write_u16.ensures

@@ -7,10 +7,6 @@ use Rattle.heap_sift.proofs.Places.{entry, key_within}
 use Rattle.heap_sift.proofs.Loops.{drop_start, drop_end, drop_stop, drop_turn}
 use Rattle.heap_sift.proofs.sift_down.Goals as goal
 
-pub loop-x-init : goal.loop-x-init
-loop-x-init c =
-    (refl, refl, c.requires.place, drop_start)
-
 pub key_at-below-requires : goal.key_at-below-requires
 key_at-below-requires c =
     key_within (c.loop-x.invariant.3 c.requires).moved.indexed c.args.keys.now c.requires.keys_fit c.least_child-c.result c.least_child-c.ensures.place

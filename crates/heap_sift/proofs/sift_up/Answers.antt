@@ -7,9 +7,6 @@ use Rattle.heap_sift.proofs.Places.{entry, key_within}
 use Rattle.heap_sift.proofs.Loops.{lift_start, lift_top, lift_stop, lift_turn}
 use Rattle.heap_sift.proofs.sift_up.Goals as goal
 
-pub loop-x-init : goal.loop-x-init
-loop-x-init c = (refl, refl, lift_start)
-
 pub key_at-above-requires : goal.key_at-above-requires
 key_at-above-requires c =
     let lifting = c.loop-x.invariant.2 c.requires in

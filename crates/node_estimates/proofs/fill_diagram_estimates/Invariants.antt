@@ -10,5 +10,3 @@ invariant-loop-n l =
     let t = nodes_in l.inner in
     (l.n-end ≡ l.count + 2) × Estimating t.step t.lo t.hi l.cost l.count l.estimates l.n
 
-abbrev pub decreases-loop-n : goal.decreases-loop-n
-decreases-loop-n l = l.n-end - l.n

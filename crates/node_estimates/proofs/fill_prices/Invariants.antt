@@ -7,5 +7,3 @@ use Rattle.node_estimates.proofs.fill_prices.Given as goal
 abbrev pub invariant-loop-e : goal.invariant-loop-e
 invariant-loop-e l = Pricing (steps_in l.steps) l.e-end l.e l.price × (l.e ≤ l.e-end)
 
-abbrev pub decreases-loop-e : goal.decreases-loop-e
-decreases-loop-e l = l.e-end - l.e

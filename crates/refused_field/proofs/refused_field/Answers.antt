@@ -1,39 +1,28 @@
 -- `refused_field::refused_field` meets its contract.
-use Rattle.refused_field.specs.Lies.{lies_chart, lies_past_chart, lies_rules, lies_past_rules, lies_none}
-use Rattle.refused_field.specs.Refused.{refused-laws}
+use Rattle.definitions.specs.Basics.{pick}
+use Rattle.definitions.specs.Fields.{refused_field}
+use Rattle.refused_field.specs.Lies.{refused_at, lies_none}
+use Rattle.refused_field.specs.Refused.{bytes_none}
 use Rattle.refused_field.proofs.refused_field.Goals as goal
 
-pub returns-then-place-chart : goal.returns-then-place-chart
-returns-then-place-chart c =
-    record {
-      bytes = search refused-laws;
-      lies = lies_chart _ _ _ _ _ _ c.if-file-eq1.true c.if-place-chart.true;
-    }
+pub returns-in-1-clause-bytes : goal.returns-in-1-clause-bytes
+unfolding refused_field pick
+returns-in-1-clause-bytes c = rw c.in-1.is c.part_of.ensures.bytes
 
-pub returns-then-file-eq1 : goal.returns-then-file-eq1
-returns-then-file-eq1 c =
-    record {
-      bytes = search refused-laws;
-      lies = lies_past_chart _ _ _ _ _ _ c.if-file-eq1.true c.if-place-chart.false;
-    }
+pub returns-in-1-clause-lies : goal.returns-in-1-clause-lies
+unfolding refused_at pick
+returns-in-1-clause-lies c = rw c.in-1.is c.part_of.ensures.lies
 
-pub returns-then-place-rules : goal.returns-then-place-rules
-returns-then-place-rules c =
-    record {
-      bytes = search refused-laws;
-      lies = lies_rules _ _ _ _ _ _ c.if-file-eq1.false c.if-file-eq2.true c.if-place-rules.true;
-    }
+pub returns-in-2-clause-bytes : goal.returns-in-2-clause-bytes
+unfolding refused_field pick
+returns-in-2-clause-bytes c = rw c.in-2.is c.part_of-in-2.ensures.bytes
 
-pub returns-then-file-eq2 : goal.returns-then-file-eq2
-returns-then-file-eq2 c =
-    record {
-      bytes = search refused-laws;
-      lies = lies_past_rules _ _ _ _ _ _ c.if-file-eq1.false c.if-file-eq2.true c.if-place-rules.false;
-    }
+pub returns-in-2-clause-lies : goal.returns-in-2-clause-lies
+unfolding refused_at pick
+returns-in-2-clause-lies c = rw c.in-2.is c.part_of-in-2.ensures.lies
 
-pub returns : goal.returns
-returns c =
-    record {
-      bytes = search refused-laws;
-      lies = lies_none _ _ _ _ _ _ c.if-file-eq1.false c.if-file-eq2.false;
-    }
+pub returns-in_default-clause-bytes : goal.returns-in_default-clause-bytes
+returns-in_default-clause-bytes c = search bytes_none
+
+pub returns-in_default-clause-lies : goal.returns-in_default-clause-lies
+returns-in_default-clause-lies c = search lies_none

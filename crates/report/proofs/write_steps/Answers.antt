@@ -1,14 +1,9 @@
 -- `report::write_steps` meets its contract.
 use borrow.Author.Rules.{rules}
-use Rattle.report.proofs.Lines.{steps_none, steps_more, steps_written}
+use Rattle.buffer.specs.Writing.{wrote_inside, wrote_next}
+use Rattle.report.specs.Text.{last_item, step_word}
 use Rattle.report.proofs.write_steps.Goals as goal
 
-pub loop-i-init : goal.loop-i-init
-loop-i-init c = (search rules, search steps_none)
-
-pub loop-i-preserved : goal.loop-i-preserved
-loop-i-preserved c =
-    (search rules, steps_more c.requires c.loop-i.invariant.1 (search rules) c.write_step-end.ensures)
-
-pub returns : goal.returns
-returns c = search steps_written
+pub loop-step-preserved : goal.loop-step-preserved
+loop-step-preserved c =
+    (wrote_inside (search rules) c.write_last_item.ensures, wrote_next (last_item step_word) _ c.loop-step.step-index 0 (search rules) (search rules) c.loop-step.invariant.1 c.write_last_item.ensures)

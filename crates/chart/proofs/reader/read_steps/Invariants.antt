@@ -1,14 +1,10 @@
--- The walk of `chart::read_steps`: the reader stands at the place that is read, and what is read so far is there.
-use Rattle.std.proofs.Common.{◌≡◌, ◌-◌, length}
-use Rattle.fields.specs.Scans.{left_of}
-use Rattle.chart.specs.Turns.{StandsAt}
+-- The walk of `chart::read_steps`: what is read so far is in the table.
+use Rattle.std.proofs.Common.{◌-◌, length}
+use Rattle.chart.specs.Turns.{SoFar}
 use Rattle.chart.proofs.reader.read_steps.Given as goal
 
-abbrev pub invariant-loop-read : goal.invariant-loop-read
-invariant-loop-read l =
-    (l.reader.src.now ≡ l.file)
-    × (l.reader.at ≡ l.read.place)
-    × StandsAt l.file l.stages l.steps l.read (l.first, l.fn.steps)
+abbrev pub invariant-loop-refusal : goal.invariant-loop-refusal
+invariant-loop-refusal l = SoFar l.file l.first l.stages l.fn.steps l.steps l.read
 
-abbrev pub decreases-loop-read : goal.decreases-loop-read
-decreases-loop-read l = left_of l.read.going (length l.file - l.read.place)
+abbrev pub decreases-loop-refusal : goal.decreases-loop-refusal
+decreases-loop-refusal l = length l.file - l.read.place

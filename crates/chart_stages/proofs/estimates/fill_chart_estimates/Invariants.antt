@@ -11,8 +11,5 @@ use Rattle.chart_stages.proofs.estimates.fill_chart_estimates.Given as goal
 
 abbrev pub invariant-loop-s : goal.invariant-loop-s
 invariant-loop-s l =
-    (l.s ≤ l.initial.s) × (l.initial.s < 256) × (length l.estimates ≡ 256)
-    × ((z : Shape) → Staged z (steps_in l.steps) l.first → z.end.0 ≡ l.initial.s → Told (graph (chart_in z (steps_in l.steps))) l.s l.estimates)
-
-abbrev pub decreases-loop-s : goal.decreases-loop-s
-decreases-loop-s l = l.s
+    (l.s ≤ l.end) × (l.end < 256) × (length l.estimates ≡ 256)
+    × ((z : Shape) → Staged z (steps_in l.steps) l.first → z.end.0 ≡ l.end → Told (graph (chart_in z (steps_in l.steps))) l.s l.estimates)

@@ -1,5 +1,5 @@
 -- The loop of `chart_stages::least_through`: what is known shows the least cost of the ways by the steps below e.
-use Prim.Native.Nat.{◌-◌, ◌≤◌}
+use Prim.Native.Nat.{◌≤◌}
 use Rattle.definitions.specs.Basics.{NONE}
 use Rattle.definitions.specs.Plans.{graph}
 use Rattle.chart.specs.Tables.{steps_in, chart_in}
@@ -12,6 +12,3 @@ abbrev pub invariant-loop-e : goal.invariant-loop-e
 invariant-loop-e l =
     (l.start ≤ l.e) × (l.e ≤ l.until) × (l.until ≤ 1024) × (l.best ≤ NONE)
     × ((x : Leaving (steps_in l.steps) l.start l.until l.estimates) → Shows (WayBy (graph (chart_in x.z (steps_in l.steps))) l.e x.s) l.best)
-
-abbrev pub decreases-loop-e : goal.decreases-loop-e
-decreases-loop-e l = l.until - l.e

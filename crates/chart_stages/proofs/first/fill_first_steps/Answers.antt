@@ -13,9 +13,9 @@ pub loop-s-preserved : goal.loop-s-preserved
 loop-s-preserved c = (
   search rules,
   search rules,
-  length-set c.loop-s.first c.loop-s.s c.larger-most.result ∙ c.loop-s.invariant.2,
+  length-set c.loop-s.first c.loop-s.s c.max-most.result ∙ c.loop-s.invariant.2,
   search rules,
-  λ sorted m. firsts_turn sorted m (c.loop-s.invariant.4 sorted m) (search rules) (search rules) c.larger-most.ensures,
+  λ sorted m. firsts_turn sorted m (c.loop-s.invariant.4 sorted m) (search rules) (search rules) c.max-most.ensures,
 )
 
 pub returns : goal.returns

@@ -1,5 +1,5 @@
 -- The loop of `chart_stages::fill_first_steps`: the entries of the stages below s are right.
-use Prim.Native.Nat.{◌+◌, ◌-◌, ◌≤◌}
+use Prim.Native.Nat.{◌+◌, ◌≤◌}
 use mathlib.Core.Path.{◌≡◌}
 use lib.ListN.{length}
 use Rattle.chart_fields.specs.Ends.{froms}
@@ -9,8 +9,5 @@ use Rattle.chart_stages.proofs.first.fill_first_steps.Given as goal
 
 abbrev pub invariant-loop-s : goal.invariant-loop-s
 invariant-loop-s l =
-    (1 ≤ l.s) × (l.s ≤ l.stages + 1) × (length l.first ≡ 257) × (l.last ≡ l.stages)
-    × ((sorted : SortedTable l.count (froms l.ends)) (m : EndTable l.count (froms l.ends) l.initial.first) → FirstsBefore sorted m l.s l.most l.first)
-
-abbrev pub decreases-loop-s : goal.decreases-loop-s
-decreases-loop-s l = l.stages + 1 - l.s
+    (1 ≤ l.s) × (l.s ≤ l.stages + 1) × (length l.first ≡ 257) × (l.s-end ≡ l.stages + 1)
+    × ((sorted : SortedTable l.count (froms l.steps.ends)) (m : EndTable l.count (froms l.steps.ends) l.initial.first) → FirstsBefore sorted m l.s l.most l.first)

@@ -1,16 +1,12 @@
 -- The loop of `diagram::put_nodes`: what holds at its head, and its measure.
-use Prim.Native.Nat.{◌-◌}
-use lib.ListN.{length}
-use Rattle.fields.specs.Scans.{left_of}
-use Rattle.fields.specs.Turns.{Run}
-use Rattle.diagram.specs.Turns.{SoFarAt, StandsAt, Underway}
+use Rattle.std.proofs.Common.{◌-◌, length}
+use Rattle.unique_table.specs.Held.{held, SameArray}
+use Rattle.diagram.proofs.Nodes.{Run}
 use Rattle.diagram.proofs.reader.put_nodes.Given as goal
 
-abbrev pub invariant-loop-here : goal.invariant-loop-here
-invariant-loop-here l =
-    Underway l.strict l.file l.steps l.initial.chains l.initial.inner l.initial.read
-    × Run l.file 18 6 l.initial.read.place l.read.place l.read.going l.here (SoFarAt l.strict l.file l.steps l.initial.chains l.initial.inner l.initial.read) (SoFarAt l.strict l.file l.steps l.chains l.inner l.read)
-    (StandsAt l.strict l.file l.steps l.chains l.inner l.read)
+abbrev pub invariant-loop-table : goal.invariant-loop-table
+invariant-loop-table l =
+    SameArray l.initial.table l.table × Run l.strict l.file l.groups l.initial.read (held l.initial.table) l.read (held l.table)
 
-abbrev pub decreases-loop-here : goal.decreases-loop-here
-decreases-loop-here l = left_of l.here (length l.file - l.read.place)
+abbrev pub decreases-loop-table : goal.decreases-loop-table
+decreases-loop-table l = length l.file - l.read.place

@@ -19,4 +19,4 @@ returns-then-s-at c =
     λ kind. c.faulty.ensures ∙ remark_cut _ _ c.requires _ c.read_u16.ensures (search rules) kind
 
 pub returns : goal.returns
-returns c = search remark_over
+returns c = remark_over _ _ c.requires _ (c.from-field.ensures ∙ c.read_u16.ensures) (search rules)

@@ -9,29 +9,9 @@ returns-then-key-step c =
     let pre = c.requires in
     (lowering_done _ _ _ _ _ pre.0 pre.1 (lowering_start _ _ _ _) _ pre.3 c.if-key-step.true, pre.3)
 
-pub offset_bounds-inner-m : goal.offset_bounds-inner-m
-offset_bounds-inner-m c =
-    omega (arith, c.requires.1.inside)
-
-pub bounds-inner-m : goal.bounds-inner-m
-bounds-inner-m c =
-    omega (arith, c.requires.1.inside)
-
-pub loop-step-init : goal.loop-step-init
-loop-step-init c =
-    (lowering_start _ _ _ _, refl, c.requires.3)
-
 pub returns : goal.returns
 returns c =
     (lowering_done _ _ _ _ _ c.requires.0 c.requires.1 c.loop-step.invariant.0 _ c.loop-step.invariant.2 (omega (arith, c.loop-step-test.false)), c.loop-step.invariant.2)
-
-pub offset_bounds-inner-m-in-loop-step : goal.offset_bounds-inner-m-in-loop-step
-offset_bounds-inner-m-in-loop-step c =
-    omega (arith, c.lo_of-m.ensures)
-
-pub bounds-inner-m-in-loop-step : goal.bounds-inner-m-in-loop-step
-bounds-inner-m-in-loop-step c =
-    omega (arith, c.lo_of-m.ensures)
 
 pub loop-step-smaller : goal.loop-step-smaller
 loop-step-smaller c =

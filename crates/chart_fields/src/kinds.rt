@@ -1,0 +1,35 @@
+// The kinds of steps.
+ghost use Rattle.std.specs.Prelude.{◌≡◌};
+ghost use Rattle.definitions.specs.Charts.{step_length};
+ghost use Rattle.chart_fields.specs.Kinds.{kind_tag};
+
+#[derive(Clone, Copy, PartialEq, Eq)]
+pub enum StepKind {
+    // A group alone, that of the step's own number.
+    Plain,
+    // A step that names its group.
+    Grouped,
+}
+
+impl StepKind {
+    // The tag of its fields.
+    pub fn tag(self) -> u8
+        ensures { result ≡ kind_tag self }
+    {
+        match self {
+            StepKind::Plain => 2,
+            StepKind::Grouped => 3,
+        }
+    }
+
+    // How long their bodies are.
+    #[tactic(auto, unfolding(definitions::specs::Basics::pick))]
+    pub fn length(self) -> u16
+        ensures { result ≡ step_length (kind_tag self) }
+    {
+        match self {
+            StepKind::Plain => 8,
+            StepKind::Grouped => 10,
+        }
+    }
+}

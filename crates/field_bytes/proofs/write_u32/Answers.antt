@@ -1,8 +1,0 @@
--- `field_bytes::write_u32` meets its contract.
-use Rattle.buffer.specs.Appends.{append_both}
-use borrow.Author.Rules.{rules}
-use Rattle.field_bytes.proofs.write_u32.Goals as goal
-
-pub returns : goal.returns
-returns c =
-    append_both (search rules) c.write_u16-at.ensures c.write_u16.ensures
