@@ -6,6 +6,7 @@ ghost use Rattle.guided_ends.specs.Ends.{Ending, Concludes};
 ghost use Rattle.guided_loop.specs.Views.{SameLent};
 ghost use Rattle.guided.specs.Runs.{with_plan, Room, Runs};
 
+use chart_fields::StepTable;
 use checks::{WalkTables, load, refusal};
 use definitions::{Answer, Shape};
 use guided_ends::{Ended, conclude};
@@ -32,7 +33,7 @@ fn run<'t>(
     slices: &mut Slices<'_>,
     plan: &mut [u16],
     z: Shape,
-    steps: &'t [[u32; 1024]; 2],
+    steps: &'t StepTable,
     inner: &'t [u32; 512],
 ) -> Answer
     requires tables { Tables z (read steps.now inner.now) }
@@ -77,21 +78,22 @@ pub fn guided(
         stack.new log.new plan.new in
         GuidedCall chart.now rules.now before after result }
 {
-    let mut steps = [[0u32; 1024]; 2];
+    let mut steps = StepTable::blank();
     let mut inner = [0u32; 512];
     let shorter = keys.len().min(via.len()).min(heap.len()).min(pos.len());
     let work = shorter.min(stack.len()).min(log.len());
-    let got = load(chart, rules, work, plan.len(), &mut steps, &mut inner);
-    if got.number != 0 {
-        return refusal(got.number, got.file, got.place, 0);
+    match load(chart, rules, work, plan.len(), &mut steps, &mut inner) {
+        Ok(z) => {
+            let mut slices = Slices {
+                keys,
+                via,
+                heap,
+                pos,
+                stack,
+                log,
+            };
+            run(&mut slices, plan, z, &steps, &inner)
+        }
+        Err(refused) => refusal(refused, 0),
     }
-    let mut slices = Slices {
-        keys,
-        via,
-        heap,
-        pos,
-        stack,
-        log,
-    };
-    run(&mut slices, plan, got.shape, &steps, &inner)
 }
