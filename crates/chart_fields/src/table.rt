@@ -11,6 +11,7 @@ use crate::kinds::StepKind;
 use definitions::{Group, Stage, Step};
 
 // By step: kind, group and both stages in one number, and the cost.
+#[derive(Drop)]
 pub struct StepTable {
     pub ends: [u32; 1024],
     pub costs: [u32; 1024],

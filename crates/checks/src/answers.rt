@@ -48,6 +48,16 @@ impl Refused {
             place: 0,
         }
     }
+
+    // The mark of the file at fault, 0 where none is.
+    pub fn file_mark(self) -> u8
+        ensures { result ≡ file_mark self.file }
+    {
+        match self.file {
+            Some(file) => file.mark(),
+            None => 0,
+        }
+    }
 }
 
 // What was read of a file, or that the file is at fault.
@@ -68,13 +78,9 @@ pub fn in_file<T, S: Drop>(read: Result<T, Stopped<S>>, file: InFile) -> Result<
 pub fn refusal(refused: Refused, count: usize) -> Answer
     ensures { result ≡ refusal_of (number refused.refusal) (file_mark refused.file) refused.place count }
 {
-    let file = match refused.file {
-        Some(file) => file.mark(),
-        None => 0,
-    };
     Answer {
         number: refused.refusal.number() as u32,
-        file: file as u32,
+        file: refused.file_mark() as u32,
         place: refused.place,
         cost: 0,
         length: 0,

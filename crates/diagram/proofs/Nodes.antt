@@ -1,8 +1,7 @@
 -- The walk over the nodes: how it begins, and one law for each way out of a turn.
 -- Assumes nothing.
 use Prim.Native.Nat.{ℕ, suc, ◌+◌, ◌-◌, ◌≤◌, ◌<◌}
-use Rattle.std.specs.Prelude.{Result, Ok, Err, ◌⊎◌}
-use Rattle.std.proofs.Common.{inl, inr}
+use Rattle.std.specs.Prelude.{Result, Ok, Err}
 use mathlib.Core.Path.{◌≡◌, refl, sym, ◌∙◌, ap}
 use mathlib.Core.Bool.{Bool, true, false, ◌&&◌}
 use mathlib.Core.List.{List, [], ◌∷◌, ◌++◌, map, append-nil, append_assoc, map-append}
@@ -239,28 +238,9 @@ module _ (mode : Bool) (s : List ℕ) (groups : ℕ) (r : NodesRead) (t : Unique
             },
       )
 
--- ---- a run of nodes, from `first` to r
+-- ---- a run of nodes, from `first` to r, where the next one stands
 
 pub record Run (mode : Bool) (s : List ℕ) (groups : ℕ) (first : NodesRead) (t₀ : UniqueTable) (r : NodesRead) (t : UniqueTable) : Type 0 where
+  pub has : HasField s r.place 18 6
   pub sofar : (o : ℕ × List ℕ) → SoFarAt mode s groups t₀ first o → SoFarAt mode s groups t r o
-  pub nearer : (r.place ≡ first.place) ⊎ (length s - r.place < length s - first.place)
-
-module _ (mode : Bool) (s : List ℕ) (groups : ℕ) (first : NodesRead) (t₀ : UniqueTable) where
-  pub run_start : Run mode s groups first t₀ first t₀
-  run_start = record { sofar = λ o h. h; nearer = inl refl }
-
-  module _ (r : NodesRead) (t : UniqueTable) (run : Run mode s groups first t₀ r t) where
-    pub run_underway : Underway mode s groups t₀ first → Underway mode s groups t r
-    run_underway u = (u.0, run.sofar u.0 u.1)
-
-    pub run_next : (t' : UniqueTable) (r' : NodesRead) → Takes mode s groups r t t' (Ok r') → Run mode s groups first t₀ r' t'
-    run_next t' r' takes = record {
-      sofar = λ o h. takes.1 o (run.sofar o h);
-      nearer = either run.nearer (λ q. inr (omega (arith, takes.0, ap (λ (p : ℕ). length s - p) q))) (λ q. inr (omega (arith, takes.0)));
-    }
-
-    pub run_stopped : (t' : UniqueTable) (e : Stopped ℕ) → Takes mode s groups r t t' (Err e) → Takes mode s groups first t₀ t' (Err e)
-    run_stopped t' e takes o h = takes o (run.sofar o h)
-
-    pub run_done : HasField s first.place 18 6 → (HasField s r.place 18 6 → ⊥) → Takes mode s groups first t₀ t (Ok r)
-    run_done has lacks = (either run.nearer (λ q. absurd (lacks (rw q has))) (λ q. q), run.sofar)
+  pub nearer : length s - r.place ≤ length s - first.place

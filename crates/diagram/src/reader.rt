@@ -110,10 +110,12 @@ fn put_nodes(
     ensures takes { Takes strict file.now groups first (held table.old) (held table.new) result }
 {
     let mut read = first;
-    while is_whole(file, read.place, 18, 6) {
+    loop {
         read = put_node(file, read, groups, strict, table)?;
+        if !is_whole(file, read.place, 18, 6) {
+            return Ok(read);
+        }
     }
-    Ok(read)
 }
 
 // The nodes from a place on, into a table without nodes: a reader, kept in a local, walks over them. Answers how many

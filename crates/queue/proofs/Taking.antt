@@ -8,7 +8,7 @@ use native.Mathlib.Decide.{ℕ_discrete}
 use native.Mathlib.Omega.{arith}
 use lib.ListN.{length, get_or}
 use Rattle.theory.specs.Counting.{pigeons}
-use Rattle.heap_sift.specs.Heap.{Slices, slices, In, Heap}
+use Rattle.heap_sift.specs.Heap.{Slices, slices}
 use Rattle.heap.specs.Calls.{Popped}
 use Rattle.queue.specs.Queue.{Counts, state, Contains, Queue, recent, Taken}
 use Rattle.queue.proofs.Facts.{contains_pair, floor_le}

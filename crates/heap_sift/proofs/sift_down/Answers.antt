@@ -1,10 +1,9 @@
 -- `sift_down` meets its contract. The loop: all is in order but between x and its children, and v is the key at x. The measure is n - x.
 -- Assumes nothing.
-use mathlib.Core.Path.{refl}
 use native.Mathlib.Omega.{arith}
 use borrow.Author.Rules.{rules}
 use Rattle.heap_sift.proofs.Places.{entry, key_within}
-use Rattle.heap_sift.proofs.Loops.{drop_start, drop_end, drop_stop, drop_turn}
+use Rattle.heap_sift.proofs.Loops.{drop_end, drop_stop, drop_turn}
 use Rattle.heap_sift.proofs.sift_down.Goals as goal
 
 pub key_at-below-requires : goal.key_at-below-requires

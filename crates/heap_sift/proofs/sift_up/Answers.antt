@@ -1,10 +1,9 @@
 -- `sift_up` meets its contract. The loop: all is in order but between x and its parent, and v is the key at x. The measure is x.
 -- Assumes nothing.
-use mathlib.Core.Path.{refl}
 use native.Mathlib.Omega.{arith}
 use borrow.Author.Rules.{rules}
 use Rattle.heap_sift.proofs.Places.{entry, key_within}
-use Rattle.heap_sift.proofs.Loops.{lift_start, lift_top, lift_stop, lift_turn}
+use Rattle.heap_sift.proofs.Loops.{lift_top, lift_stop, lift_turn}
 use Rattle.heap_sift.proofs.sift_up.Goals as goal
 
 pub key_at-above-requires : goal.key_at-above-requires

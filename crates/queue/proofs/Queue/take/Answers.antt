@@ -1,9 +1,8 @@
 -- `take` meets its contract: from the stack, from the heap, and where there is nothing to take.
 -- Assumes nothing.
-use mathlib.Core.Path.{refl, ap}
+use mathlib.Core.Path.{refl}
 use borrow.Author.Rules.{rules}
 use native.Mathlib.Omega.{arith}
-use Rattle.queue.specs.Views.{state_with}
 use Rattle.queue.proofs.Taking.{stack_within, take_none, take_within, take_stack, take_heap}
 use Rattle.queue.proofs.Queue.take.Goals as goal
 
