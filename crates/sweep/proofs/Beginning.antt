@@ -2,7 +2,6 @@
 -- Assumes nothing.
 use Prim.Native.Nat.{ℕ, ◌+◌, ◌-◌, ◌*◌, ◌<◌}
 use mathlib.Core.Path.{◌≡◌, sym, ◌∙◌, ap, ap₂, subst}
-use mathlib.Core.List.{List}
 use native.Mathlib.Omega.{arith}
 use lib.Dec.{eqb}
 use lib.ListN.{length, get_or, set, drop, replicate, length-append, length-replicate, length-drop, get_or-replicate, get_or-append}
@@ -59,37 +58,38 @@ module _ {z : Shape} {on : Walk} (y : Ready z on) where
       no_node = λ s h. blank.no_node s (omega (arith, few_stages z on.read y.tables));
     }
 
-    -- the costs are cleared, and the start's row starts at `base`
-    module _ {costs : List ℕ} (clears : costs ≡ cleared_costs z r.cost) {base : ℕ} (eb : base ≡ get_or on.row start 0) where
-      base_is : base ≡ start * a.size
-      base_is = eb ∙ row_start_lem z on y start start_inside ∙ ap (λ (k : ℕ). start * k) (sym (width_is z on.read y.tables))
+  -- where the start's row starts
+  abbrev base : ℕ
+  base = get_or on.row start 0
 
-      pub begin_fits : (start < 256) × (base + root < length costs) × (base < length r.nodes)
-      begin_fits =
-          let p = pair_inside g a start root start_inside y.tables.sound.root_inside in (
-            omega (arith, start_inside, few_stages z on.read y.tables),
-            omega (arith, base_is, pairs_is, ap length clears, cleared_long, blank.cost_fits),
-            omega (arith, base_is, pairs_is, blank.nodes_fits),
-          )
+  base_is : base ≡ start * a.size
+  base_is = row_start_lem z on y start start_inside ∙ ap (λ (k : ℕ). start * k) (sym (width_is z on.read y.tables))
 
-      -- the start's pair is in the tables
-      module _ {r' : Rows} (begins : r' ≡ begun_at base start root (rows costs r.via r.nodes r.counts)) where
-        begun_is : r' ≡ begun g a (cleared z r)
-        unfolding begun begun_at
-        begun_is =
-            let first_place : base ≡ pair a start 0 = omega (arith, base_is) in
-            begins
-            ∙ ap (λ (l : List ℕ). begun_at base start root (rows l r.via r.nodes r.counts)) clears
-            ∙ ap₂ (λ (i j : ℕ). pick (eqb root 0) (cleared z r) (rows (set (cleared_costs z r.cost) (i + root) 0) r.via (set r.nodes j root) (set r.counts start 1))) base_is first_place
+  module _ {r : Rows} (fresh : Fresh g a r) where
+    pub begin_fits : (start < 256) × (base + root < length r.cost) × (base < length r.nodes)
+    begin_fits =
+        let p = pair_inside g a start root start_inside y.tables.sound.root_inside in (
+          omega (arith, start_inside, few_stages z on.read y.tables),
+          omega (arith, base_is, fresh.cost_fits),
+          omega (arith, base_is, fresh.nodes_fits),
+        )
 
-        pub begun_row : Row z on start r'
-        begun_row = record {
-          ready = y;
-          table = subst (Table g a start) (sym begun_is)
-              (begun_table g a y.tables.valid (lawful_in z on.read y.tables) (cleared z r) cleared_fresh (at on.first) (first_steps z on y));
-          stage = omega (arith, start_inside);
-        }
+    -- the start's pair is in the tables
+    module _ {r' : Rows} (begins : r' ≡ begun_at base start root r) where
+      begun_is : r' ≡ begun g a r
+      unfolding begun begun_at
+      begun_is =
+          let first_place : base ≡ pair a start 0 = omega (arith, base_is) in
+          begins ∙ ap₂ (λ (i j : ℕ). pick (eqb root 0) r (rows (set r.cost (i + root) 0) r.via (set r.nodes j root) (set r.counts start 1))) base_is first_place
 
-        pub swept_is : {r'' : Rows} → r'' ≡ relax_rows g a (at on.first) start (z.stages - start) r' → r'' ≡ swept g a (at on.first) (cleared z r)
-        unfolding swept
-        swept_is e = e ∙ ap (relax_rows g a (at on.first) start (z.stages - start)) begun_is
+      pub begun_row : Row z on start r'
+      begun_row = record {
+        ready = y;
+        table = subst (Table g a start) (sym begun_is)
+            (begun_table g a y.tables.valid (lawful_in z on.read y.tables) r fresh (at on.first) (first_steps z on y));
+        stage = omega (arith, start_inside);
+      }
+
+      pub swept_is : {r'' : Rows} → r'' ≡ relax_rows g a (at on.first) start (z.stages - start) r' → r'' ≡ swept g a (at on.first) r
+      unfolding swept
+      swept_is e = e ∙ ap (relax_rows g a (at on.first) start (z.stages - start)) begun_is

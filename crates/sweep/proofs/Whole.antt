@@ -1,17 +1,16 @@
 -- Laws of `run` and `sweep`: the parts together give the promise.
 -- Assumes nothing.
 use Prim.Native.Nat.{ℕ, ◌+◌, ◌*◌, ◌≤◌, min}
-use mathlib.Core.Path.{◌≡◌, refl, sym, ◌∙◌, ap, ap₂, subst}
+use mathlib.Core.Path.{◌≡◌, refl, sym, ◌∙◌, ap, subst}
 use mathlib.Core.List.{List, [], ◌∷◌, ◌++◌}
 use native.Mathlib.Omega.{arith}
 use lib.ListN.{length, drop, replicate, length-replicate, get_or-replicate}
 use lib.Seq.{drop-append_seam}
 use Rattle.definitions.specs.Basics.{NONE}
-use Rattle.definitions.specs.Charts.{Chart}
-use Rattle.definitions.specs.Diagrams.{Diagram}
 use Rattle.definitions.specs.Ways.{Graph}
 use Rattle.definitions.specs.Pairs.{Automaton, row_starts, pairs}
-use Rattle.definitions.specs.Answers.{Load, ready, refused, load, work_need, refusal}
+use Rattle.definitions.specs.Answers.{Load, ready, load, work_need, refusal}
+use Rattle.definitions.specs.Refusals.{number}
 use Rattle.definitions.specs.Promises.{least_costs, SweepSlices, sweep_slices, sweep_load, SweepPromise, SweepCall}
 use Rattle.definitions.specs.declared.Answer.{Answer}
 use Rattle.definitions.specs.declared.Shape.{Shape}
@@ -23,9 +22,10 @@ use Rattle.sweep_model.specs.Rows.{Past}
 use Rattle.sweep_model.specs.Result.{Fresh, Finished, finished, final_past, final_costs}
 use Rattle.sweep_model.specs.Sweeps.{FirstSteps}
 use Rattle.checks.specs.Outcome.{load_shortest, ready_space}
-use Rattle.checks.specs.Tables.{Read, Tables, LoadsAs, chart_in, diagram_in, pairs_in}
+use Rattle.checks.specs.Tables.{Read, Tables, chart_in, diagram_in, pairs_in}
 use Rattle.checks.specs.Ready.{walk, Ready, graph_in, automaton_in, lawful_in, few_stages, few_nodes}
-use Rattle.checks.specs.declared.Loaded.{Loaded}
+use Rattle.checks.specs.declared.answers.Refused.{Refused}
+use Rattle.checks.specs.Refusing.{file_mark, refused_as}
 use Rattle.sweep_rows.specs.Standing.{at}
 use Rattle.sweep_rows.specs.Leaving.{first_steps}
 use Rattle.sweep.specs.Runs.{Space, Blank, cleared_costs, cleared, Final, Concludes}
@@ -57,8 +57,8 @@ module _ {z : Shape} {t : Read} (in_tables : Tables z t) where
       abbrev pub lent : Rows
       lent = rows before.cost before.via before.nodes (replicate 256 0)
 
-      pub run_blank : Blank z lent
-      run_blank = record {
+      lent_blank : Blank z lent
+      lent_blank = record {
         cost_fits = space.cost_fits;
         via_fits = space.via_fits;
         nodes_fits = space.nodes_fits;
@@ -67,13 +67,27 @@ module _ {z : Shape} {t : Read} (in_tables : Tables z t) where
       }
 
       fresh : Fresh g a (cleared z lent)
-      fresh = cleared_fresh run_ready run_blank
+      fresh = cleared_fresh run_ready lent_blank
 
       leaving : FirstSteps g (at first)
       leaving = first_steps z (walk t first row) run_ready
 
+      -- the costs are cleared
+      module _ {costs : List ℕ} (clears : costs ≡ cleared_costs z before.cost) where
+        abbrev pub blank : Rows
+        blank = rows costs before.via before.nodes (replicate 256 0)
+
+        blank_is : blank ≡ cleared z lent
+        blank_is = ap (λ (l : List ℕ). rows l before.via before.nodes (replicate 256 0)) clears
+
+        pub run_fresh : Fresh g a blank
+        run_fresh = subst (Fresh g a) (sym blank_is) fresh
+
       -- the tables after it
-      module _ {r' : Rows} (is_swept : r' ≡ swept g a (at first) (cleared z lent)) where
+      module _ {costs : List ℕ} (clears : costs ≡ cleared_costs z before.cost) {r' : Rows} (sweeps : r' ≡ swept g a (at first) (blank clears)) where
+        is_swept : r' ≡ swept g a (at first) (cleared z lent)
+        is_swept = sweeps ∙ ap (swept g a (at first)) (blank_is clears)
+
         pub run_final : Final z t row r'
         run_final = record {
           tables = in_tables;
@@ -99,9 +113,9 @@ module _ {z : Shape} {t : Read} (in_tables : Tables z t) where
             let q = need z t ∙ sym same in
             ap (λ (k : ℕ). drop k x') q ∙ e ∙ ap (λ (k : ℕ). drop k x) (sym q)
 
-        pub run_promised : {plan' : List ℕ} {ans : Answer} → Concludes z t before.plan plan' ans
-            → SweepPromise (ready (chart_in z t) (diagram_in z t)) before (sweep_slices r'.cost r'.via r'.nodes plan') ans
-        run_promised x = record {
+        pub run_promised : {costs' via' nodes' plan' : List ℕ} {ans : Answer} → costs' ≡ r'.cost → via' ≡ r'.via → nodes' ≡ r'.nodes → Concludes z t before.plan plan' ans
+            → SweepPromise (ready (chart_in z t) (diagram_in z t)) before (sweep_slices costs' via' nodes' plan') ans
+        run_promised ec ev en x = rw (ec, ev, en) (record {
           swept = (
             x.outcome,
             ap (λ (y : Rows). y.cost) is_swept
@@ -110,47 +124,27 @@ module _ {z : Shape} {t : Read} (in_tables : Tables z t) where
           );
           via = (past.via_long, untouched before.via r'.via past.via_past);
           nodes = (past.nodes_long, untouched before.nodes r'.nodes past.nodes_past);
-        }
-
--- a refusal leaves everything
-refused_promised : (o : Load) (t : Read) (before : SweepSlices) (x : Loaded) (r : Answer) → LoadsAs o t x → (x.number ≡ 0 → ⊥)
-    → r ≡ refusal x.number x.file x.place 0 → SweepPromise o before before r
-refused_promised (refused number file place) t before x r l h e = record { swept = (e ∙ rw (l.0.0, l.0.1, l.0.2), refl, refl); via = refl; nodes = refl }
-refused_promised (ready c d) t before x r l h e = absurd (h l.0)
-
--- where all checks pass, the chart and the diagram stand in the tables
-record Passed (o : Load) (t : Read) (z : Shape) : Type 0 where
-  pub tables : Tables z t
-  pub outcome : o ≡ ready (chart_in z t) (diagram_in z t)
-
-passed : (o : Load) (t : Read) (x : Loaded) → LoadsAs o t x → x.number ≡ 0 → Passed o t x.shape
-passed (refused number file place) t x l h = absurd (l.1 (sym l.0.0 ∙ h))
-passed (ready c d) t x l h = record { tables = l.3; outcome = sym (ap₂ (λ (i : Chart) (j : Diagram). ready i j) l.1 l.2) }
+        })
 
 -- the call on the files s and u: the checks are made with the shortest work slice
-module _ (s u : List ℕ) (before : SweepSlices) {work : ℕ} (ew : work ≡ min (min (length before.cost) (length before.via)) (length before.nodes))
-    (t : Read) (x : Loaded) (l : LoadsAs (load s u (work ∷ []) (length before.plan)) t x) where
-  abbrev z : Shape
-  z = x.shape
+module _ (s u : List ℕ) (before : SweepSlices) {work : ℕ} (ew : work ≡ min (min (length before.cost) (length before.via)) (length before.nodes)) where
+  abbrev loaded : Load
+  loaded = load s u (work ∷ []) (length before.plan)
 
-  checked : sweep_load s u before ≡ load s u (work ∷ []) (length before.plan)
+  checked : sweep_load s u before ≡ loaded
   checked =
       load_shortest s u (length before.cost) (length before.via ∷ length before.nodes ∷ []) (length before.plan)
       ∙ ap (λ (k : ℕ). load s u (k ∷ []) (length before.plan)) (sym ew)
 
-  pub call_refused : {r : Answer} → (x.number ≡ 0 → ⊥) → r ≡ refusal x.number x.file x.place 0 → SweepCall s u before before r
-  call_refused {r} h e = subst (λ (o : Load). SweepPromise o before before r) (sym checked) (refused_promised _ t before x r l h e)
+  -- a refusal leaves everything
+  pub call_refused : (x : Refused) {r : Answer} → loaded ≡ refused_as x → r ≡ refusal (number x.refusal) (file_mark x.file) x.place 0 → SweepCall s u before before r
+  call_refused x {r} h e = subst (λ (o : Load). SweepPromise o before before r) (sym (checked ∙ h)) (record { swept = (e, refl, refl); via = refl; nodes = refl })
 
-  module _ (h : x.number ≡ 0) where
-    ok : Passed (load s u (work ∷ []) (length before.plan)) t z
-    ok = passed _ t x l h
-
-    pub call_tables : Tables z t
-    call_tables = ok.tables
-
+  -- where all checks pass, the chart and the diagram stand in the tables
+  module _ (z : Shape) (t : Read) (h : loaded ≡ ready (chart_in z t) (diagram_in z t)) where
     pub call_space : Space z before
     call_space =
-        let enough = ready_space s u work (length before.plan) (chart_in z t) (diagram_in z t) ok.outcome in
+        let enough = ready_space s u work (length before.plan) (chart_in z t) (diagram_in z t) h in
         record {
           cost_fits = omega (arith, need z t, enough);
           via_fits = omega (arith, need z t, enough);
@@ -159,4 +153,4 @@ module _ (s u : List ℕ) (before : SweepSlices) {work : ℕ} (ew : work ≡ min
         }
 
     pub call_ready : {after : SweepSlices} {r : Answer} → SweepPromise (ready (chart_in z t) (diagram_in z t)) before after r → SweepCall s u before after r
-    call_ready {after} {r} p = subst (λ (o : Load). SweepPromise o before after r) (sym (checked ∙ ok.outcome)) p
+    call_ready {after} {r} p = subst (λ (o : Load). SweepPromise o before after r) (sym (checked ∙ h)) p

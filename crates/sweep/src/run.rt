@@ -2,58 +2,47 @@
 ghost use Rattle.std.specs.Prelude.{◌≡◌};
 ghost use Rattle.definitions.specs.Answers.{ready};
 ghost use Rattle.definitions.specs.Promises.{sweep_slices, SweepPromise, SweepCall};
-ghost use Rattle.sweep_model.specs.Model.{rows, swept};
+ghost use Rattle.sweep_model.specs.Model.{swept};
+ghost use Rattle.sweep_model.specs.Result.{Fresh};
 ghost use Rattle.checks.specs.Tables.{read, Tables, chart_in, diagram_in};
-ghost use Rattle.checks.specs.Ready.{walk, Ready, graph_in, automaton_in};
+ghost use Rattle.checks.specs.Ready.{walked, Ready, graph_in, automaton_in};
+ghost use Rattle.sweep_offers.specs.Offers.{held, SameSlices};
 ghost use Rattle.sweep_rows.specs.Standing.{at};
-ghost use Rattle.sweep.specs.Runs.{Space, Blank, cleared};
+ghost use Rattle.sweep.specs.Runs.{Space};
 
 use crate::conclude::conclude;
-use chart_fields::ENDS;
+use chart_fields::StepTable;
 use chart_stages::fill_first_steps;
-use checks::{load, refusal};
-use convert::{lesser, wide};
-use definitions::{Answer, Shape};
-use entries::clear;
+use checks::{WalkTables, load, refusal};
+use definitions::{Answer, NONE, Shape};
 use rows::fill_row_starts;
 use sweep_ends::begin;
+use sweep_offers::Rows;
 use sweep_rows::relax_rows;
 
-// The least cost of every pair, from any content of the slices.
-fn least_costs<'a>(
-    costs: &mut [u32],
-    via: &mut [u32],
-    nodes: &mut [u32],
-    counts: &mut [u32; 256],
-    z: Shape,
-    steps: &'a [[u32; 1024]; 2],
-    first: &'a [u16; 257],
-    row: &'a [u32; 256],
-    inner: &'a [u32; 512],
-)
-    requires ready { Ready z (walk (read steps.now inner.now) first.now row.now) }
-    requires blank { Blank z (rows costs.old via.old nodes.old counts.old) }
-    ensures { let t = read steps.now inner.now in
-        let before = rows costs.old via.old nodes.old counts.old in
-        let after = rows costs.new via.new nodes.new counts.new in
-        after ≡ swept (graph_in z t) (automaton_in z t) (at first.now) (cleared z before) }
+// The least cost of every pair, from tables where none is reached.
+fn least_costs(rows: &mut Rows<'_>, tables: WalkTables<'_>, z: Shape)
+    requires ready { Ready z (walked tables) }
+    requires fresh { let w = walked tables in
+        Fresh (graph_in z w.read) (automaton_in z w.read) (held rows.old) }
+    ensures becomes { let w = walked tables.entry in
+        held rows.new ≡ swept (graph_in z w.read) (automaton_in z w.read) (at w.first) (held rows.old) }
+    ensures same { SameSlices rows.old rows.new }
 {
-    let width = z.nodes + 2;
-    clear(costs, z.stages as usize * width);
-    let base = wide(row[z.start.0 as usize]);
-    begin(costs, nodes, counts, base, z.start, z.root);
-    relax_rows(costs, via, nodes, counts, z, steps, first, row, inner);
+    let base = tables.row[z.start.0 as usize] as usize;
+    begin(rows, base, z.start, z.root);
+    relax_rows(rows, tables, z);
 }
 
 // The sweep of a chart and a diagram that stand in tables.
-fn run<'a>(
+fn run(
     costs: &mut [u32],
     via: &mut [u32],
     nodes: &mut [u32],
     plan: &mut [u16],
     z: Shape,
-    steps: &'a [[u32; 1024]; 2],
-    inner: &'a [u32; 512],
+    steps: &StepTable,
+    inner: &[u32; 512],
 ) -> Answer
     requires tables { Tables z (read steps.now inner.now) }
     requires space { Space z (sweep_slices costs.old via.old nodes.old plan.old) }
@@ -63,22 +52,24 @@ fn run<'a>(
         SweepPromise (ready (chart_in z t) (diagram_in z t)) before after result }
 {
     let mut first = [0u16; 257];
-    fill_first_steps(&mut first, &steps[ENDS], z.steps, z.stages);
+    fill_first_steps(&mut first, steps, z.steps, z.stages);
     let mut row = [0u32; 256];
     fill_row_starts(&mut row, z.stages as usize, z.nodes + 2);
-    let mut counts = [0u32; 256];
-    least_costs(
+    let tables = WalkTables {
+        steps,
+        inner,
+        first: &first,
+        row: &row,
+    };
+    costs[..z.stages as usize * (z.nodes + 2)].fill(NONE);
+    let mut rows = Rows {
         costs,
         via,
         nodes,
-        &mut counts,
-        z,
-        steps,
-        &first,
-        &row,
-        inner,
-    );
-    conclude(costs, via, nodes, &counts, z, steps, &row, inner, plan)
+        counts: [0; 256],
+    };
+    least_costs(&mut rows, tables, z);
+    conclude(&rows, tables, z, plan)
 }
 
 // The least cost of every pair and a cheapest legal plan, from both files. `cost` gets the least costs; `via` and
@@ -95,12 +86,11 @@ pub fn sweep(
         let after = sweep_slices cost.new via.new nodes.new plan.new in
         SweepCall chart.now rules.now before after result }
 {
-    let mut steps = [[0u32; 1024]; 2];
+    let mut steps = StepTable::blank();
     let mut inner = [0u32; 512];
-    let work = lesser(lesser(cost.len(), via.len()), nodes.len());
-    let got = load(chart, rules, work, plan.len(), &mut steps, &mut inner);
-    if got.number != 0 {
-        return refusal(got.number, got.file, got.place, 0);
+    let work = cost.len().min(via.len()).min(nodes.len());
+    match load(chart, rules, work, plan.len(), &mut steps, &mut inner) {
+        Ok(z) => run(cost, via, nodes, plan, z, &steps, &inner),
+        Err(refused) => refusal(refused, 0),
     }
-    run(cost, via, nodes, plan, got.shape, &steps, &inner)
 }

@@ -4,10 +4,10 @@ ghost use Rattle.sweep_model.specs.Totals.{total};
 ghost use Rattle.sweep_ends.specs.Goals.{Better, Chosen, Listed};
 ghost use Rattle.sweep_rows.specs.Standing.{at};
 
-use convert::wide;
-use definitions::{NONE, Node};
+use definitions::Node;
+use sweep_offers::Rows;
 
-// A goal pair's cost, NONE where there is none yet, and its node.
+// A goal pair's cost, and its node.
 #[derive(Clone, Copy)]
 pub struct Best {
     pub cost: u32,
@@ -15,40 +15,26 @@ pub struct Best {
 }
 
 // The better of the best goal pair so far and node n at cost v, if that is one.
-fn better(best: Best, n: Node, v: u32, yes: bool) -> Best
-    ensures { Better best n.0 v yes result }
+fn better(best: Option<Best>, n: Node, v: u32, yes: bool) -> Option<Best>
+    ensures { Better n.0 v yes best result }
 {
-    let cost = best.cost;
-    if cost <= v {
-        return best;
-    }
-    if yes {
-        return Best { cost: v, node: n };
+    if yes && best.is_none_or(|b| v < b.cost) {
+        return Some(Best { cost: v, node: n });
     }
     best
 }
 
 // The cheapest goal pair among the first `count` nodes of the list of the row that starts at `base`.
-pub fn cheapest_goal<'a>(
-    costs: &'a [u32],
-    nodes: &'a [u32],
-    yes: &'a [bool; 512],
-    base: usize,
-    count: usize,
-) -> Best
-    requires { Listed base count costs.now nodes.now }
-    ensures { Chosen base count costs.now nodes.now yes.now result }
+pub fn cheapest_goal(rows: &Rows<'_>, yes: &[bool; 512], base: usize, count: usize) -> Option<Best>
+    requires { Listed base count rows.now.costs.now rows.now.nodes.now }
+    ensures { Chosen base count rows.now.costs.now rows.now.nodes.now yes.now result }
 {
-    let mut best = Best {
-        cost: NONE,
-        node: Node(0),
-    };
-    let mut k: usize = 0;
-    while k < count {
-        let n = wide(nodes[base + k]);
-        let v = costs[base + n];
+    let mut best = None;
+    // By index: where no node is listed, `Listed` does not promise that the list's slice begins inside `nodes`.
+    for k in 0..count {
+        let n = rows.nodes[base + k] as usize;
+        let v = rows.costs[base + n];
         best = better(best, Node(n as u16), v, yes[n]);
-        k += 1;
     }
     best
 }
@@ -58,11 +44,5 @@ pub fn total_count(counts: &[u32; 256], stages: usize) -> usize
     requires { stages ≤ 256 }
     ensures { result ≡ total (at counts.now) stages }
 {
-    let mut sum: usize = 0;
-    let mut s: usize = 0;
-    while s < stages {
-        sum += wide(counts[s]);
-        s += 1;
-    }
-    sum
+    counts[..stages].iter().map(|&count| count as usize).sum()
 }

@@ -1,7 +1,7 @@
 -- One law for each way out of `offer`.
 -- Assumes nothing.
 use Prim.Native.Nat.{ℕ, ◌+◌, ◌≤◌, ◌<◌}
-use mathlib.Core.Path.{◌≡◌, sym, ◌∙◌, ap}
+use mathlib.Core.Path.{◌≡◌, sym, ◌∙◌}
 use lib.ListN.{get_or, set}
 use borrow.Author.Tests.{le-leb, lt-leb, eq-eqb, ne_eqb}
 use Rattle.definitions.specs.Basics.{NONE}
@@ -13,13 +13,10 @@ module _ (base s t v mark : ℕ) (r : Rows) where
   unfolding offer
   offer_kept h = sym (pick_true _ _ _ (le-leb _ _ h))
 
-  pub offer_new : v < get_or r.cost (base + t) 0 → get_or r.cost (base + t) 0 ≡ NONE → (k at : ℕ) → k ≡ get_or r.counts s 0 → at ≡ base + k
-      → rows (set r.cost (base + t) v) (set r.via (base + t) mark) (set r.nodes at t) (set r.counts s (k + 1)) ≡ offer base s t v mark r
+  pub offer_new : v < get_or r.cost (base + t) 0 → get_or r.cost (base + t) 0 ≡ NONE
+      → rows (set r.cost (base + t) v) (set r.via (base + t) mark) (set r.nodes (base + get_or r.counts s 0) t) (set r.counts s (get_or r.counts s 0 + 1)) ≡ offer base s t v mark r
   unfolding offer
-  offer_new h q k at e f =
-      ap (λ (i : ℕ). rows (set r.cost (base + t) v) (set r.via (base + t) mark) (set r.nodes i t) (set r.counts s (k + 1))) f
-      ∙ ap (λ (i : ℕ). rows (set r.cost (base + t) v) (set r.via (base + t) mark) (set r.nodes (base + i) t) (set r.counts s (i + 1))) e
-      ∙ sym (pick_false _ _ _ (lt-leb _ _ h) ∙ pick_true _ _ _ (eq-eqb _ _ q))
+  offer_new h q = sym (pick_false _ _ _ (lt-leb _ _ h) ∙ pick_true _ _ _ (eq-eqb _ _ q))
 
   pub offer_lower : v < get_or r.cost (base + t) 0 → (get_or r.cost (base + t) 0 ≡ NONE → ⊥)
       → rows (set r.cost (base + t) v) (set r.via (base + t) mark) r.nodes r.counts ≡ offer base s t v mark r

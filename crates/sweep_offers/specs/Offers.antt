@@ -3,8 +3,17 @@
 use Rattle.std.specs.Prelude.{ℕ, ◌+◌, ◌<◌, ◌≡◌, List, eqb, length, get_or}
 use Rattle.definitions.specs.Basics.{NONE, pick}
 use Rattle.via_marks.specs.Marks.{packed}
-use Rattle.sweep_model.specs.Model.{Rows, offer}
+use Rattle.sweep_model.specs.Model.{Rows, rows, offer}
 use Rattle.chart.specs.Tables.{Steps}
+use Rattle.sweep_offers.specs.declared.Rows as declared
+
+-- what the code's tables hold
+abbrev pub held : declared.Rows → Rows
+held r = rows r.costs.now r.via.now r.nodes.now r.counts
+
+-- both lie over the same lent slices
+abbrev pub SameSlices : declared.Rows → declared.Rows → Type 0
+SameSlices r r' = (r'.costs.ghost_name ≡ r.costs.ghost_name) × (r'.via.ghost_name ≡ r.via.ghost_name) × (r'.nodes.ghost_name ≡ r.nodes.ghost_name)
 
 -- the pair of stage s, whose row starts at `base`, and node t can take an offer: it stands in the slices, and if it is new its row's list has room
 pub record Open (base s t : ℕ) (r : Rows) : Type 0 where

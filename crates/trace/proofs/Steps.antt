@@ -1,13 +1,13 @@
 -- Laws of trails: how a step back shortens one, and what the loop that follows one keeps.
 -- Assumes nothing.
 use Prim.Native.Nat.{ℕ, suc, ◌+◌, ◌-◌, ◌*◌, ◌≤◌, ◌<◌}
-use mathlib.Core.Path.{◌≡◌, refl, sym, ◌∙◌, ap, subst₂}
-use mathlib.Core.List.{List, [], ◌∷◌, ◌++◌, append-nil}
+use mathlib.Core.Path.{◌≡◌, refl, sym, ◌∙◌, ap, ap₂, subst₂}
+use mathlib.Core.List.{List, [], ◌∷◌, ◌++◌, append-nil, reverse, reverse-reverse}
 use native.Mathlib.Omega.{arith}
 use native.Mathlib.Nat.{mul-le-mul_right}
 use native.Mathlib.Numerals.{add-one}
-use lib.ListN.{length, get_or, set, drop}
-use lib.Seq.{append_snoc, drop-cons, set_at}
+use lib.ListN.{length, get_or, set, take, drop, length-reverse}
+use lib.Seq.{append_snoc, drop-cons, set_at, take_at, drop_at}
 use Rattle.rows.specs.Rows.{row_at}
 use Rattle.via_marks.specs.Marks.{packed, step_in, step_packed, node_packed}
 use Rattle.trace.specs.Trails.{CameFrom, Trail, begin, more, trail_short, Traceable}
@@ -20,6 +20,14 @@ put_on i l xs plan e h q p =
     ∙ set_at xs (get_or l i 0) (drop (suc i) l) e i q
     ∙ sym (append_snoc xs e (drop (suc i) l))
     ∙ ap (λ (k : ℕ). xs ++ e ∷ [] ++ drop k l) (sym (add-one i))
+
+-- what stands backwards at a list's front stands forwards once the front is reversed
+pub reversed_back : (w rest l : List ℕ) (count : ℕ) → count ≡ length w → l ≡ reverse w ++ rest → reverse (take count l) ++ drop count l ≡ w ++ rest
+reversed_back w rest l count e p =
+    let long : length (reverse w) ≡ count = length-reverse w ∙ sym e in
+    ap (λ (z : List ℕ). reverse (take count z) ++ drop count z) p
+    ∙ ap₂ (λ (x y : List ℕ). reverse x ++ y) (take_at (reverse w) rest count long) (drop_at (reverse w) rest count long)
+    ∙ ap (λ (z : List ℕ). z ++ rest) (reverse-reverse w)
 
 module _ (via from : List ℕ) (width start : ℕ) where
   abbrev Way : ℕ → ℕ → List ℕ → Type 0

@@ -1,8 +1,9 @@
 -- `sweep::conclude` meets its contract: with no goal pair there is no plan, else the best one's trail is written.
-use Prim.Native.Nat.{◌<◌}
-use native.Mathlib.Omega.{arith}
-use borrow.Author.Rules.{rules}
-use Rattle.definitions.specs.Basics.{NONE}
+use Rattle.std.proofs.Common.{◌∙◌, ap, arith, rules}
+use Rattle.definitions.specs.Answers.{refusal}
+use Rattle.definitions.specs.Refusals.{number}
+use Rattle.checks.specs.Refusing.{file_mark}
+use Rattle.checks.specs.declared.answers.Refused.{Refused}
 use Rattle.sweep.proofs.Concluding.{end_falls, end_listed, end_traceable, concludes_none, concludes_some}
 use Rattle.sweep.proofs.conclude.conclude.Goals as goal
 
@@ -10,22 +11,20 @@ pub fill_finishing-requires : goal.fill_finishing-requires
 fill_finishing-requires c =
     (end_falls c.requires.done, search rules)
 
-pub cheapest_goal-best-requires : goal.cheapest_goal-best-requires
-cheapest_goal-best-requires c =
-    end_listed c.requires.done c.wide-base.ensures.0 c.wide-listed.ensures.0
-
-pub returns-then-best : goal.returns-then-best
-returns-then-best c =
-    concludes_none c.requires.done c.wide-base.ensures.0 c.wide-listed.ensures.0 c.fill_finishing.ensures c.cheapest_goal-best.ensures c.total_count-count.ensures c.if-best.true c.refusal.ensures
+pub cheapest_goal-requires : goal.cheapest_goal-requires
+cheapest_goal-requires c = end_listed c.requires.done
 
 pub write_plan-length-requires-clause-traceable : goal.write_plan-length-requires-clause-traceable
 write_plan-length-requires-clause-traceable c =
-    let cheap : c.cheapest_goal-best.result.cost < NONE = omega (arith, c.cheapest_goal-best.ensures.bounded, c.if-best.false) in
-    end_traceable c.requires.done c.wide-base.ensures.0 c.wide-listed.ensures.0 c.fill_finishing.ensures c.cheapest_goal-best.ensures cheap
+    end_traceable c.requires.done c.fill_finishing.ensures c.in-Some.ensures
 
-pub returns : goal.returns
-returns c =
-    let cheap : c.cheapest_goal-best.result.cost < NONE = omega (arith, c.cheapest_goal-best.ensures.bounded, c.if-best.false) in
-    let trail = end_traceable c.requires.done c.wide-base.ensures.0 c.wide-listed.ensures.0 c.fill_finishing.ensures c.cheapest_goal-best.ensures cheap in
-    concludes_some c.requires.done c.wide-base.ensures.0 c.wide-listed.ensures.0 c.fill_finishing.ensures c.cheapest_goal-best.ensures cheap
+pub returns-in-None : goal.returns-in-None
+returns-in-None c =
+    concludes_none c.requires.done c.fill_finishing.ensures c.in-None.ensures c.total_count-count.ensures
+    (c.refusal.ensures ∙ ap (λ (x : Refused). refusal (number x.refusal) (file_mark x.file) x.place c.total_count-count.result) c.of_call.ensures)
+
+pub returns-in-Some : goal.returns-in-Some
+returns-in-Some c =
+    let trail = end_traceable c.requires.done c.fill_finishing.ensures c.in-Some.ensures in
+    concludes_some c.requires.done c.fill_finishing.ensures c.in-Some.ensures
     c.total_count-count.ensures (c.write_plan-length.ensures trail) (omega arith) c.accepted.ensures
