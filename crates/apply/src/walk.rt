@@ -30,6 +30,7 @@ fn descend(operands: &Operands, work: &[u32], stack: &mut Stack, pair: Pair) -> 
 
 // One turn, with the frame from the top of the stack and the reference of the half of its pair that is done: the pair goes on
 // to its hi half or, where that is the one, its node is found or made. None where the table has no room for the node.
+// (Parameters of their own: of a struct that holds the table by `&mut`, no proof of a call on that table closed.)
 fn turn(
     operands: &Operands,
     work: &mut [u32],

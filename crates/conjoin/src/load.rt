@@ -31,6 +31,7 @@ pub fn check_chart(chart: &[u8]) -> Result<ChartSizes, Stopped<ChartSizes>>
 }
 
 // Reads all three files and compares the work entries that are lent with what is needed, one for each pair of nodes.
+// (The files stand one by one, as in `conjoin`, whose parameters are the C interface.)
 pub fn load_two(
     chart: &[u8],
     rules: &[u8],
