@@ -4,7 +4,7 @@ use Prim.Native.Nat.{ℕ}
 use mathlib.Core.Path.{◌≡◌, sym, ◌∙◌, ap}
 use mathlib.Core.List.{List, [], ◌∷◌}
 use lib.ListN.{length}
-use Rattle.definitions.specs.Answers.{load, load_work}
+use Rattle.definitions.specs.Answers.{load}
 use Rattle.definitions.specs.Promises.{CycleSlices, cycles_load}
 use Rattle.checks.specs.Outcome.{shortest, load_shortest, load_work_lem}
 

@@ -1,7 +1,7 @@
 -- The loop over a list: what holds before each turn, and that the call keeps its promise.
 -- Assumes nothing.
-use Rattle.std.specs.Prelude.{ℕ, ◌+◌, ◌*◌, ◌≤◌, ◌<◌, ◌≡◌, refl, Bool, true, false, cond, List, [], ◌∷◌, Ok, Err, leb, length, get_or, set, drop, replicate}
-use Rattle.std.proofs.Common.{sym, ◌∙◌, ap, ap₂, subst, arith, length-set, get_or-set_same, get_or-set_other, eq-eqb, ne_eqb, leb-true}
+use Rattle.std.specs.Prelude.{ℕ, ◌+◌, ◌*◌, ◌≤◌, ◌<◌, ◌≡◌, refl, Bool, true, false, cond, List, [], ◌∷◌, Ok, leb, length, get_or, set, drop, replicate}
+use Rattle.std.proofs.Common.{sym, ◌∙◌, ap, ap₂, subst, arith, length-set, get_or-set_same, get_or-set_other, leb-true}
 use Rattle.std.proofs.lemmas.List.{length-replicate}
 use Rattle.definitions.specs.Basics.{every}
 use Rattle.definitions.specs.Charts.{Chart}
@@ -10,10 +10,10 @@ use Rattle.definitions.specs.Answers.{Load, ready, refused, read_files, with_wor
 use Rattle.definitions.specs.Promises.{CycleSlices, Cycled, no_cycle, Scratch, cycles_load, CyclesPromise, CyclesCall}
 use Rattle.definitions.specs.declared.Cycle.{Cycle}
 use Rattle.definitions.specs.declared.Shape.{Shape}
-use Rattle.theory.specs.Basics.{true_not_false, pick_true, pick_false, pick_cases, same_or_not, either}
+use Rattle.theory.specs.Basics.{true_not_false, pick_cases, same_or_not, either}
 use Rattle.definitions.specs.Refusals.{number}
 use Rattle.checks.specs.declared.answers.Refused.{Refused}
-use Rattle.checks.specs.Refusing.{file_mark}
+use Rattle.checks.specs.Refusing.{file_mark, refused_as}
 use Rattle.checks.specs.Tables.{chart_in, diagram_in, pairs_in}
 use Rattle.checks.specs.Ready.{Walk, width_is}
 use Rattle.checks.specs.Outcome.{refused_not_ready, ready_left, ready_right}
@@ -88,8 +88,8 @@ pub record Lengths (x x' : CycleSlices) : Type 0 where
   pub log : length x'.log ≡ length x.log
 
 -- the same slices are as long
-pub lengths_same : {s s' : Slices} → SameLent s s' → Lengths (lent s) (lent s')
-lengths_same e = record { keys = e.0.1; via = e.1.1; heap = e.2.1; pos = e.3.1; stack = e.4.1; log = e.5.1 }
+pub lengths_same : (s s' : Slices) → SameLent s s' → Lengths (lent s) (lent s')
+lengths_same s s' e = record { keys = e.0.1; via = e.1.1; heap = e.2.1; pos = e.3.1; stack = e.4.1; log = e.5.1 }
 
 -- the first i entries of the list are answered, the others are as they were
 pub record Going (z : Shape) (on : Walk) (list : List Cycle) (x : CycleSlices) (list' : List Cycle) (x' : CycleSlices) (i : ℕ) : Type 0 where
@@ -178,8 +178,8 @@ module _ {z : Shape} {on : Walk} {list : List Cycle} {x : CycleSlices} {list' : 
       })
 
 -- a refusal leaves everything
-pub none_answered : {on : Walk} {byNode : List ℕ} {r : Refused} {x : CycleSlices} (s u : List ℕ) (list : List Cycle) → PreparesAs (cycles_load s u x) on byNode (Err r)
+pub none_answered : (s u : List ℕ) (x : CycleSlices) (list : List Cycle) (r : Refused) → cycles_load s u x ≡ refused_as r
     → CyclesCall s u x x list list (refusal (number r.refusal) (file_mark r.file) r.place 0)
-none_answered {on} {byNode} {r} {x} s u list h =
-    subst (λ (o : Load). CyclesPromise o x x list list (refusal (number r.refusal) (file_mark r.file) r.place 0)) (sym h)
+none_answered s u x list r is =
+    subst (λ (o : Load). CyclesPromise o x x list list (refusal (number r.refusal) (file_mark r.file) r.place 0)) (sym is)
     (record { listed = (refl, refl); keys = refl; via = refl; heap = refl; pos = refl; stack = refl; log = refl })

@@ -35,18 +35,20 @@ pub fn answered<'t>(
         ..z
     };
     let ended = seek(slices, tables, by_node, between);
+    let searched = Cycle {
+        number: 0,
+        cost: 0,
+        count: ended.count,
+        ..c
+    };
     match ended.goal {
         Some(goal) => Cycle {
-            number: 0,
             cost: goal.cost,
-            count: ended.count,
-            ..c
+            ..searched
         },
         None => Cycle {
             number: Refusal::NoLegalPlan.number() as u32,
-            cost: 0,
-            count: ended.count,
-            ..c
+            ..searched
         },
     }
 }

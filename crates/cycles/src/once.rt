@@ -29,7 +29,11 @@ pub fn prepare(
         let on = walk (read steps.new inner.new) first.new row.new in
         PreparesAs o on by_node.new result }
 {
-    let open = slices.keys.len().min(slices.via.len()).min(slices.heap.len());
+    let open = slices
+        .keys
+        .len()
+        .min(slices.via.len())
+        .min(slices.heap.len());
     let shorter = open.min(slices.pos.len()).min(slices.stack.len());
     let work = shorter.min(slices.log.len());
     let z = load(chart, rules, work, MOST_STEPS, steps, inner)?;

@@ -36,8 +36,8 @@ module _ (s u : List ℕ) (x : GuidedSlices) {lent : ℕ}
       load_shortest s u (length x.keys) (length x.via ∷ length x.heap ∷ length x.pos ∷ length x.stack ∷ length x.log ∷ []) (length x.plan)
       ∙ ap (λ (k : ℕ). load s u (k ∷ []) (length x.plan)) (sym ew)
 
-  pub call_refused : {r : Refused} {a : Answer} → load s u (lent ∷ []) (length x.plan) ≡ refused_as r → a ≡ refusal (number r.refusal) (file_mark r.file) r.place 0 → GuidedCall s u x x a
-  call_refused {r} {a} is e = subst (λ (o : Load). GuidedPromise o x x a) (sym (judged ∙ is)) (kept_refused r x a e)
+  pub call_refused : (r : Refused) {a : Answer} → load s u (lent ∷ []) (length x.plan) ≡ refused_as r → a ≡ refusal (number r.refusal) (file_mark r.file) r.place 0 → GuidedCall s u x x a
+  call_refused r {a} is e = subst (λ (o : Load). GuidedPromise o x x a) (sym (judged ∙ is)) (kept_refused r x a e)
 
   module _ {z : Shape} {t : Read} (is : load s u (lent ∷ []) (length x.plan) ≡ ready (chart_in z t) (diagram_in z t)) (tables : Tables z t) where
     need : work_need (chart_in z t) (diagram_in z t) ≡ pairs_in z

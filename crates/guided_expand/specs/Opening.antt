@@ -1,6 +1,6 @@
 -- What opening the pairs that follow from a settled pair rests on, and what it leaves.
 -- Assumes nothing.
-use Rattle.std.specs.Prelude.{ℕ, ◌≤◌, ◌<◌, ◌≡◌, List, length}
+use Rattle.std.specs.Prelude.{ℕ, ◌≤◌, ◌<◌, ◌≡◌, length}
 use Rattle.std.proofs.Common.{◌∙◌, arith}
 use Rattle.queue.specs.Queue.{Queue}
 use Rattle.definitions.specs.Ways.{Graph}
