@@ -1,6 +1,6 @@
 -- What interning a node is to a walk: after the walks of its children, the table holds what the walk of the node has left.
 -- Assumes nothing.
-use Rattle.std.specs.Prelude.{ℕ, suc, ◌+◌, ◌-◌, ◌≤◌, ◌<◌, ◌≡◌, Bool, true, false, List, [], ◌∷◌, ◌++◌, get_or}
+use Rattle.std.specs.Prelude.{ℕ, suc, ◌+◌, ◌-◌, ◌≤◌, ◌<◌, ◌≡◌, Bool, true, false, List, [], ◌∷◌, ◌++◌, Option, Some, None, get_or}
 use Rattle.std.proofs.Math.Path.{refl}
 use Rattle.std.proofs.Common.{sym, ◌∙◌, ap, ap₂, subst, arith, length-append}
 use Rattle.std.proofs.Math.ListN.{length, get_or-map}
@@ -9,7 +9,7 @@ use Rattle.definitions.specs.Diagrams.{InnerNode, no_node}
 use Rattle.theory.specs.Basics.{fails, true_not_false}
 use Rattle.diagram_fields.specs.Words.{word_of, unpacked, node_word, word_node}
 use Rattle.unique_table.specs.Nodes.{nodes_long, node_listed}
-use Rattle.unique_table.specs.Tables.{UniqueTable, inner_node, node_at, count_in, nodes_in, Table, Lacks, Interns, alone, found, full, added}
+use Rattle.unique_table.specs.Tables.{UniqueTable, inner_node, node_at, count_in, nodes_in, Table, Lacks, Interned, Interns, alone, found, added}
 use Rattle.definitions.specs.Reductions.{Tree, mk, no_leaf, yes_leaf, branch, member, position, postorder, ref, numbered, nodes_of}
 use Rattle.reduction_theory.specs.Growth.{held_kid, ref_apart, nodes_snoc, post_held, post_node, settled}
 use Rattle.reduction_theory.specs.Numbering.{held, member_position, member_last, get_d_member, ref_more, ref_at, member_held, post_new, Good, Posted, post_laws}
@@ -84,13 +84,16 @@ module _ (t : UniqueTable) (ts : List Tree) (g : Good ts) (holds : nodes_in t �
         held_node_lem at (omega arith) inside ∙ ap (λ (i : ℕ). numbered ts (get_or ts i no_leaf)) q ∙ ap (numbered ts) x.0 ∙ numbered_branch ts v l h in
         f at (omega arith) inside (sym (word_node (node_at t at) (w.fits at (omega arith) inside)) ∙ ap word_of here))
 
--- what interning leaves in the table and answers, for the tree of the node: r is 512 where there are more than 510 nodes
-pub record Interned (ts : List Tree) (u : Tree) (r : ℕ) (t' : UniqueTable) : Type 0 where
-  pub table : Table t'
-  pub small : r ≤ 512
-  pub nodes : r < 512 → nodes_in t' ≡ nodes_of (postorder u ts)
-  pub at : r < 512 → r ≡ ref (postorder u ts) u
-  pub full : r ≡ 512 → 510 < length (postorder u ts)
+-- what interning leaves in the table for the tree of the node, with r as its reference
+pub record Numbered (ts : List Tree) (u : Tree) (r : ℕ) (t' : UniqueTable) : Type 0 where
+  pub small : r < 512
+  pub nodes : nodes_in t' ≡ nodes_of (postorder u ts)
+  pub at : r ≡ ref (postorder u ts) u
+
+-- by the answer: none where there are more than 510 nodes
+abbrev pub Numbers : List Tree → Tree → Option ℕ → UniqueTable → Type 0
+Numbers ts u (Some r) t' = Numbered ts u r t'
+Numbers ts u None t' = 510 < length (postorder u ts)
 
 module _ (ts : List Tree) (g : Good ts) (v : ℕ) (l h : Tree) (cl : Canon (suc v) l) (ch : Canon (suc v) h) where
   abbrev ts₁ : List Tree
@@ -130,57 +133,47 @@ module _ (ts : List Tree) (g : Good ts) (v : ℕ) (l h : Tree) (cl : Canon (suc 
         (ap (λ (x : Tree). postorder x ts) (mk_apart v l h (λ q. n (ap (ref ts₂) q))) ∙ post_node v l h ts before, out)
 
     -- by the ways of `intern`
-    pub interned : (r : ℕ) (t' : UniqueTable) → Interns t v (ref ts₂ l) (ref ts₂ h) r t' → Interned ts (mk v l h) r t'
-    interned r t' (alone e q s) =
+    made_in : (r : ℕ) (t' : UniqueTable) → Interned t v (ref ts₂ l) (ref ts₂ h) r t' → Numbered ts (mk v l h) r t'
+    made_in r t' (alone e q s) =
         let same_tree : l ≡ h = ref_apart ts₂ l h lo_held.0 hi_held e in
         let z : postorder (mk v l h) ts ≡ ts₁ = ap (λ (x : Tree). postorder x ts) (mk_same v l h same_tree) in
         let y : ts₂ ≡ ts₁ = ap (λ (x : Tree). postorder x ts₁) (sym same_tree) ∙ post_held l ts₁ good₁.holds in
         let b : ref ts₂ l < length ts₂ + 2 = (ref_at l ts₂ lo_held.0).1 in
         record {
-          table = rw s w;
           small = omega (arith, b, few);
-          nodes = λ i. ap nodes_in s ∙ holds ∙ ap nodes_of (y ∙ sym z);
-          at = λ i. q ∙ ap₂ ref (y ∙ sym z) (sym (mk_same v l h same_tree));
-          full = λ i. absurd (omega (arith, b, few));
+          nodes = ap nodes_in s ∙ holds ∙ ap nodes_of (y ∙ sym z);
+          at = q ∙ ap₂ ref (y ∙ sym z) (sym (mk_same v l h same_tree));
         }
-    interned r t' (found n a b e s) =
-        let x = node_member t ts₂ good₂.good holds v small l h lo_held.0 hi_held few r a b e in
+    made_in r t' (found n f s) =
+        let x = node_member t ts₂ good₂.good holds v small l h lo_held.0 hi_held few r f.inner f.inside f.hit in
         let apart : l ≡ h → ⊥ = λ q. n (ap (ref ts₂) q) in
         let m : member (branch v l h) ts ≡ true = before (member (branch v l h) ts) refl x.0 in
         let k = held_kid ts g v l h m in
         let y : ts₂ ≡ ts = settled ts g v l h cl ch k.0 k.1 in
         let z : postorder (mk v l h) ts ≡ ts = ap (λ (x : Tree). postorder x ts) (mk_apart v l h apart) ∙ post_held (branch v l h) ts (member_held (branch v l h) ts m) in
         record {
-          table = rw s w;
-          small = omega (arith, w.few);
-          nodes = λ i. ap nodes_in s ∙ holds ∙ ap nodes_of (y ∙ sym z);
-          at = λ i. x.1 ∙ ap₂ ref (y ∙ sym z) (sym (mk_apart v l h apart));
-          full = λ i. absurd (omega (arith, w.few));
+          small = omega (arith, w.few, f.inside);
+          nodes = ap nodes_in s ∙ holds ∙ ap nodes_of (y ∙ sym z);
+          at = x.1 ∙ ap₂ ref (y ∙ sym z) (sym (mk_apart v l h apart));
         }
       where
         before : (b : Bool) → member (branch v l h) ts ≡ b → member (branch v l h) ts₂ ≡ true → member (branch v l h) ts ≡ true
         before true q i = q
         before false q i = clash (sym i ∙ post_new v l h ts q)
-    interned r t' (full n f c q s) =
-        let z = (new_node n f).0 in
-        record {
-          table = rw s w;
-          small = omega arith;
-          nodes = λ i. absurd (omega arith);
-          at = λ i. absurd (omega arith);
-          full = λ i. omega (arith, ap length z, length-append ts₂ (branch v l h ∷ []), held_count t ts₂ good₂.good holds);
-        }
-    interned r t' (added n f c a) =
+    made_in r t' (added n f c a) =
         let y = new_node n f in
         let z = y.0 in
         let e : nodes_in t' ≡ nodes_of (ts₂ ++ branch v l h ∷ []) =
         a.nodes ∙ ap₂ (λ (x : List InnerNode) (y : InnerNode). x ++ y ∷ []) holds (fits_word t ts₂ good₂.good holds v small l h lo_held.0 hi_held few) ∙ sym (nodes_snoc ts₂ good₂.good v l h lo_held.0 hi_held) in
         record {
-          table = a.table;
           small = omega (arith, a.number);
-          nodes = λ i. e ∙ ap nodes_of (sym z);
-          at = λ i.
+          nodes = e ∙ ap nodes_of (sym z);
+          at =
               omega (arith, a.number, held_count t ts₂ good₂.good holds, ref_branch (ts₂ ++ branch v l h ∷ []) v l h, (member_last (branch v l h) ts₂ y.1).1)
               ∙ ap₂ ref (sym z) (sym (mk_apart v l h (λ q. n (ap (ref ts₂) q))));
-          full = λ i. absurd (omega (arith, a.number));
         }
+
+    pub interned : (r : Option ℕ) (t' : UniqueTable) → Interns t v (ref ts₂ l) (ref ts₂ h) r t' → Numbers ts (mk v l h) r t'
+    interned (Some r) t' i = made_in r t' i
+    interned None t' f =
+        omega (arith, ap length (new_node f.apart f.lacks).0, length-append ts₂ (branch v l h ∷ []), held_count t ts₂ good₂.good holds, f.full)

@@ -6,3 +6,4 @@ pub mod Weights
 pub mod Walks
 pub mod Turns
 pub mod Whole
+pub mod Views

@@ -1,8 +1,8 @@
 -- Two diagrams in their tables: what the code reads there of a pair of nodes is the step at which the pair is taken apart, and its two halves.
 -- Assumes nothing.
-use Rattle.std.specs.Prelude.{ℕ, ◌*◌, ◌≤◌, ◌<◌, min, ◌≡◌, List, ◌⊎◌, eqb, length, get_or}
+use Rattle.std.specs.Prelude.{ℕ, ◌*◌, ◌≤◌, ◌<◌, min, ◌≡◌, Bool, true, false, List, ◌⊎◌, eqb, length, get_or}
 use Rattle.std.proofs.Math.Path.{sym, ap}
-use Rattle.std.proofs.Common.{◌∙◌, lt-ltb, le-ltb, eq-eqb, ne_eqb}
+use Rattle.std.proofs.Common.{◌∙◌, lt-ltb, le-ltb, ne_eqb}
 use native.Mathlib.Omega.{arith}
 use Rattle.definitions.specs.Basics.{pick}
 use Rattle.definitions.specs.Diagrams.{Diagram, InnerNode, size, inner}
@@ -20,49 +20,25 @@ pub record Operand (d : Diagram) (words : List ℕ) : Type 0 where
   pub node : (n : ℕ) → 2 ≤ n → n < size d → unpacked (get_or words n 0) ≡ inner d n
 
 -- a node's lo, or hi, where it tests the step v, else the node itself
-unfoldable pub lo_in : List ℕ → ℕ → ℕ → ℕ
-lo_in words v n = pick (eqb (step_of (get_or words n 0)) v) (lo_of (get_or words n 0)) n
-
-unfoldable pub hi_in : List ℕ → ℕ → ℕ → ℕ
-hi_in words v n = pick (eqb (step_of (get_or words n 0)) v) (hi_of (get_or words n 0)) n
+unfoldable pub half_in : Bool → List ℕ → ℕ → ℕ → ℕ
+half_in hi words v n = pick (eqb (step_of (get_or words n 0)) v) (pick hi (hi_of (get_or words n 0)) (lo_of (get_or words n 0))) n
 
 -- the lesser of two nodes' steps
 abbrev pub top_in : List ℕ → List ℕ → ℕ → ℕ → ℕ
 top_in left right a b = min (step_of (get_or left a 0)) (step_of (get_or right b 0))
 
--- ---- one law for each way out of the code
-
-module _ (words : List ℕ) (v n s : ℕ) (step_is : s ≡ step_of (get_or words n 0)) where
-  pub own_lo : s ≡ v → (r : ℕ) → r ≡ lo_of (get_or words n 0) → r ≡ lo_in words v n
-  unfolding lo_in
-  own_lo e r q = q ∙ sym (pick_true _ _ _ (eq-eqb (step_of (get_or words n 0)) v (sym step_is ∙ e)))
-
-  pub own_hi : s ≡ v → (r : ℕ) → r ≡ hi_of (get_or words n 0) → r ≡ hi_in words v n
-  unfolding hi_in
-  own_hi e r q = q ∙ sym (pick_true _ _ _ (eq-eqb (step_of (get_or words n 0)) v (sym step_is ∙ e)))
-
-  pub other_lo : (s ≡ v → ⊥) → n ≡ lo_in words v n
-  unfolding lo_in
-  other_lo f = sym (pick_false _ _ _ (ne_eqb (step_of (get_or words n 0)) v (λ e. f (step_is ∙ e))))
-
-  pub other_hi : (s ≡ v → ⊥) → n ≡ hi_in words v n
-  unfolding hi_in
-  other_hi f = sym (pick_false _ _ _ (ne_eqb (step_of (get_or words n 0)) v (λ e. f (step_is ∙ e))))
-
-pub ruleset child-laws = (own_lo, own_hi, other_lo, other_hi)
-
 -- ---- what they are to the diagrams
 
 module _ (d : Diagram) (words : List ℕ) (o : Operand d words) (v n : ℕ) (small : v < MARK) (b : n < size d) where
-  lo_lower : lo_in words v n ≡ lower d v n
-  unfolding lo_in lower
+  lo_lower : half_in false words v n ≡ lower d v n
+  unfolding half_in lower pick
   lo_lower =
       either (lt_or_le n 2)
       (λ h. pick_false _ _ _ (ne_eqb (step_of (get_or words n 0)) v (λ q. omega (arith, o.leaf n h))) ∙ sym (pick_true _ _ _ (lt-ltb n 2 h)))
       (λ h. ap (λ (x : InnerNode). pick (eqb x.step v) x.lo n) (o.node n h b) ∙ sym (pick_false _ _ _ (le-ltb n 2 h)))
 
-  hi_upper : hi_in words v n ≡ upper d v n
-  unfolding hi_in upper
+  hi_upper : half_in true words v n ≡ upper d v n
+  unfolding half_in upper pick
   hi_upper =
       either (lt_or_le n 2)
       (λ h. pick_false _ _ _ (ne_eqb (step_of (get_or words n 0)) v (λ q. omega (arith, o.leaf n h))) ∙ sym (pick_true _ _ _ (lt-ltb n 2 h)))
@@ -107,14 +83,14 @@ module _ (d e : Diagram) (left right : List ℕ) (width : ℕ) (work : List ℕ)
     pub step_small : v < MARK
     step_small = omega (arith, top_is.1)
 
-    pub lo_first : lo_in left v a ≡ lower d (top d e a b) a
+    pub lo_first : half_in false left v a ≡ lower d (top d e a b) a
     lo_first = lo_lower d left i.first v a step_small ia ∙ ap (λ (x : ℕ). lower d x a) step_top
 
-    pub lo_second : lo_in right v b ≡ lower e (top d e a b) b
+    pub lo_second : half_in false right v b ≡ lower e (top d e a b) b
     lo_second = lo_lower e right i.second v b step_small ib ∙ ap (λ (x : ℕ). lower e x b) step_top
 
-    pub hi_first : hi_in left v a ≡ upper d (top d e a b) a
+    pub hi_first : half_in true left v a ≡ upper d (top d e a b) a
     hi_first = hi_upper d left i.first v a step_small ia ∙ ap (λ (x : ℕ). upper d x a) step_top
 
-    pub hi_second : hi_in right v b ≡ upper e (top d e a b) b
+    pub hi_second : half_in true right v b ≡ upper e (top d e a b) b
     hi_second = hi_upper e right i.second v b step_small ib ∙ ap (λ (x : ℕ). upper e x b) step_top

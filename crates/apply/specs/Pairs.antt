@@ -3,11 +3,10 @@
 use Prim.Native.Nat.{ℕ, suc, ◌+◌, ◌*◌, ◌≤◌, ◌<◌, min}
 use Rattle.std.specs.Prelude.{◌≡◌, ◌⊎◌, ltb, eqb}
 use Rattle.std.proofs.Math.Path.{refl, ap, ap₂, subst}
-use Rattle.std.proofs.Common.{sym, ◌∙◌, mul-le-mul_right, Fits}
+use Rattle.std.proofs.Common.{sym, ◌∙◌, mul-le-mul_right}
 use Rattle.std.proofs.Math.Bool.{true, false}
 use Rattle.std.proofs.Math.Logic.{inl, inr}
 use native.Mathlib.Omega.{arith}
-use Rattle.std.specs.Int.{w64}
 use borrow.Author.Tests.{lt-ltb, le-ltb, eq-eqb, ne_eqb}
 use Rattle.definitions.specs.Basics.{pick}
 use Rattle.definitions.specs.Diagrams.{Diagram, inner}
@@ -165,22 +164,3 @@ pairs_apart n a b i j h k e =
 
 pub pair_inside : (n m a b : ℕ) → a < m → b < n → a * n + b < m * n
 pair_inside n m a b h k = let z = mul-le-mul_right n h in omega arith
-
--- a pair's place is a number of 64 bits
-place_bound : (a n : ℕ) → a < 512 → n ≤ 512 → a * n ≤ 262144
-place_bound a n h k = let x : a * n ≤ 512 * n = mul-le-mul_right n (le a h) in omega arith
-  where
-    le : (a : ℕ) → a < 512 → a ≤ 512
-    le a h = omega arith
-
-pub place_mul : (a n : ℕ) → a < 512 → n ≤ 512 → Fits w64 (a * n)
-place_mul a n h k = record { fits = omega (arith, place_bound a n h k) }
-
-pub place_add : (a n b : ℕ) → a < 512 → n ≤ 512 → b < 512 → Fits w64 (a * n + b)
-place_add a n b h k l = record { fits = omega (arith, place_bound a n h k) }
-
--- and so is where its work entry stands in bytes
-pub place_scale : (a n b i : ℕ) → a < 512 → n ≤ 512 → b < 512 → i ≡ a * n + b → Fits w64 (i * 4)
-place_scale a n b i h k l e = record { fits = omega (arith, place_bound a n h k) }
-
-pub ruleset place-laws = (place_mul, place_add)

@@ -1,16 +1,16 @@
 -- The walk over pairs: what its stack, the work entries and the table of nodes say between two of its turns.
 -- Assumes nothing.
-use Rattle.std.specs.Prelude.{ℕ, ◌+◌, ◌*◌, ◌≤◌, ◌<◌, ◌≡◌, refl, true, List, ◌++◌, ltb, eqb, length, set}
+use Rattle.std.specs.Prelude.{ℕ, suc, ◌+◌, ◌*◌, ◌≤◌, ◌<◌, ◌≡◌, refl, true, List, ◌++◌, Option, Some, None, ltb, eqb, length, set}
 use Rattle.std.proofs.Math.Path.{sym, ap, ap₂}
 use Rattle.std.proofs.Common.{◌∙◌, get_or-set_same, get_or-set_other}
 use Rattle.std.proofs.Math.Logic.{inl, inr}
 use native.Mathlib.Omega.{arith}
 use Rattle.std.proofs.Math.ListN.{get_or}
-use borrow.Author.Tests.{lt-ltb, le-ltb, eq-eqb, ne_eqb, ltb-true, eqb-true, eqb-false}
+use borrow.Author.Tests.{ltb-true, eqb-true, eqb-false}
 use Rattle.definitions.specs.Basics.{pick}
 use Rattle.definitions.specs.Diagrams.{Diagram, size}
 use Rattle.definitions.specs.Reductions.{Tree, no_leaf, yes_leaf, postorder, ref, nodes_of}
-use Rattle.theory.specs.Basics.{pick_true, pick_false, pick_cases, either, lt_or_le, same_or_not}
+use Rattle.theory.specs.Basics.{pick_cases, either, lt_or_le, same_or_not}
 use Rattle.unique_table.specs.Tables.{UniqueTable, nodes_in, Table}
 use Rattle.reduction_theory.specs.Numbering.{held, ref_more, Good}
 use Rattle.apply.specs.Pairs.{pair_tree, pair_no_left, pair_no_right, pair_yes, pairs_apart, pair_inside}
@@ -47,79 +47,54 @@ known_set d e work ts a b r ha hb l k m q i j hi hj =
 
 -- ---- pairs that need no walk
 
--- the reference of a pair with 0, of 1 and 1, or of one that is done; 512 of any other
-unfoldable pub known_in : List ℕ → ℕ → ℕ → ℕ → ℕ
+-- the reference of a pair with 0, of 1 and 1, or of one that is done; none of any other
+unfoldable pub known_in : List ℕ → ℕ → ℕ → ℕ → Option ℕ
 known_in work width a b =
-    pick (eqb a 0) 0
-    (pick (eqb b 0) 0
-    (pick (eqb (a + b) 2) 1
-    (pick (ltb (get_or work (a * width + b) 0) 512) (get_or work (a * width + b) 0) 512)))
+    pick (eqb a 0) (Some 0)
+    (pick (eqb b 0) (Some 0)
+    (pick (eqb (a + b) 2) (Some 1)
+    (pick (ltb (get_or work (a * width + b) 0) 512) (Some (get_or work (a * width + b) 0)) None)))
 
-module _ (work : List ℕ) (width a b : ℕ) where
-  pub known_left : a ≡ 0 → a ≡ known_in work width a b
-  unfolding known_in
-  known_left h = h ∙ sym (pick_true _ _ _ (eq-eqb a 0 h))
-
-  module _ (ha : a ≡ 0 → ⊥) where
-    pub known_right : b ≡ 0 → b ≡ known_in work width a b
-    unfolding known_in
-    known_right h = h ∙ sym (pick_false _ _ _ (ne_eqb a 0 ha) ∙ pick_true _ _ _ (eq-eqb b 0 h))
-
-    module _ (hb : b ≡ 0 → ⊥) where
-      pub known_yes : a + b ≡ 2 → 1 ≡ known_in work width a b
-      unfolding known_in
-      known_yes h = sym (pick_false _ _ _ (ne_eqb a 0 ha) ∙ pick_false _ _ _ (ne_eqb b 0 hb) ∙ pick_true _ _ _ (eq-eqb (a + b) 2 h))
-
-      module _ (hc : a + b ≡ 2 → ⊥) (i : ℕ) (place : i ≡ a * width + b) where
-        entry : get_or work i 0 ≡ get_or work (a * width + b) 0
-        entry = ap (λ (j : ℕ). get_or work j 0) place
-
-        pub known_done : get_or work i 0 < 512 → get_or work i 0 ≡ known_in work width a b
-        unfolding known_in
-        known_done h =
-            entry ∙ sym (pick_false _ _ _ (ne_eqb a 0 ha) ∙ pick_false _ _ _ (ne_eqb b 0 hb) ∙ pick_false _ _ _ (ne_eqb (a + b) 2 hc)
-            ∙ pick_true _ _ _ (lt-ltb (get_or work (a * width + b) 0) 512 (omega (arith, entry))))
-
-        pub known_open : 512 ≤ get_or work i 0 → 512 ≡ known_in work width a b
-        unfolding known_in
-        known_open h =
-            sym (pick_false _ _ _ (ne_eqb a 0 ha) ∙ pick_false _ _ _ (ne_eqb b 0 hb) ∙ pick_false _ _ _ (ne_eqb (a + b) 2 hc)
-            ∙ pick_false _ _ _ (le-ltb (get_or work (a * width + b) 0) 512 (omega (arith, entry))))
-
-pub ruleset known-laws = (known_left, known_right, known_yes, known_done, known_open)
+-- an optional number as a number
+abbrev told : Option ℕ → ℕ
+told None = 0
+told (Some n) = suc n
 
 leaf_held : (ts : List Tree) → (held ts no_leaf ≡ true) × (held ts yes_leaf ≡ true) × (0 ≡ ref ts no_leaf) × (1 ≡ ref ts yes_leaf)
 unfolding held ref
 leaf_held ts = (refl, refl, refl, refl)
 
 module _ (d e : Diagram) (left right : List ℕ) (width : ℕ) (work : List ℕ) (i : Inside d e left right width work) (ts : List Tree) (k : Known d e work ts)
-    (a b : ℕ) (ia : a < size d) (ib : b < size e) (r : ℕ) (is : r ≡ known_in work width a b) where
-  -- an answer below 512 is the pair's reference
-  pub known_held : (r ≡ 512 → ⊥) → (r < 512) × (held ts (pair_tree d e a b) ≡ true) × (r ≡ ref ts (pair_tree d e a b))
+    (a b : ℕ) (ia : a < size d) (ib : b < size e) where
+  -- what is known is the pair's reference
+  pub known_held : (r : ℕ) → Some r ≡ known_in work width a b → (r < 512) × (held ts (pair_tree d e a b) ≡ true) × (r ≡ ref ts (pair_tree d e a b))
   unfolding known_in
-  known_held n =
+  known_held r is =
       let o = i.first.ordered in
       let p = i.second.ordered in
-      either (pick_cases _ _ _ r (sym is))
-      (λ (x : (eqb a 0 ≡ true) × (0 ≡ r)).
+      either (pick_cases _ _ _ (Some r) (sym is))
+      (λ (x : (eqb a 0 ≡ true) × (Some 0 ≡ Some r)).
+      let t : 0 ≡ r = omega (arith, ap told x.1) in
       let z : pair_tree d e a b ≡ no_leaf = ap (λ (m : ℕ). pair_tree d e m b) (eqb-true a 0 x.0) ∙ pair_no_left d e o p b in
-      (omega (arith, x.1), ap (held ts) z ∙ (leaf_held ts).0, sym x.1 ∙ (leaf_held ts).2 ∙ ap (ref ts) (sym z)))
-      (λ x. either (pick_cases _ _ _ r x.1)
-      (λ (y : (eqb b 0 ≡ true) × (0 ≡ r)).
+      (omega (arith, t), ap (held ts) z ∙ (leaf_held ts).0, sym t ∙ (leaf_held ts).2 ∙ ap (ref ts) (sym z)))
+      (λ x. either (pick_cases _ _ _ (Some r) x.1)
+      (λ (y : (eqb b 0 ≡ true) × (Some 0 ≡ Some r)).
+      let t : 0 ≡ r = omega (arith, ap told y.1) in
       let z : pair_tree d e a b ≡ no_leaf = ap (λ (m : ℕ). pair_tree d e a m) (eqb-true b 0 y.0) ∙ pair_no_right d e o p a in
-      (omega (arith, y.1), ap (held ts) z ∙ (leaf_held ts).0, sym y.1 ∙ (leaf_held ts).2 ∙ ap (ref ts) (sym z)))
-      (λ y. either (pick_cases _ _ _ r y.1)
-      (λ (q : (eqb (a + b) 2 ≡ true) × (1 ≡ r)).
+      (omega (arith, t), ap (held ts) z ∙ (leaf_held ts).0, sym t ∙ (leaf_held ts).2 ∙ ap (ref ts) (sym z)))
+      (λ y. either (pick_cases _ _ _ (Some r) y.1)
+      (λ (q : (eqb (a + b) 2 ≡ true) × (Some 1 ≡ Some r)).
+      let t : 1 ≡ r = omega (arith, ap told q.1) in
       let fa = eqb-false a 0 x.0 in
       let fb = eqb-false b 0 y.0 in
-      let s = eqb-true (a + b) 2 q.0 in
+      let sum = eqb-true (a + b) 2 q.0 in
       let ea : a ≡ 1 = omega arith in
       let eb : b ≡ 1 = omega arith in
       let z : pair_tree d e a b ≡ yes_leaf = ap₂ (pair_tree d e) ea eb ∙ pair_yes d e o p in
-      (omega (arith, q.1), ap (held ts) z ∙ (leaf_held ts).1, sym q.1 ∙ (leaf_held ts).3 ∙ ap (ref ts) (sym z)))
-      (λ q. either (pick_cases _ _ _ r q.1)
-      (λ s. done (ltb-true (get_or work (a * width + b) 0) 512 s.0) s.1)
-      (λ s. absurd (n (sym s.1))))))
+      (omega (arith, t), ap (held ts) z ∙ (leaf_held ts).1, sym t ∙ (leaf_held ts).3 ∙ ap (ref ts) (sym z)))
+      (λ q. either (pick_cases _ _ _ (Some r) q.1)
+      (λ s. done (ltb-true (get_or work (a * width + b) 0) 512 s.0) (omega (arith, ap told s.1)))
+      (λ s. absurd (omega (arith, ap told s.1))))))
     where
       done : get_or work (a * width + b) 0 < 512 → get_or work (a * width + b) 0 ≡ r → (r < 512) × (held ts (pair_tree d e a b) ≡ true) × (r ≡ ref ts (pair_tree d e a b))
       done h q =
@@ -128,12 +103,12 @@ module _ (d e : Diagram) (left right : List ℕ) (width : ℕ) (work : List ℕ)
           (omega (arith, q), x.0, sym q ∙ same-entry ∙ x.1)
 
   -- a pair of which nothing is known is taken apart
-  pub known_apart : r ≡ 512 → Apart d e a b
+  pub known_apart : None ≡ known_in work width a b → Apart d e a b
   unfolding known_in
-  known_apart n =
-      either (pick_cases _ _ _ r (sym is)) (λ x. absurd (omega (arith, x.1)))
-      (λ x. either (pick_cases _ _ _ r x.1) (λ y. absurd (omega (arith, y.1)))
-      (λ y. either (pick_cases _ _ _ r y.1) (λ q. absurd (omega (arith, q.1)))
+  known_apart is =
+      either (pick_cases _ _ _ None (sym is)) (λ x. absurd (omega (arith, ap told x.1)))
+      (λ x. either (pick_cases _ _ _ None x.1) (λ y. absurd (omega (arith, ap told y.1)))
+      (λ y. either (pick_cases _ _ _ None y.1) (λ q. absurd (omega (arith, ap told q.1)))
       (λ q. let fa = eqb-false a 0 x.0 in
       let fb = eqb-false b 0 y.0 in
       let fc = eqb-false (a + b) 2 q.0 in

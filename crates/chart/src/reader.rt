@@ -91,6 +91,7 @@ fn kind_at(file: &[u8], at: usize) -> StepKind
     kind_if(at < file.len() && file[at] == StepKind::Grouped.tag())
 }
 
+// The kind that a constant names.
 fn kind_if(grouped: bool) -> StepKind
     ensures { result ≡ kind_if grouped }
 {

@@ -1,7 +1,7 @@
 -- The walk from the roots, what is written after it, and one law for each way out of the code.
 -- Assumes nothing.
 use Prim.Native.Nat.{ℕ, ◌+◌, ◌*◌, ◌≤◌, ◌<◌}
-use Rattle.std.specs.Prelude.{◌≡◌, refl, replicate}
+use Rattle.std.specs.Prelude.{◌≡◌, replicate, Option, Some, None, Ok}
 use Rattle.std.proofs.Math.Path.{sym, ap, ap₂, subst}
 use Rattle.std.proofs.Common.{◌∙◌, length-append, length-drop, drop_at}
 use mathlib.Core.List.{List, [], ◌++◌}
@@ -9,7 +9,7 @@ use native.Mathlib.Omega.{arith}
 use Rattle.std.proofs.Math.ListN.{length, get_or, drop, length-map, get_or-append}
 use Rattle.std.proofs.lemmas.List.{length-replicate, get_or-replicate}
 use borrow.Author.Tests.{lt-ltb, le-ltb}
-use Rattle.definitions.specs.Answers.{LoadTwo, ready_two, refused_two, load_two, refusal, Filed}
+use Rattle.definitions.specs.Answers.{LoadTwo, load_two, refusal, Filed}
 use Rattle.definitions.specs.Basics.{NONE}
 use Rattle.definitions.specs.Bytes.{diagram_bytes}
 use Rattle.definitions.specs.Charts.{Chart, group_count}
@@ -23,30 +23,33 @@ use Rattle.reduction_theory.specs.Expansion.{conjunction_joined}
 use Rattle.reduction_theory.specs.Numbering.{good_nil}
 use Rattle.reduction_theory.specs.Trees.{tree, meet, joined}
 use Rattle.unique_table.specs.Nodes.{nodes_long}
-use Rattle.unique_table.specs.Stores.{blank, empty_table, empty_nodes}
-use Rattle.unique_table.specs.Tables.{UniqueTable, unique_table, Table}
+use Rattle.unique_table.specs.Held.{Blank}
+use Rattle.unique_table.specs.Tables.{UniqueTable}
+use Rattle.apply.specs.declared.operands.Operands.{Operands}
+use Rattle.apply.specs.declared.operands.Pair.{Pair}
 use Rattle.apply.specs.Operands.{Inside}
 use Rattle.apply.specs.Pairs.{pair_tree, pair_inside}
 use Rattle.apply.specs.Walks.{State}
-use Rattle.apply.specs.Whole.{Ready, Walked}
+use Rattle.apply.specs.Views.{ReadyFor}
+use Rattle.apply.specs.Whole.{Walked}
 use Rattle.diagram_writer.specs.Files.{drawn}
 use Rattle.conjoin.specs.Loads.{Loaded, LoadsTwo}
 use Rattle.conjoin.specs.declared.load.LoadedTwo.{LoadedTwo}
 
 -- what the walk asks: two diagrams over a chart of so many groups stand in tables, and there is a work entry for each pair of their nodes
-pub record Joinable (work left right : List ℕ) (width pairs first second : ℕ) : Type 0 where
+pub record Joinable (work : List ℕ) (o : Operands) (pairs : ℕ) (roots : Pair) : Type 0 where
   pub groups : ℕ
   pub d : Diagram
   pub e : Diagram
-  pub inside : Inside d e left right width work
+  pub inside : Inside d e o.left.now o.right.now o.width work
   pub sound_first : Sound groups d
   pub sound_second : Sound groups e
-  pub root_first : first ≡ d.root
-  pub root_second : second ≡ e.root
+  pub root_first : roots.first ≡ d.root
+  pub root_second : roots.second ≡ e.root
   pub needs : pairs ≡ size d * size e
 
 -- what comes of it
-pub record Joins {work left right : List ℕ} {width pairs first second : ℕ} (x : Joinable work left right width pairs first second) (file work' file' : List ℕ) (r : Answer)
+pub record Joins {work : List ℕ} {o : Operands} {pairs : ℕ} {roots : Pair} (x : Joinable work o pairs roots) (file work' file' : List ℕ) (r : Answer)
     : Type 0 where
   pub answer : r ≡ written_answer (conjunction x.groups x.d x.e) (length file)
   pub buffer : file' ≡ written_buffer (conjunction x.groups x.d x.e) file
@@ -70,11 +73,12 @@ cleared_long : (pairs : ℕ) (work : List ℕ) → pairs ≤ length work → len
 unfolding cleared
 cleared_long pairs work h = length-append (replicate {A = ℕ} pairs NONE) (drop pairs work) ∙ omega (arith, length-replicate {A = ℕ} pairs NONE, length-drop pairs work)
 
-module _ {work left right : List ℕ} {width pairs first second : ℕ} (x : Joinable work left right width pairs first second) where
-  pub pairs_inside : pairs ≤ length work
+module _ {work : List ℕ} {o : Operands} {pairs : ℕ} {roots : Pair} (x : Joinable work o pairs roots) where
+  pairs_inside : pairs ≤ length work
   pairs_inside = omega (arith, x.needs, x.inside.room)
 
-  module _ (w₁ : List ℕ) (is-cleared : w₁ ≡ replicate pairs NONE ++ drop pairs work) where
+  -- the work entries are cleared, and the table is without nodes
+  module _ (w₁ : List ℕ) (is-cleared : w₁ ≡ replicate pairs NONE ++ drop pairs work) {words : List ℕ} {t₁ : UniqueTable} (empty : Blank words t₁) where
     same_cleared : w₁ ≡ cleared pairs work
     unfolding cleared
     same_cleared = is-cleared
@@ -83,11 +87,11 @@ module _ {work left right : List ℕ} {width pairs first second : ℕ} (x : Join
     long₁ = ap length same_cleared ∙ cleared_long pairs work pairs_inside
 
     -- nothing is left yet, and no pair is done
-    started : State x.d x.e [] w₁ (unique_table (replicate 512 0) blank)
+    started : State x.d x.e [] w₁ t₁
     unfolding nodes_of
     started = record {
       good = good_nil;
-      nodes = empty_nodes (replicate 512 0);
+      nodes = empty.empty;
       known = λ i j h k s. absurd (omega (
         arith,
         ap (λ (l : List ℕ). get_or l (i * size x.e + j) 0) same_cleared,
@@ -96,21 +100,33 @@ module _ {work left right : List ℕ} {width pairs first second : ℕ} (x : Join
       ));
     }
 
-    pub walk_ready : Ready w₁ (unique_table (replicate 512 0) blank) left right width first second
+    pub walk_ready : ReadyFor w₁ t₁ o roots
     walk_ready = record {
       d = x.d;
       e = x.e;
       inside = record { first = x.inside.first; second = x.inside.second; wide = x.inside.wide; room = omega (arith, x.inside.room, long₁) };
       a_inside = omega (arith, x.root_first, x.sound_first.root_inside);
       b_inside = omega (arith, x.root_second, x.sound_second.root_inside);
-      entries = empty_table (replicate 512 0) (length-replicate {A = ℕ} 512 0);
+      entries = empty.table;
       state = started;
     }
 
-    module _ (w₂ : List ℕ) (t₂ : UniqueTable) (root : ℕ) (walked : Walked walk_ready w₂ t₂ root) where
-      abbrev made : Diagram
-      made = conjunction x.groups x.d x.e
+    abbrev made : Diagram
+    made = conjunction x.groups x.d x.e
 
+    made_is : made ≡ diagram_of (pair_tree x.d x.e roots.first roots.second)
+    unfolding joined pair_tree
+    made_is =
+        conjunction_joined x.groups x.d x.e x.sound_first x.sound_second
+        ∙ ap₂ (λ (m n : ℕ). diagram_of (meet (tree x.d m) (tree x.e n))) (sym x.root_first) (sym x.root_second)
+
+    made_long : length made.nodes ≡ length (postorder (pair_tree x.d x.e roots.first roots.second) [])
+    unfolding diagram_of nodes_of
+    made_long =
+        ap (λ (c : Diagram). length c.nodes) made_is
+        ∙ length-map (postorder (pair_tree x.d x.e roots.first roots.second) []) (numbered (postorder (pair_tree x.d x.e roots.first roots.second) []))
+
+    module _ {w₂ : List ℕ} {t₂ : UniqueTable} {root : Option ℕ} (walked : Walked walk_ready w₂ t₂ root) where
       long₂ : length w₂ ≡ length work
       long₂ = walked.long ∙ long₁
 
@@ -119,57 +135,39 @@ module _ {work left right : List ℕ} {width pairs first second : ℕ} (x : Join
       rest₂ = walked.rest ∙ ap (drop (size x.d * size x.e)) same_cleared ∙ ap (λ (n : ℕ). drop n (cleared pairs work)) (sym x.needs) ∙ cleared_rest pairs work
           ∙ ap (λ (n : ℕ). drop n work) x.needs
 
-      pub walk_entries : Table t₂
-      walk_entries = walked.entries
+    -- 12
+    pub joins_full : {w₂ : List ℕ} {t₂ : UniqueTable} (walked : Walked walk_ready w₂ t₂ None) → {r : Answer} → r ≡ refusal 12 0 0 0 → (file : List ℕ) → Joins x file w₂ file r
+    unfolding written_answer written_buffer walk_ready
+    joins_full walked e file =
+        let many = lt-ltb 510 (length made.nodes) (omega (arith, walked.leaves, made_long)) in
+        record { answer = e ∙ sym (pick_true _ _ _ many); buffer = sym (pick_true _ _ _ many); long = long₂ walked; rest = rest₂ walked }
 
-      made_is : made ≡ diagram_of (pair_tree x.d x.e first second)
-      unfolding joined pair_tree
-      made_is =
-          conjunction_joined x.groups x.d x.e x.sound_first x.sound_second
-          ∙ ap₂ (λ (m n : ℕ). diagram_of (meet (tree x.d m) (tree x.e n))) (sym x.root_first) (sym x.root_second)
+    -- the diagram in the table is the conjunction
+    module _ {w₂ : List ℕ} {t₂ : UniqueTable} {root : ℕ} (walked : Walked walk_ready w₂ t₂ (Some root)) where
+      drawn_is : drawn root t₂ ≡ made
+      unfolding diagram_of walk_ready
+      drawn_is = ap₂ whole walked.leaves.2 walked.leaves.1 ∙ sym made_is
+        where
+          whole : ℕ → List InnerNode → Diagram
+          whole n l = record { root = n; nodes = l }
 
-      made_long : length made.nodes ≡ length (postorder (pair_tree x.d x.e first second) [])
-      unfolding diagram_of nodes_of
-      made_long =
-          ap (λ (c : Diagram). length c.nodes) made_is
-          ∙ length-map (postorder (pair_tree x.d x.e first second) []) (numbered (postorder (pair_tree x.d x.e first second) []))
-
-      -- 12
-      pub joins_full : root ≡ 512 → (r : Answer) → r ≡ refusal 12 0 0 0 → (file : List ℕ) → Joins x file w₂ file r
-      unfolding written_answer written_buffer walk_ready
-      joins_full z r e file =
-          let many = lt-ltb 510 (length made.nodes) (omega (arith, walked.full z, made_long)) in
-          record { answer = e ∙ sym (pick_true _ _ _ many); buffer = sym (pick_true _ _ _ many); long = long₂; rest = rest₂ }
-
-      -- the diagram in the table is the conjunction
-      module _ (fits : root ≡ 512 → ⊥) where
-        root_small : root < 512
-        root_small = omega (arith, walked.small)
-
-        drawn_is : drawn root t₂ ≡ made
-        unfolding diagram_of walk_ready
-        drawn_is = ap₂ whole (walked.at root_small) (walked.nodes root_small) ∙ sym made_is
-          where
-            whole : ℕ → List InnerNode → Diagram
-            whole n l = record { root = n; nodes = l }
-
-        pub joins_made : (file file' : List ℕ) (r : Answer) → Filed (diagram_bytes (drawn root t₂)) file file' r → Joins x file w₂ file' r
-        unfolding written_answer written_buffer
-        joins_made file file' r filed =
-            let few = le-ltb 510 (length made.nodes) (omega (arith, ap (λ (c : Diagram). length c.nodes) drawn_is, nodes_long t₂, walked.entries.few)) in
-            let f = subst (λ (c : Diagram). Filed (diagram_bytes c) file file' r) drawn_is filed in
-            record { answer = f.answer ∙ sym (pick_false _ _ _ few); buffer = f.buffer ∙ sym (pick_false _ _ _ few); long = long₂; rest = rest₂ }
+      pub joins_made : {file file' : List ℕ} {r : Answer} → Filed (diagram_bytes (drawn root t₂)) file file' r → Joins x file w₂ file' r
+      unfolding written_answer written_buffer
+      joins_made {file} {file'} {r} filed =
+          let few = le-ltb 510 (length made.nodes) (omega (arith, ap (λ (c : Diagram). length c.nodes) drawn_is, nodes_long t₂, walked.entries.few)) in
+          let f = subst (λ (c : Diagram). Filed (diagram_bytes c) file file' r) drawn_is filed in
+          record { answer = f.answer ∙ sym (pick_false _ _ _ few); buffer = f.buffer ∙ sym (pick_false _ _ _ few); long = long₂ walked; rest = rest₂ walked }
 
 -- ---- the whole call
 
 -- what the walk asks, where all checks pass
-abbrev asked : (c : Chart) (d e : Diagram) (work left right : List ℕ) (got : LoadedTwo) → Loaded c d e (length work) left right got
-    → Joinable work left right got.width got.pairs got.first got.second
-asked c d e work left right got l = record {
+abbrev asked : {c : Chart} {d e : Diagram} {work : List ℕ} {got : LoadedTwo} (o : Operands) → o.width ≡ got.width → Loaded c d e (length work) o.left.now o.right.now got
+    → Joinable work o got.pairs got.roots
+asked {c} {d} {e} o is l = record {
   groups = group_count c;
   d = d;
   e = e;
-  inside = record { first = l.operand_first; second = l.operand_second; wide = l.wide; room = l.room };
+  inside = record { first = l.operand_first; second = l.operand_second; wide = is ∙ l.wide; room = l.room };
   sound_first = l.sound_first;
   sound_second = l.sound_second;
   root_first = l.root_first;
@@ -177,33 +175,11 @@ asked c d e work left right got l = record {
   needs = l.needs;
 }
 
-module _ (chart rules more work file left right : List ℕ) (got : LoadedTwo) (loads : LoadsTwo (load_two chart rules more (length work)) (length work) left right got) where
-  abbrev outcome : LoadTwo
-  outcome = load_two chart rules more (length work)
-
-  -- refused: both slices stay
-  pub call_refused : (got.number ≡ 0 → ⊥) → (r : Answer) → r ≡ refusal got.number got.file got.place 0
-      → ConjoinCall chart rules more (conjoin_slices work file) (conjoin_slices work file) r
-  call_refused n r e = go outcome refl loads
-    where
-      go : (o : LoadTwo) → outcome ≡ o → LoadsTwo o (length work) left right got → ConjoinPromise outcome (conjoin_slices work file) (conjoin_slices work file) r
-      go (refused_two number f place) q l =
-          rw q (e ∙ ap (λ (z : LoadedTwo). refusal z.number z.file z.place 0) l.0, refl, refl)
-      go (ready_two c d e) q l = absurd (n l.passed)
-
-  pub call_asks : got.number ≡ 0 → Joinable work left right got.width got.pairs got.first got.second
-  call_asks z = go outcome loads
-    where
-      go : (o : LoadTwo) → LoadsTwo o (length work) left right got → Joinable work left right got.width got.pairs got.first got.second
-      go (refused_two number f place) l = absurd (l.1 (sym (ap (λ (x : LoadedTwo). x.number) l.0) ∙ z))
-      go (ready_two c d e) l = asked c d e work left right got l
-
+module _ (chart rules more work file : List ℕ) where
   -- passed: what comes of the walk
-  pub call_joined : got.number ≡ 0 → (work' file' : List ℕ) (r : Answer)
-      → ((x : Joinable work left right got.width got.pairs got.first got.second) → Joins x file work' file' r)
-      → ConjoinCall chart rules more (conjoin_slices work file) (conjoin_slices work' file') r
-  call_joined z work' file' r joins = go outcome refl loads
-    where
-      go : (o : LoadTwo) → outcome ≡ o → LoadsTwo o (length work) left right got → ConjoinPromise outcome (conjoin_slices work file) (conjoin_slices work' file') r
-      go (refused_two number f place) q l = absurd (l.1 (sym (ap (λ (x : LoadedTwo). x.number) l.0) ∙ z))
-      go (ready_two c d e) q l = let j = joins (asked c d e work left right got l) in rw q (j.answer, j.buffer, j.long, j.rest)
+  module _ (o : Operands) (got : LoadedTwo) (is : o.width ≡ got.width) (loads : LoadsTwo (load_two chart rules more (length work)) (length work) o.left.now o.right.now (Ok got)) where
+    pub call_joined : (work' file' : List ℕ) (r : Answer) → ((x : Joinable work o got.pairs got.roots) → Joins x file work' file' r)
+        → ConjoinCall chart rules more (conjoin_slices work file) (conjoin_slices work' file') r
+    call_joined work' file' r joins =
+        let j = joins (asked o is loads.4) in
+        subst (λ (o : LoadTwo). ConjoinPromise o (conjoin_slices work file) (conjoin_slices work' file') r) (sym loads.3) (j.answer, j.buffer, j.long, j.rest)

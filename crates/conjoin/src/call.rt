@@ -3,45 +3,32 @@ ghost use Rattle.definitions.specs.Promises.{conjoin_slices, ConjoinCall};
 ghost use Rattle.conjoin.specs.Joins.{Joinable, Joins};
 
 use crate::load::load_two;
-use apply::apply;
-use checks::refusal;
-use definitions::Answer;
+use apply::{Operands, Pair, apply};
+use checks::{Refused, refusal};
+use definitions::{Answer, Refusal};
 use diagram_writer::write_diagram;
 use entries::clear;
-use unique_table::FULL;
+use unique_table::UniqueTable;
 
-// The file of the conjunction of two diagrams that stand in tables, from their roots.
-pub fn join<'a>(
+// The file of the conjunction of two diagrams that stand in tables, from their roots. `pairs` entries of `work` are used.
+pub fn join(
+    operands: &Operands,
+    roots: Pair,
+    pairs: usize,
     work: &mut [u32],
     file: &mut [u8],
-    left: &'a [u32; 512],
-    right: &'a [u32; 512],
-    width: usize,
-    pairs: usize,
-    first: u16,
-    second: u16,
 ) -> Answer
-    requires { Joinable work.old left.now right.now width pairs first second }
-    ensures { (x : Joinable work.old left.now right.now width pairs first second)
+    requires { Joinable work.old operands.now pairs roots }
+    ensures { (x : Joinable work.old operands.now pairs roots)
         → Joins x file.old work.new file.new result }
 {
     let mut nodes = [0u32; 512];
-    let mut chains = [0u16; 1024];
+    let mut table = UniqueTable::over(&mut nodes);
     clear(work, pairs);
-    let root = apply(
-        work,
-        &mut nodes,
-        &mut chains,
-        left,
-        right,
-        width,
-        first,
-        second,
-    );
-    if root == FULL {
-        return refusal(12, 0, 0, 0);
+    match apply(operands, work, &mut table, roots) {
+        Some(root) => write_diagram(file, &table, root),
+        None => refusal(Refused::of_call(Refusal::ManyNodes), 0),
     }
-    write_diagram(file, &nodes, &chains, root)
 }
 
 // The conjunction of the diagrams `rules` (file 2) and `more` (file 3) over one chart, reduced, as a file at the front of
@@ -53,11 +40,15 @@ pub fn conjoin(chart: &[u8], rules: &[u8], more: &[u8], work: &mut [u32], file: 
 {
     let mut left = [0u32; 512];
     let mut right = [0u32; 512];
-    let got = load_two(chart, rules, more, work.len(), &mut left, &mut right);
-    if got.number != 0 {
-        return refusal(got.number, got.file, got.place, 0);
+    match load_two(chart, rules, more, work.len(), &mut left, &mut right) {
+        Err(refused) => refusal(refused, 0),
+        Ok(got) => {
+            let operands = Operands {
+                left: &left,
+                right: &right,
+                width: got.width,
+            };
+            join(&operands, got.roots, got.pairs, work, file)
+        }
     }
-    join(
-        work, file, &left, &right, got.width, got.pairs, got.first, got.second,
-    )
 }

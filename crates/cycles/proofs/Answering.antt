@@ -21,6 +21,8 @@ use Rattle.checks.specs.Ready.{Walk, width_is}
 use Rattle.checks.specs.Heads.{headed_shape, headed_ready}
 use Rattle.guided_model.specs.Based.{LoggedFrom, logged_plain}
 use Rattle.guided_offers.specs.Work.{Work, past_same}
+use Rattle.std.specs.Prelude.{Some, None}
+use Rattle.guided_ends.specs.declared.Goal.{Goal}
 use Rattle.guided_ends.specs.declared.Ended as ended
 use Rattle.guided_seek.specs.Seeks.{Seeking, Sought}
 use Rattle.cycles.specs.Cycles.{work_of, Asking, Answered}
@@ -85,8 +87,8 @@ module _ {z : Shape} {on : Walk} {byNode : List ℕ} {x : CycleSlices} (ask : As
             past = record { work_past = sought.past; log_past = rw (← width) (log_past (graph C) (automaton C D) (estimate C D) l) };
           }
 
-      pub entry_found : r.found ≡ true → c' ≡ answered_by c 0 r.cost r.count → Answered z t x (cycle_slices y.keys y.via y.heap y.pos y.stack log') c c'
-      entry_found f e = answered (some r.cost) (sought.goal f).best (sought.goal f).logged e
+      pub entry_found : {g : Goal} → r.goal ≡ Some g → c' ≡ answered_by c 0 g.cost r.count → Answered z t x (cycle_slices y.keys y.via y.heap y.pos y.stack log') c c'
+      entry_found {g} f e = answered (some g.cost) (sought.goal g f).best (sought.goal g f).logged e
 
-      pub entry_none : r.found ≡ false → c' ≡ answered_by c 8 0 r.count → Answered z t x (cycle_slices y.keys y.via y.heap y.pos y.stack log') c c'
+      pub entry_none : r.goal ≡ None → c' ≡ answered_by c 8 0 r.count → Answered z t x (cycle_slices y.keys y.via y.heap y.pos y.stack log') c c'
       entry_none f e = answered none (sought.no_goal f).best (sought.no_goal f).logged e

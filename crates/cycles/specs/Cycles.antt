@@ -1,38 +1,39 @@
 -- What is asked and left by the parts of the call that fills a list of starts and ends.
 -- Assumes nothing.
-use Rattle.std.specs.Prelude.{ℕ, ◌≡◌, List, eqb, replicate, drop}
-use Rattle.definitions.specs.Basics.{pick}
-use Rattle.definitions.specs.Answers.{Load, ready, refused}
-use Rattle.definitions.specs.Promises.{CycleSlices, Cycled}
+use Rattle.std.specs.Prelude.{ℕ, ◌≡◌, List, Result, Ok, Err, replicate, drop}
+use Rattle.definitions.specs.Answers.{Load, ready}
+use Rattle.definitions.specs.Promises.{CycleSlices, cycle_slices, Cycled}
 use Rattle.definitions.specs.declared.Cycle.{Cycle}
 use Rattle.definitions.specs.declared.Shape.{Shape}
-use Rattle.checks.specs.declared.Loaded.{Loaded}
-use Rattle.checks.specs.Tables.{Read, Room, Refuses, chart_in, diagram_in, pairs_in}
+use Rattle.chart_fields.specs.declared.table.StepTable.{StepTable}
+use Rattle.checks.specs.declared.answers.Refused.{Refused}
+use Rattle.checks.specs.Refusing.{refused_as}
+use Rattle.checks.specs.Tables.{Read, Room, chart_in, diagram_in, pairs_in}
 use Rattle.checks.specs.Ready.{Walk}
 use Rattle.guided_offers.specs.Work.{Work, work, Past}
+use Rattle.guided_loop.specs.declared.turns.Slices.{Slices}
 use Rattle.guided_loop.specs.Search.{Space}
 use Rattle.guided_seek.specs.Seeks.{Prepared}
+
+-- what stands in the slices that each search is lent
+abbrev pub lent : Slices → CycleSlices
+lent s = cycle_slices s.keys.now s.via.now s.heap.now s.pos.now s.stack.now s.log.now
 
 -- the work slices among those that are lent, but for the log
 abbrev pub work_of : CycleSlices → Work
 work_of x = work x.keys x.via x.heap x.pos x.stack
 
 -- the tables before they are filled
-pub record Blank (steps : List (List ℕ)) (inner first row byNode : List ℕ) : Type 0 where
+pub record Blank (steps : StepTable) (inner first row byNode : List ℕ) : Type 0 where
   pub room : Room steps inner
   pub no_first : first ≡ replicate 257 0
   pub no_row : row ≡ replicate 256 0
   pub no_node : byNode ≡ replicate 512 0
 
 -- what the checks say, and the tables that are filled where they pass
-abbrev pub PreparesAs : Load → Walk → List ℕ → Loaded → Type 0
-PreparesAs (refused number file place) on byNode r = Refuses number file place r × (number ≡ 0 → ⊥)
-PreparesAs (ready c d) on byNode r =
-    (r.number ≡ 0) × (r.file ≡ 0) × (r.place ≡ 0) × (chart_in r.shape on.read ≡ c) × (diagram_in r.shape on.read ≡ d) × Prepared r.shape on byNode
-
--- how many entries of a list are answered
-unfoldable pub turns_of : ℕ → ℕ → ℕ
-turns_of number list = pick (eqb number 0) list 0
+abbrev pub PreparesAs : Load → Walk → List ℕ → Result Shape Refused → Type 0
+PreparesAs o on byNode (Ok z) = (o ≡ ready (chart_in z on.read) (diagram_in z on.read)) × Prepared z on byNode
+PreparesAs o on byNode (Err r) = o ≡ refused_as r
 
 -- an entry can be answered
 pub record Asking (z : Shape) (on : Walk) (byNode : List ℕ) (x : CycleSlices) : Type 0 where

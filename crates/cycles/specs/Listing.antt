@@ -1,46 +1,35 @@
 -- The loop over a list: what holds before each turn, and that the call keeps its promise.
 -- Assumes nothing.
-use Rattle.std.specs.Prelude.{ℕ, ◌+◌, ◌*◌, ◌≤◌, ◌<◌, ◌≡◌, refl, Bool, true, false, cond, List, [], ◌∷◌, leb, length, get_or, set, drop, replicate}
-use Rattle.std.proofs.Common.{sym, ◌∙◌, ap, ap₂, subst, arith, length-set, get_or-set_same, get_or-set_other, eq-eqb, ne_eqb, leb-true}
+use Rattle.std.specs.Prelude.{ℕ, ◌+◌, ◌*◌, ◌≤◌, ◌<◌, ◌≡◌, refl, Bool, true, false, cond, List, [], ◌∷◌, Ok, leb, length, get_or, set, drop, replicate}
+use Rattle.std.proofs.Common.{sym, ◌∙◌, ap, ap₂, subst, arith, length-set, get_or-set_same, get_or-set_other, leb-true}
 use Rattle.std.proofs.lemmas.List.{length-replicate}
 use Rattle.definitions.specs.Basics.{every}
 use Rattle.definitions.specs.Charts.{Chart}
 use Rattle.definitions.specs.Diagrams.{Diagram, strict}
-use Rattle.definitions.specs.Answers.{Load, ready, refused, read_files, with_work, load_work, work_fits, work_need, refusal}
+use Rattle.definitions.specs.Answers.{Load, ready, refused, read_files, with_work, load_work, work_fits, work_need, refusal, accepted}
 use Rattle.definitions.specs.Promises.{CycleSlices, Cycled, no_cycle, Scratch, cycles_load, CyclesPromise, CyclesCall}
-use Rattle.definitions.specs.declared.Answer.{Answer}
 use Rattle.definitions.specs.declared.Cycle.{Cycle}
 use Rattle.definitions.specs.declared.Shape.{Shape}
-use Rattle.theory.specs.Basics.{true_not_false, pick_true, pick_false, pick_cases, same_or_not, either}
-use Rattle.checks.specs.declared.Loaded.{Loaded}
+use Rattle.theory.specs.Basics.{true_not_false, pick_cases, same_or_not, either}
+use Rattle.definitions.specs.Refusals.{number}
+use Rattle.checks.specs.declared.answers.Refused.{Refused}
+use Rattle.checks.specs.Refusing.{file_mark, refused_as}
 use Rattle.checks.specs.Tables.{chart_in, diagram_in, pairs_in}
 use Rattle.checks.specs.Ready.{Walk, width_is}
 use Rattle.checks.specs.Outcome.{refused_not_ready, ready_left, ready_right}
 use Rattle.guided_offers.specs.Work.{past_same, past_more}
+use Rattle.guided_loop.specs.declared.turns.Slices.{Slices}
+use Rattle.guided_loop.specs.Views.{SameLent}
 use Rattle.guided_seek.specs.Seeks.{Prepared}
-use Rattle.cycles.specs.Cycles.{Blank, PreparesAs, turns_of, Asking, Pasts, Answered}
-
--- ---- how many entries are answered
-
-pub turns_all : (number n : ℕ) → number ≡ 0 → n ≡ turns_of number n
-unfolding turns_of
-turns_all number n h = sym (pick_true _ _ _ (eq-eqb number 0 h))
-
-pub turns_none : (number n : ℕ) → (number ≡ 0 → ⊥) → 0 ≡ turns_of number n
-unfolding turns_of
-turns_none number n h = sym (pick_false _ _ _ (ne_eqb number 0 h))
-
--- where one is answered no check failed
-pub turns_some : {number n i : ℕ} → i < turns_of number n → (number ≡ 0) × (i < n)
-turns_some {number} {n} h = either (same_or_not number 0) (λ e. (e, omega (arith, turns_all number n e))) (λ e. absurd (omega (arith, turns_none number n e)))
+use Rattle.cycles.specs.Cycles.{Blank, lent, PreparesAs, Asking, Pasts, Answered}
 
 -- ---- the checks
 
 -- tables of zeros
-pub blank : Blank (replicate 2 (replicate 1024 0)) (replicate 512 0) (replicate 257 0) (replicate 256 0) (replicate 512 0)
+pub blank : Blank (record { ends = replicate 1024 0; costs = replicate 1024 0 }) (replicate 512 0) (replicate 257 0) (replicate 256 0) (replicate 512 0)
 blank = record {
   room = record {
-    of_steps = record { columns = refl; ends = length-replicate {A = ℕ} 1024 0; costs = length-replicate {A = ℕ} 1024 0 };
+    of_steps = record { ends = length-replicate {A = ℕ} 1024 0; costs = length-replicate {A = ℕ} 1024 0 };
     of_nodes = record { long = length-replicate {A = ℕ} 512 0 };
   };
   no_first = refl;
@@ -48,18 +37,7 @@ blank = record {
   no_node = refl;
 }
 
--- where all checks pass: the chart and the diagram stand in the tables, which are filled
-record Passed (o : Load) (on : Walk) (byNode : List ℕ) (got : Loaded) : Type 0 where
-  pub prepared : Prepared got.shape on byNode
-  pub is : o ≡ ready (chart_in got.shape on.read) (diagram_in got.shape on.read)
-  pub no_file : got.file ≡ 0
-  pub no_place : got.place ≡ 0
-
-passed : (o : Load) {on : Walk} {byNode : List ℕ} {got : Loaded} → PreparesAs o on byNode got → got.number ≡ 0 → Passed o on byNode got
-passed (refused number file place) h e = absurd (h.1 (sym h.0.0 ∙ e))
-passed (ready c d) h e = record { prepared = h.5; is = sym (ap₂ (λ (i : Chart) (j : Diagram). ready i j) h.3 h.4); no_file = h.1; no_place = h.2 }
-
--- and the work slices are long enough
+-- where all checks pass, the work slices are long enough
 work_passed : (works : List ℕ) (o : Load) (c : Chart) (d : Diagram) → with_work works o ≡ ready c d → work_fits c d works ≡ true
 work_passed works (refused number file place) c d e = absurd (refused_not_ready number file place c d e)
 work_passed works (ready c' d') c d e =
@@ -109,29 +87,28 @@ pub record Lengths (x x' : CycleSlices) : Type 0 where
   pub stack : length x'.stack ≡ length x.stack
   pub log : length x'.log ≡ length x.log
 
--- the first i entries of the list are answered, the others are as they were; after a refusal nothing has changed
-pub record Going (got : Loaded) (on : Walk) (list : List Cycle) (x : CycleSlices) (list' : List Cycle) (x' : CycleSlices) (i : ℕ) : Type 0 where
+-- the same slices are as long
+pub lengths_same : (s s' : Slices) → SameLent s s' → Lengths (lent s) (lent s')
+lengths_same s s' e = record { keys = e.0.1; via = e.1.1; heap = e.2.1; pos = e.3.1; stack = e.4.1; log = e.5.1 }
+
+-- the first i entries of the list are answered, the others are as they were
+pub record Going (z : Shape) (on : Walk) (list : List Cycle) (x : CycleSlices) (list' : List Cycle) (x' : CycleSlices) (i : ℕ) : Type 0 where
   pub long : length list' ≡ length list
   pub lengths : Lengths x x'
-  pub past : Pasts (pairs_in got.shape) x x'
-  pub answered : (k : ℕ) → k < i → Cycled (chart_in got.shape on.read) (diagram_in got.shape on.read) (get_or list k no_cycle) (get_or list' k no_cycle)
+  pub past : Pasts (pairs_in z) x x'
+  pub answered : (k : ℕ) → k < i → Cycled (chart_in z on.read) (diagram_in z on.read) (get_or list k no_cycle) (get_or list' k no_cycle)
   pub others : (k : ℕ) → i ≤ k → get_or list' k no_cycle ≡ get_or list k no_cycle
-  pub still : (got.number ≡ 0 → ⊥) → (list' ≡ list) × (x' ≡ x)
 
-pub going_none : {got : Loaded} {on : Walk} {list : List Cycle} {x : CycleSlices} → Going got on list x list x 0
+pub going_none : {z : Shape} {on : Walk} {list : List Cycle} {x : CycleSlices} → Going z on list x list x 0
 going_none = record {
   long = refl;
   lengths = record { keys = refl; via = refl; heap = refl; pos = refl; stack = refl; log = refl };
   past = record { work_past = past_same; log_past = refl };
   answered = λ k h. absurd (omega arith);
   others = λ k h. refl;
-  still = λ n. (refl, refl);
 }
 
-module _ {got : Loaded} {on : Walk} {list : List Cycle} {x : CycleSlices} {list' : List Cycle} {x' : CycleSlices} {i : ℕ} (g : Going got on list x list' x' i) where
-  abbrev z : Shape
-  z = got.shape
-
+module _ {z : Shape} {on : Walk} {list : List Cycle} {x : CycleSlices} {list' : List Cycle} {x' : CycleSlices} {i : ℕ} (g : Going z on list x list' x' i) where
   abbrev C : Chart
   C = chart_in z on.read
 
@@ -142,14 +119,13 @@ module _ {got : Loaded} {on : Walk} {list : List Cycle} {x : CycleSlices} {list'
   need p = ap (λ (k : ℕ). z.stages * k) (width_is z on.read p.ready.tables)
 
   -- what the next entry's search asks
-  pub going_asks : (s u byNode : List ℕ) → PreparesAs (cycles_load s u x) on byNode got → i < turns_of got.number (length list) → Asking z on byNode x'
-  going_asks s u byNode h less =
-      let ok : Passed (cycles_load s u x) on byNode got = passed (cycles_load s u x) h (turns_some less).0 in
-      let fit = all_fit (work_need C D) x (ready_work s u _ C D ok.is) in
-      let e = need ok.prepared in
+  pub going_asks : (s u byNode : List ℕ) → PreparesAs (cycles_load s u x) on byNode (Ok z) → Asking z on byNode x'
+  going_asks s u byNode h =
+      let fit = all_fit (work_need C D) x (ready_work s u _ C D h.0) in
+      let e = need h.1 in
       let l = g.lengths in
       record {
-        prepared = ok.prepared;
+        prepared = h.1;
         space = record {
           keys_fit = omega (arith, e, fit.keys, l.keys);
           via_fits = omega (arith, e, fit.via, l.via);
@@ -161,8 +137,8 @@ module _ {got : Loaded} {on : Walk} {list : List Cycle} {x : CycleSlices} {list'
       }
 
   -- a turn
-  pub going_more : {y : Cycle} {x'' : CycleSlices} → i < turns_of got.number (length list) → Answered z on.read x' x'' (get_or list' i no_cycle) y → Lengths x' x''
-      → Going got on list x (set list' i y) x'' (i + 1)
+  pub going_more : {y : Cycle} {x'' : CycleSlices} → i < length list → Answered z on.read x' x'' (get_or list' i no_cycle) y → Lengths x' x''
+      → Going z on list x (set list' i y) x'' (i + 1)
   going_more {y} less a l = record {
     long = length-set list' i y ∙ g.long;
     lengths = record {
@@ -175,10 +151,9 @@ module _ {got : Loaded} {on : Walk} {list : List Cycle} {x : CycleSlices} {list'
     };
     past = record { work_past = past_more g.past.work_past a.past.work_past; log_past = a.past.log_past ∙ g.past.log_past };
     answered = λ k h. either (same_or_not k i)
-        (λ (q : k ≡ i). rw (q, get_or-set_same list' i y no_cycle (omega (arith, g.long, (turns_some less).1))) (rw (g.others i (omega arith)) at a.cycled))
+        (λ (q : k ≡ i). rw (q, get_or-set_same list' i y no_cycle (omega (arith, g.long, less))) (rw (g.others i (omega arith)) at a.cycled))
         (λ q. rw (get_or-set_other list' i k y no_cycle q) (g.answered k (omega arith)));
     others = λ k h. get_or-set_other list' i k y no_cycle (λ q. omega arith) ∙ g.others k (omega arith);
-    still = λ n. absurd (n (turns_some less).0);
   }
 
   -- ---- the end
@@ -186,16 +161,14 @@ module _ {got : Loaded} {on : Walk} {list : List Cycle} {x : CycleSlices} {list'
   scratch : {byNode : List ℕ} → Prepared z on byNode → (w w' : List ℕ) → length w' ≡ length w → drop (pairs_in z) w' ≡ drop (pairs_in z) w → Scratch (ready C D) w w'
   scratch p w w' e q = (e, ap (λ (k : ℕ). drop k w') (need p) ∙ q ∙ ap (λ (k : ℕ). drop k w) (sym (need p)))
 
-  abbrev told : Answer
-  told = refusal got.number got.file got.place 0
-
-  all_answered : (o : Load) {byNode : List ℕ} → Passed o on byNode got → got.number ≡ 0 → turns_of got.number (length list) ≤ i → CyclesPromise o x x' list list' told
-  all_answered o ok e over =
-      let p = ok.prepared in
+  -- every entry is answered
+  pub going_all : (s u byNode : List ℕ) → PreparesAs (cycles_load s u x) on byNode (Ok z) → length list ≤ i → CyclesCall s u x x' list list' (accepted 0 0 0)
+  going_all s u byNode h over =
+      let p = h.1 in
       let w = g.past.work_past in
       let l = g.lengths in
-      subst (λ (o' : Load). CyclesPromise o' x x' list list' told) (sym ok.is) (record {
-        listed = (rw (e, ok.no_file, ok.no_place) refl, record { long = g.long; each = λ k h. g.answered k (omega (arith, turns_all got.number (length list) e)) });
+      subst (λ (o : Load). CyclesPromise o x x' list list' (accepted 0 0 0)) (sym h.0) (record {
+        listed = (refl, record { long = g.long; each = λ k h. g.answered k (omega arith) });
         keys = scratch p x.keys x'.keys l.keys w.keys_past;
         via = scratch p x.via x'.via l.via w.via_past;
         heap = scratch p x.heap x'.heap l.heap w.heap_past;
@@ -204,20 +177,9 @@ module _ {got : Loaded} {on : Walk} {list : List Cycle} {x : CycleSlices} {list'
         log = scratch p x.log x'.log l.log g.past.log_past;
       })
 
-  all_left : (o : Load) (byNode : List ℕ) → PreparesAs o on byNode got → (got.number ≡ 0 → ⊥) → CyclesPromise o x x' list list' told
-  all_left (ready c d) byNode h n = absurd (n h.0)
-  all_left (refused number file place) byNode h n =
-      let k : x' ≡ x = (g.still n).1 in
-      record {
-        listed = (rw (h.0.0, h.0.1, h.0.2) refl, (g.still n).0);
-        keys = ap (λ (i : CycleSlices). i.keys) k;
-        via = ap (λ (i : CycleSlices). i.via) k;
-        heap = ap (λ (i : CycleSlices). i.heap) k;
-        pos = ap (λ (i : CycleSlices). i.pos) k;
-        stack = ap (λ (i : CycleSlices). i.stack) k;
-        log = ap (λ (i : CycleSlices). i.log) k;
-      }
-
-  pub going_all : (s u byNode : List ℕ) → PreparesAs (cycles_load s u x) on byNode got → turns_of got.number (length list) ≤ i → CyclesCall s u x x' list list' told
-  going_all s u byNode h over =
-      either (same_or_not got.number 0) (λ e. all_answered (cycles_load s u x) (passed (cycles_load s u x) h e) e over) (λ n. all_left (cycles_load s u x) byNode h n)
+-- a refusal leaves everything
+pub none_answered : (s u : List ℕ) (x : CycleSlices) (list : List Cycle) (r : Refused) → cycles_load s u x ≡ refused_as r
+    → CyclesCall s u x x list list (refusal (number r.refusal) (file_mark r.file) r.place 0)
+none_answered s u x list r is =
+    subst (λ (o : Load). CyclesPromise o x x list list (refusal (number r.refusal) (file_mark r.file) r.place 0)) (sym is)
+    (record { listed = (refl, refl); keys = refl; via = refl; heap = refl; pos = refl; stack = refl; log = refl })

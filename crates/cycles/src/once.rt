@@ -1,53 +1,42 @@
 // What is done once for a list: the checks, and the tables that no start or end changes.
-ghost use Rattle.std.specs.Prelude.{◌≡◌, [], ◌∷◌};
-ghost use Rattle.definitions.specs.Answers.{load_work};
+ghost use Rattle.definitions.specs.Promises.{cycles_load};
 ghost use Rattle.checks.specs.Tables.{read};
 ghost use Rattle.checks.specs.Ready.{walk};
-ghost use Rattle.cycles.specs.Cycles.{Blank, turns_of, PreparesAs};
+ghost use Rattle.cycles.specs.Cycles.{Blank, lent, PreparesAs};
 
-use checks::{Loaded, load};
-use convert::lesser;
+use chart_fields::StepTable;
+use checks::{Refused, load};
+use definitions::Shape;
+use guided_loop::Slices;
 use guided_seek::fill_tables;
 
 // No plan slice is lent: the longest plan that any chart has, so that none is asked for.
 const MOST_STEPS: usize = 255;
 
-// Checks both files and the lengths of the six work slices, and fills the tables.
+// Checks both files and the lengths of the six slices that each search is lent, and fills the tables.
 pub fn prepare(
     chart: &[u8],
     rules: &[u8],
-    keys: usize,
-    via: usize,
-    heap: usize,
-    pos: usize,
-    stack: usize,
-    log: usize,
-    steps: &mut [[u32; 1024]; 2],
+    slices: &Slices<'_>,
+    steps: &mut StepTable,
     inner: &mut [u32; 512],
     first: &mut [u16; 257],
     row: &mut [u32; 256],
     by_node: &mut [u32; 512],
-) -> Loaded
+) -> Result<Shape, Refused>
     requires { Blank steps.old inner.old first.old row.old by_node.old }
-    ensures { let o = load_work chart.now rules.now (keys ∷ via ∷ heap ∷ pos ∷ stack ∷ log ∷ []) in
+    ensures { let o = cycles_load chart.now rules.now (lent slices.now) in
         let on = walk (read steps.new inner.new) first.new row.new in
         PreparesAs o on by_node.new result }
 {
-    let shorter = lesser(lesser(lesser(keys, via), heap), pos);
-    let work = lesser(lesser(shorter, stack), log);
-    let got = load(chart, rules, work, MOST_STEPS, steps, inner);
-    if got.number == 0 {
-        fill_tables(first, row, by_node, got.shape, steps, inner);
-    }
-    got
-}
-
-// How many entries of a list are answered: all, or none after a refusal.
-pub fn turns(got: Loaded, list: usize) -> usize
-    ensures { result ≡ turns_of got.number list }
-{
-    if got.number == 0 {
-        return list;
-    }
-    0
+    let open = slices
+        .keys
+        .len()
+        .min(slices.via.len())
+        .min(slices.heap.len());
+    let shorter = open.min(slices.pos.len()).min(slices.stack.len());
+    let work = shorter.min(slices.log.len());
+    let z = load(chart, rules, work, MOST_STEPS, steps, inner)?;
+    fill_tables(first, row, by_node, z, steps, inner);
+    Ok(z)
 }

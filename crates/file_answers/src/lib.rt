@@ -4,15 +4,16 @@
 ghost use Rattle.std.specs.Prelude.{◌≡◌};
 ghost use Rattle.definitions.specs.Answers.{file_answer};
 
-use checks::{accepted, refusal};
-use definitions::Answer;
+use checks::{Refused, accepted, refusal};
+use definitions::{Answer, Refusal};
 
 // For a file of so many bytes and a buffer of `room` bytes: 7 where the buffer is too short.
+#[tactic(auto, unfolding(definitions::specs::Answers::file_answer, definitions::specs::Basics::pick))]
 pub fn file_answer(bytes: usize, room: usize) -> Answer
     ensures { result ≡ file_answer bytes room }
 {
     if room < bytes {
-        return refusal(7, 0, 0, 0);
+        return refusal(Refused::of_call(Refusal::ShortSlice), 0);
     }
     accepted(0, bytes, 0)
 }

@@ -1,19 +1,24 @@
 -- What the parts of the guided search ask of each other once both files stand in tables.
 -- Assumes nothing.
-use Rattle.std.specs.Prelude.{◌-◌, ◌≤◌, length}
+use Rattle.std.specs.Prelude.{ℕ, ◌-◌, ◌≤◌, List, length}
 use Rattle.definitions.specs.Plans.{cheapest}
-use Rattle.definitions.specs.Promises.{Outcome, Logged, GuidedSlices}
+use Rattle.definitions.specs.Promises.{Outcome, Logged, GuidedSlices, guided_slices}
 use Rattle.definitions.specs.declared.Answer.{Answer}
 use Rattle.definitions.specs.declared.Shape.{Shape}
 use Rattle.checks.specs.Tables.{Read, chart_in, diagram_in, pairs_in}
 use Rattle.checks.specs.Ready.{graph_in, automaton_in}
 use Rattle.guided_offers.specs.Work.{Work, work, Past}
+use Rattle.guided_loop.specs.declared.turns.Slices.{Slices}
 use Rattle.guided_loop.specs.Search.{Space}
 use Rattle.guided_seek.specs.Seeks.{estimate_in}
 
 -- the work slices among all slices
 abbrev pub work_of : GuidedSlices → Work
 work_of x = work x.keys x.via x.heap x.pos x.stack
+
+-- what stands in the lent slices and in that for the plan
+abbrev pub with_plan : Slices → List ℕ → GuidedSlices
+with_plan s plan = guided_slices s.keys.now s.via.now s.heap.now s.pos.now s.stack.now s.log.now plan
 
 -- the slices are long enough
 pub record Room (z : Shape) (x : GuidedSlices) : Type 0 where

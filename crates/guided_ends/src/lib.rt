@@ -4,24 +4,29 @@
 ghost use Rattle.chart.specs.Tables.{steps_in};
 ghost use Rattle.guided_ends.specs.Ends.{Ending, Concludes};
 
-use chart_fields::ENDS;
-use checks::{accepted, refusal};
-use definitions::{Answer, Node, Shape};
+use chart_fields::StepTable;
+use checks::{Refused, accepted, refusal};
+use definitions::{Answer, Node, Refusal, Shape};
 use trace::write_plan;
 
-// Whether a goal pair was settled, its node and its cost; and how many pairs were settled.
+// The node of a goal pair, and what the way to it costs.
 #[derive(Clone, Copy)]
-pub struct Ended {
-    pub found: bool,
+pub struct Goal {
     pub node: Node,
     pub cost: u32,
+}
+
+// The goal pair that was settled, if one was, and how many pairs were settled.
+#[derive(Clone, Copy)]
+pub struct Ended {
+    pub goal: Option<Goal>,
     pub count: usize,
 }
 
 // The answer by how the search ended; where a goal pair was settled, the trail from the start to it is written as the plan.
 pub fn conclude<'a>(
     via: &'a [u32],
-    steps: &'a [[u32; 1024]; 2],
+    steps: &'a StepTable,
     row: &'a [u32; 256],
     z: Shape,
     ended: Ended,
@@ -31,9 +36,11 @@ pub fn conclude<'a>(
     ensures { let table = steps_in steps.now in
         Concludes z via.now table row.now ended plan.old plan.new result }
 {
-    if ended.found {
-        let length = write_plan(via, &steps[ENDS], row, z.start, z.end, ended.node, plan);
-        return accepted(ended.cost, length, ended.count);
+    match ended.goal {
+        None => refusal(Refused::of_call(Refusal::NoLegalPlan), ended.count),
+        Some(goal) => {
+            let length = write_plan(via, steps, row, z.start, z.end, goal.node, plan);
+            accepted(goal.cost, length, ended.count)
+        }
     }
-    refusal(8, 0, 0, ended.count)
 }

@@ -9,8 +9,7 @@ use mathlib.Core.Option.{some}
 use native.Mathlib.Omega.{arith}
 use lib.ListN.{length, get_or}
 use Rattle.definitions.specs.Basics.{NONE}
-use Rattle.queue.specs.declared.Counts.{Counts}
-use Rattle.queue.specs.Queue.{Contains}
+use Rattle.queue.specs.Queue.{Counts, Contains}
 use Rattle.queue.proofs.Facts.{keys_fit, contains_pair, contains_keys, queue_keys}
 use Rattle.definitions.specs.Ways.{Graph}
 use Rattle.definitions.specs.Pairs.{Automaton, Estimate, pair}
@@ -18,9 +17,8 @@ use Rattle.definitions.specs.Promises.{shown}
 use Rattle.definitions.specs.declared.Shape.{Shape}
 use Rattle.theory.specs.Ways.{step_cheap}
 use Rattle.via_marks.specs.Marks.{packed}
-use Rattle.chart.specs.Tables.{Steps}
 use Rattle.checks.specs.Tables.{Tables, pairs_in}
-use Rattle.checks.specs.Ready.{Walk, walk, graph_in, automaton_in, count_is, width_is, few_stages, few_nodes, few_steps, to_at, cost_at_lem}
+use Rattle.checks.specs.Ready.{Walk, graph_in, automaton_in, count_is, width_is, few_stages, few_nodes, few_steps, to_at, cost_at_lem}
 use Rattle.guided_model.specs.Bounds.{estimate_none, estimate_some}
 use Rattle.guided_model.specs.Moves.{Offerable, offerable, step_none, step_relaxed}
 use Rattle.guided_model.specs.Settling.{Target, target}
@@ -30,10 +28,10 @@ use Rattle.guided_keys.specs.Seen.{seen_block, offerable_seen, relaxed_seen, ope
 use Rattle.guided_offers.specs.Work.{Work, work, marks_in, kept_same, Offering, Relaxes}
 use Rattle.guided_expand.specs.Progress.{Progress, progress, queue_of, seen_in}
 use Rattle.guided_expand.specs.Guides.{row_begins, few_pairs}
-use Rattle.guided_expand.specs.Opening.{source_stage, source_node, Opened, opens_on, tables_of, Leading}
+use Rattle.guided_expand.specs.Opening.{source_stage, source_node, Opened, opens_on, Leading}
 use Rattle.guided_expand.specs.declared.steps.Source.{Source}
 
-module _ {steps : Steps} {row : List ℕ} {t : Estimates} {from : Source} {pairs e to : ℕ} {x : Progress} (l : Leading steps row t from pairs e to x) where
+module _ {on : Walk} {t : Estimates} {from : Source} {pairs e to : ℕ} {x : Progress} (l : Leading on t from pairs e to x) where
   abbrev s : ℕ
   s = source_stage from
 
@@ -45,9 +43,6 @@ module _ {steps : Steps} {row : List ℕ} {t : Estimates} {from : Source} {pairs
 
   abbrev z : Shape
   z = l.z
-
-  abbrev on : Walk
-  on = walk (tables_of steps l.inner) l.first row
 
   abbrev g : Graph
   g = graph_in z on.read
@@ -82,14 +77,14 @@ module _ {steps : Steps} {row : List ℕ} {t : Estimates} {from : Source} {pairs
   pub target_small : to < 512
   target_small = omega (arith, l.enters, next_inside, narrow)
 
-  cost_is : get_or steps.cost e 0 ≡ g.cost e
+  cost_is : get_or on.read.steps.cost e 0 ≡ g.cost e
   cost_is = cost_at_lem z on.read tables e l.exists
 
   pairs_are : z.stages * a.size ≡ pairs_in z
   pairs_are = ap (λ (k : ℕ). z.stages * k) size_is
 
   -- the code finds the stage that the step enters
-  module _ {entered : ℕ} (led : entered ≡ get_or steps.to e 0) where
+  module _ {entered : ℕ} (led : entered ≡ get_or on.read.steps.to e 0) where
     to_stage : entered ≡ g.to e
     to_stage = led ∙ to_at z on.read tables e l.exists
 
@@ -102,7 +97,7 @@ module _ {steps : Steps} {row : List ℕ} {t : Estimates} {from : Source} {pairs
     entered_inside : entered < z.stages
     entered_inside = omega (arith, to_stage, stage_inside)
 
-    row_is : get_or row entered 0 ≡ entered * a.size
+    row_is : get_or on.row entered 0 ≡ entered * a.size
     row_is = row_begins l.by.ready entered entered_inside
 
     module _ (rest : ℕ) (er : rest ≡ paired t entered to) where
@@ -120,14 +115,14 @@ module _ {steps : Steps} {row : List ℕ} {t : Estimates} {from : Source} {pairs
         has : h (g.to e) (a.next e n) ≡ some rest
         has = estimate_some l.by.guide (g.to e) (a.next e n) rest shown_is q
 
-        pub leads_fit : spent + get_or steps.cost e 0 + rest ≤ 2820000000
+        pub leads_fit : spent + get_or on.read.steps.cost e 0 + rest ≤ 2820000000
         leads_fit =
             omega (arith, l.opens.settling.cheap, cost_is, step_cheap g tables.valid e exists, l.by.guide.bounded (g.to e) (a.next e n) rest next_inside has)
 
         leads : Target l.by.guide from.key (pair a (g.to e) (a.next e n)) (spent + g.cost e + rest)
         leads = target l.by.guide s n spent from.key e rest l.opens.settling exists l.leaves has
 
-        module _ (y : ℕ) (ey : y ≡ get_or row entered 0 + to) where
+        module _ (y : ℕ) (ey : y ≡ get_or on.row entered 0 + to) where
           pair_is : y ≡ pair a (g.to e) (a.next e n)
           pair_is = omega (arith, row_is, l.enters, to_stage, ap (λ (k : ℕ). k * a.size) to_stage)
 
@@ -172,10 +167,8 @@ module _ {steps : Steps} {row : List ℕ} {t : Estimates} {from : Source} {pairs
               blocks = o.long;
             }
 
-            abbrev pub block_leading : Leading steps row t from pairs e to x'
+            abbrev pub block_leading : Leading on t from pairs e to x'
             block_leading = record {
-              inner = l.inner;
-              first = l.first;
               z = l.z;
               by = l.by;
               opens = opens_on l.by from refl l.opens block_opened;
@@ -186,7 +179,7 @@ module _ {steps : Steps} {row : List ℕ} {t : Estimates} {from : Source} {pairs
 
           -- ---- the offer
 
-          module _ (v : ℕ) (ev : v ≡ spent + get_or steps.cost e 0 + rest) (filled : is_filled (pairs_in z) x.filled y ≡ true) where
+          module _ (v : ℕ) (ev : v ≡ spent + get_or on.read.steps.cost e 0 + rest) (filled : is_filled (pairs_in z) x.filled y ≡ true) where
             key_is : v ≡ spent + g.cost e + rest
             key_is = omega (arith, cost_is)
 

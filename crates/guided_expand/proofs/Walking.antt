@@ -1,10 +1,10 @@
--- The loops of `settle_plain` and `settle_grouped`: the steps before e have been offered, and the node is lowered for the group of one of them.
+-- The loop of `settle_kind`: the steps before e have been offered, and the node is lowered for the group of one of them.
 -- Assumes nothing.
 use Prim.Native.Nat.{ℕ, ◌+◌, ◌≤◌, ◌<◌}
 use mathlib.Core.Path.{◌≡◌, refl, sym, ◌∙◌, ap, subst}
+use mathlib.Core.Bool.{Bool, true, false}
 use native.Mathlib.Omega.{arith}
 use lib.ListN.{length, get_or}
-use Rattle.definitions.specs.Charts.{grouped}
 use Rattle.definitions.specs.Diagrams.{advance}
 use Rattle.definitions.specs.Ways.{Graph}
 use Rattle.definitions.specs.Pairs.{Automaton}
@@ -14,14 +14,15 @@ use Rattle.diagram_fields.specs.Words.{MARK, Nodes, Marked}
 use Rattle.nodes.specs.Walks.{Falls, Lowers, BranchesTo}
 use Rattle.nodes.specs.Falling.{lo_falls}
 use Rattle.nodes.specs.Advancing.{lowers_zero, lowers_on, advancing_dead}
-use Rattle.checks.specs.Tables.{Named, Tables, chart_in, diagram_in, pairs_in}
-use Rattle.checks.specs.Ready.{Walk, graph_in, automaton_in, count_is, width_is, few_stages, few_nodes, few_steps, group_at, named_at, own_at, first_leave, first_order}
+use Rattle.checks.specs.Tables.{Tables, chart_in, diagram_in, pairs_in}
+use Rattle.checks.specs.Ready.{Walk, graph_in, automaton_in, count_is, width_is, few_stages, few_nodes, few_steps, group_at, own_at, first_leave, first_order}
 use Rattle.guided_model.specs.Bounds.{dead_steps}
 use Rattle.guided_model.specs.Moves.{expanded_none}
 use Rattle.guided_offers.specs.Estimates.{Estimates}
 use Rattle.guided_offers.specs.Work.{kept_same}
 use Rattle.guided_expand.specs.Progress.{Progress, seen_in}
 use Rattle.guided_expand.specs.Guides.{Guides}
+use Rattle.guided_expand.specs.Kinds.{Kind, GroupOf}
 use Rattle.guided_expand.specs.Opening.{source_stage, source_node, Opens, Opened, opens_on, opened_more, Opening, Leading}
 use Rattle.guided_expand.specs.declared.steps.Source.{Source}
 
@@ -105,11 +106,10 @@ module _ {z : Shape} {on : Walk} {t : Estimates} {by : Guides z on t} {from : So
     exist : (f : ℕ) → f < first_of on (s + 1) → f < g.count
     exist f h = omega (arith, (first_order z on by.ready s w.opens.settling.stage).1, count_is z on.read tables)
 
-    pub walk_named : Named on.read → get_or on.read.steps.tag e 0 ≡ grouped
-    walk_named = named_at z on.read tables e leaving.0
-
-    pub walk_own : (Named on.read → ⊥) → e ≡ get_or on.read.steps.group e 0
-    walk_own = own_at z on.read tables e leaving.0
+    -- what the code takes for the step's group, by the kind of the steps
+    pub walk_group : {k : ℕ} (grouped : Bool) → Kind grouped on.read → GroupOf grouped on.read.steps e k → k ≡ get_or on.read.steps.group e 0
+    walk_group true named q = q
+    walk_group false plain q = q ∙ own_at z on.read tables e leaving.0 plain
 
     -- the group k of step e, by which the node is advanced
     module _ {k : ℕ} (ek : k ≡ get_or on.read.steps.group e 0) where
@@ -152,10 +152,8 @@ module _ {z : Shape} {on : Walk} {t : Estimates} {by : Guides z on t} {from : So
 
         -- the step leads to node `to`
         module _ {to : ℕ} (b : BranchesTo inner.step inner.hi k r to) where
-          abbrev pub walk_leading : Leading on.read.steps on.row t from pairs e to x
+          abbrev pub walk_leading : Leading on t from pairs e to x
           walk_leading = record {
-            inner = on.read.inner;
-            first = on.first;
             z = z;
             by = by;
             opens = w.opens;

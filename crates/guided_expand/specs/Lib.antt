@@ -1,3 +1,4 @@
 pub mod Progress
 pub mod Guides
+pub mod Kinds
 pub mod Opening

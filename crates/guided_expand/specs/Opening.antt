@@ -1,15 +1,13 @@
 -- What opening the pairs that follow from a settled pair rests on, and what it leaves.
 -- Assumes nothing.
-use Rattle.std.specs.Prelude.{ℕ, ◌≤◌, ◌<◌, ◌≡◌, List, length}
+use Rattle.std.specs.Prelude.{ℕ, ◌≤◌, ◌<◌, ◌≡◌, length}
 use Rattle.std.proofs.Common.{◌∙◌, arith}
 use Rattle.queue.specs.Queue.{Queue}
 use Rattle.definitions.specs.Ways.{Graph}
 use Rattle.definitions.specs.Pairs.{Automaton}
 use Rattle.definitions.specs.declared.Shape.{Shape}
-use Rattle.chart.specs.Tables.{Steps}
-use Rattle.diagram_fields.specs.Words.{Nodes}
-use Rattle.checks.specs.Tables.{Read, pairs_in}
-use Rattle.checks.specs.Ready.{Walk, walk, graph_in, automaton_in}
+use Rattle.checks.specs.Tables.{pairs_in}
+use Rattle.checks.specs.Ready.{Walk, graph_in, automaton_in}
 use Rattle.guided_model.specs.Moves.{Frontier, frontier_moved, Expanded, expanded_more}
 use Rattle.guided_model.specs.Settling.{Settling}
 use Rattle.guided_offers.specs.Estimates.{Estimates}
@@ -72,17 +70,11 @@ pub record Opening (on : Walk) (t : Estimates) (from : Source) (pairs : ℕ) (x 
   pub by : Guides z on t
   pub opens : Opens by from pairs x
 
--- both tables as one
-abbrev pub tables_of : Steps → Nodes → Read
-tables_of steps inner = record { steps = steps; inner = inner }
-
 -- step e leads from a settled pair to node `to`, and can be offered, in the tables of some chart and diagram by some guide
-pub record Leading (steps : Steps) (row : List ℕ) (t : Estimates) (from : Source) (pairs e to : ℕ) (x : Progress) : Type 0 where
-  pub inner : Nodes
-  pub first : List ℕ
+pub record Leading (on : Walk) (t : Estimates) (from : Source) (pairs e to : ℕ) (x : Progress) : Type 0 where
   pub z : Shape
-  pub by : Guides z (walk (tables_of steps inner) first row) t
+  pub by : Guides z on t
   pub opens : Opens by from pairs x
   pub exists : e < z.steps
-  pub leaves : (graph_in z (tables_of steps inner)).from e ≡ source_stage from
-  pub enters : to ≡ (automaton_in z (tables_of steps inner)).next e (source_node from)
+  pub leaves : (graph_in z on.read).from e ≡ source_stage from
+  pub enters : to ≡ (automaton_in z on.read).next e (source_node from)

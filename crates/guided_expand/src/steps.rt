@@ -1,20 +1,19 @@
 // The steps from a pair, in ascending order: each is offered to the pair that it leads to.
-ghost use Rattle.std.specs.Prelude.{◌+◌, get_or};
+ghost use Rattle.std.specs.Prelude.{◌+◌, ◌<◌, get_or};
 ghost use Rattle.chart.specs.Tables.{steps_in};
-ghost use Rattle.checks.specs.Tables.{read, Named};
-ghost use Rattle.checks.specs.Ready.{walk};
-ghost use Rattle.guided_offers.specs.Estimates.{estimates};
-ghost use Rattle.guided_offers.specs.Work.{work};
-ghost use Rattle.guided_expand.specs.Progress.{progress};
+ghost use Rattle.checks.specs.Ready.{walked};
+ghost use Rattle.guided_offers.specs.Views.{estimates_of, SameSlices};
+ghost use Rattle.guided_expand.specs.Progress.{progress_of};
 ghost use Rattle.guided_expand.specs.Opening.{Opened, Opening, Leading};
+ghost use Rattle.guided_expand.specs.Kinds.{GroupOf, Kind};
 
-use chart_fields::{COST, ENDS, group_at, tag_at, to_at};
+use chart_fields::StepTable;
+use checks::WalkTables;
 use definitions::{Group, NONE, Node, Step};
 use guided_keys::open_block;
-use guided_offers::{pair_estimate, relax};
+use guided_offers::{Estimates, Work};
 use guided_places::Pair;
 use nodes::{branch, descend_to, lowered_at};
-use queue::Counts;
 use trace::pair_at;
 use via_marks::packed;
 
@@ -26,211 +25,104 @@ pub struct Source {
     pub key: u32,
 }
 
-// Offers step e, which leaves the settled pair `source` and leads to node t. There are `pairs` pairs in all.
-fn offer<'a>(
-    keys: &mut [u32],
-    via: &mut [u32],
-    heap: &mut [u32],
-    pos: &mut [u32],
-    stack: &mut [u32],
+// Offers step e, which leaves the settled pair `source` and leads to node t. `filled` marks the blocks of keys that are filled;
+// there are `pairs` pairs in all. Both stand beside the work space: slices lent through a struct round it get no proof.
+fn offer<'t>(
+    work: &mut Work<'_, '_, '_>,
     filled: &mut [bool; 1024],
     pairs: usize,
-    counts: Counts,
-    steps: &'a [[u32; 1024]; 2],
-    row: &'a [u32; 256],
-    by_stage: &'a [u32; 256],
-    by_node: &'a [u32; 512],
+    tables: WalkTables<'t>,
+    estimates: Estimates<'t>,
     source: Source,
     e: Step,
     t: Node,
-) -> Counts
-    requires { let slices = work keys.old via.old heap.old pos.old stack.old in
-        let before = progress slices filled.old counts in
-        let estimated = estimates by_stage.now by_node.now in
-        Leading (steps_in steps.now) row.now estimated source pairs e.0 t.0 before }
-    ensures { let slices = work keys.old via.old heap.old pos.old stack.old in
-        let slices' = work keys.new via.new heap.new pos.new stack.new in
-        let before = progress slices filled.old counts in
-        let after = progress slices' filled.new result in
-        let estimated = estimates by_stage.now by_node.now in
-        (x : Leading (steps_in steps.now) row.now estimated source pairs e.0 t.0 before)
+)
+    requires { Leading (walked tables) (estimates_of estimates) source pairs e.0 t.0 (progress_of work.old filled.old) }
+    ensures same { SameSlices work.old work.new }
+    ensures offered { let before = progress_of work.old filled.old in
+        let after = progress_of work.new filled.new in
+        (x : Leading (walked tables.entry) (estimates_of estimates.entry) source pairs e.0 t.0 before)
         → Opened x.by source e.0 (e.0 + 1) before after }
 {
-    let i = e.0 as usize;
-    let stage = to_at(&steps[ENDS], i);
-    let rest = pair_estimate(by_stage, by_node, stage, t);
+    let stage = tables.steps.to(e);
+    let rest = estimates.of_pair(stage, t);
     if rest == NONE {
-        return counts;
+        return;
     }
-    let y = pair_at(row, stage, t);
-    open_block(keys, filled, y, pairs);
-    let v = source.cost + steps[COST][i] + rest;
-    relax(
-        keys,
-        via,
-        heap,
-        pos,
-        stack,
-        counts,
-        source.key,
-        y,
-        v,
-        packed(stage, e, source.pair.node),
-    )
+    let y = pair_at(tables.row, stage, t);
+    let queue = &mut *work.queue;
+    open_block(queue.keys, filled, y, pairs);
+    let v = source.cost + tables.steps.cost(e) + rest;
+    work.relax(source.key, y, v, packed(stage, e, source.pair.node));
 }
 
-// Offers the steps that leave the settled pair `source`, where each is a group alone, that of its own number: the loop reads no
-// group. The pair's node is lowered from one step to the next; once it is 0, no further step leads to a pair.
-fn settle_plain<'a>(
-    keys: &mut [u32],
-    via: &mut [u32],
-    heap: &mut [u32],
-    pos: &mut [u32],
-    stack: &mut [u32],
+// The group of step e: the one that it names, where the steps name groups; else the one of its own number.
+fn group_of<'a, const GROUPED: bool>(steps: &'a StepTable, e: Step) -> Group
+    requires { e.0 < 1024 }
+    ensures { GroupOf GROUPED (steps_in steps.now) e.0 result.0 }
+{
+    if GROUPED {
+        return steps.group(e);
+    }
+    Group(e.0)
+}
+
+// Offers the steps that leave the settled pair `source`. The pair's node is lowered from one step to the next; once it is 0, no
+// further step leads to a pair. There is a loop for each kind of steps, so that the one of plain steps reads no group.
+fn settle_kind<'t, const GROUPED: bool>(
+    work: &mut Work<'_, '_, '_>,
     filled: &mut [bool; 1024],
     pairs: usize,
-    counts: Counts,
-    steps: &'a [[u32; 1024]; 2],
-    first: &'a [u16; 257],
-    row: &'a [u32; 256],
-    inner: &'a [u32; 512],
-    by_stage: &'a [u32; 256],
-    by_node: &'a [u32; 512],
+    tables: WalkTables<'t>,
+    estimates: Estimates<'t>,
     source: Source,
-) -> Counts
-    requires { let slices = work keys.old via.old heap.old pos.old stack.old in
-        let before = progress slices filled.old counts in
-        let on = walk (read steps.now inner.now) first.now row.now in
-        let estimated = estimates by_stage.now by_node.now in
-        Opening on estimated source pairs before × (Named on.read → ⊥) }
-    ensures { let slices = work keys.old via.old heap.old pos.old stack.old in
-        let slices' = work keys.new via.new heap.new pos.new stack.new in
-        let before = progress slices filled.old counts in
-        let after = progress slices' filled.new result in
-        let on = walk (read steps.now inner.now) first.now row.now in
-        let estimated = estimates by_stage.now by_node.now in
+)
+    requires opening { Opening (walked tables) (estimates_of estimates) source pairs (progress_of work.old filled.old) }
+    requires kind { Kind GROUPED (walked tables).read }
+    ensures same { SameSlices work.old work.new }
+    ensures settled { let before = progress_of work.old filled.old in
+        let after = progress_of work.new filled.new in
+        let on = walked tables.entry in
         let s = source.pair.stage.0 in
-        (x : Opening on estimated source pairs before)
+        (x : Opening on (estimates_of estimates.entry) source pairs before)
         → Opened x.by source (get_or on.first s 0) (get_or on.first (s + 1) 0) before after }
 {
     let s = source.pair.stage.0 as usize;
-    let until = first[s + 1];
-    let mut left = counts;
+    let inner = tables.inner;
     let mut m = lowered_at(inner, source.pair.node);
-    let mut e = first[s];
-    while e < until {
+    for e in tables.first[s]..tables.first[s + 1] {
         let step = Step(e);
-        let key = Group(e);
-        m = descend_to(inner, key, m);
-        if m.node.0 == 0 {
-            return left;
-        }
-        let t = branch(inner, key, m);
-        left = offer(
-            keys, via, heap, pos, stack, filled, pairs, left, steps, row, by_stage, by_node,
-            source, step, t,
-        );
-        e += 1;
-    }
-    left
-}
-
-// The same where each step names its group.
-fn settle_grouped<'a>(
-    keys: &mut [u32],
-    via: &mut [u32],
-    heap: &mut [u32],
-    pos: &mut [u32],
-    stack: &mut [u32],
-    filled: &mut [bool; 1024],
-    pairs: usize,
-    counts: Counts,
-    steps: &'a [[u32; 1024]; 2],
-    first: &'a [u16; 257],
-    row: &'a [u32; 256],
-    inner: &'a [u32; 512],
-    by_stage: &'a [u32; 256],
-    by_node: &'a [u32; 512],
-    source: Source,
-) -> Counts
-    requires { let slices = work keys.old via.old heap.old pos.old stack.old in
-        let before = progress slices filled.old counts in
-        let on = walk (read steps.now inner.now) first.now row.now in
-        let estimated = estimates by_stage.now by_node.now in
-        Opening on estimated source pairs before × Named on.read }
-    ensures { let slices = work keys.old via.old heap.old pos.old stack.old in
-        let slices' = work keys.new via.new heap.new pos.new stack.new in
-        let before = progress slices filled.old counts in
-        let after = progress slices' filled.new result in
-        let on = walk (read steps.now inner.now) first.now row.now in
-        let estimated = estimates by_stage.now by_node.now in
-        let s = source.pair.stage.0 in
-        (x : Opening on estimated source pairs before)
-        → Opened x.by source (get_or on.first s 0) (get_or on.first (s + 1) 0) before after }
-{
-    let s = source.pair.stage.0 as usize;
-    let until = first[s + 1];
-    let mut left = counts;
-    let mut m = lowered_at(inner, source.pair.node);
-    let mut e = first[s];
-    while e < until {
-        let step = Step(e);
-        let group = group_at(&steps[ENDS], e as usize);
+        let group = group_of::<GROUPED>(tables.steps, step);
         m = descend_to(inner, group, m);
         if m.node.0 == 0 {
-            return left;
+            return;
         }
         let t = branch(inner, group, m);
-        left = offer(
-            keys, via, heap, pos, stack, filled, pairs, left, steps, row, by_stage, by_node,
-            source, step, t,
-        );
-        e += 1;
+        offer(work, filled, pairs, tables, estimates, source, step, t);
     }
-    left
 }
 
 // Offers the steps that leave the settled pair `source`.
-pub fn settle<'a>(
-    keys: &mut [u32],
-    via: &mut [u32],
-    heap: &mut [u32],
-    pos: &mut [u32],
-    stack: &mut [u32],
+pub fn settle<'t>(
+    work: &mut Work<'_, '_, '_>,
     filled: &mut [bool; 1024],
     pairs: usize,
-    counts: Counts,
-    steps: &'a [[u32; 1024]; 2],
-    first: &'a [u16; 257],
-    row: &'a [u32; 256],
-    inner: &'a [u32; 512],
-    by_stage: &'a [u32; 256],
-    by_node: &'a [u32; 512],
+    tables: WalkTables<'t>,
+    estimates: Estimates<'t>,
     source: Source,
-) -> Counts
-    requires { let slices = work keys.old via.old heap.old pos.old stack.old in
-        let before = progress slices filled.old counts in
-        let on = walk (read steps.now inner.now) first.now row.now in
-        let estimated = estimates by_stage.now by_node.now in
-        Opening on estimated source pairs before }
-    ensures { let slices = work keys.old via.old heap.old pos.old stack.old in
-        let slices' = work keys.new via.new heap.new pos.new stack.new in
-        let before = progress slices filled.old counts in
-        let after = progress slices' filled.new result in
-        let on = walk (read steps.now inner.now) first.now row.now in
-        let estimated = estimates by_stage.now by_node.now in
+)
+    requires { Opening (walked tables) (estimates_of estimates) source pairs (progress_of work.old filled.old) }
+    ensures same { SameSlices work.old work.new }
+    ensures settled { let before = progress_of work.old filled.old in
+        let after = progress_of work.new filled.new in
+        let on = walked tables.entry in
         let s = source.pair.stage.0 in
-        (x : Opening on estimated source pairs before)
+        (x : Opening on (estimates_of estimates.entry) source pairs before)
         → Opened x.by source (get_or on.first s 0) (get_or on.first (s + 1) 0) before after }
 {
-    if tag_at(&steps[ENDS], 0) == 3 {
-        return settle_grouped(
-            keys, via, heap, pos, stack, filled, pairs, counts, steps, first, row, inner, by_stage,
-            by_node, source,
-        );
+    if tables.steps.is_grouped() {
+        settle_kind::<true>(work, filled, pairs, tables, estimates, source);
+    } else {
+        settle_kind::<false>(work, filled, pairs, tables, estimates, source);
     }
-    settle_plain(
-        keys, via, heap, pos, stack, filled, pairs, counts, steps, first, row, inner, by_stage,
-        by_node, source,
-    )
 }

@@ -16,8 +16,7 @@ use Rattle.theory.specs.Limits.{Sound}
 use Rattle.theory.specs.Basics.{either, same_or_not, true_not_false}
 use Rattle.theory.specs.Pairs.{pair_inside, pair_of, node_of_inside}
 use Rattle.theory.specs.Product.{start_pair}
-use Rattle.queue.specs.declared.Counts.{Counts}
-use Rattle.queue.specs.Queue.{state, Contains, Queue, Empty, Inserting, Inserted}
+use Rattle.queue.specs.Queue.{Counts, state, Contains, Queue, Empty, Inserting, Inserted}
 use Rattle.queue.proofs.Facts.{queue_empty, contains_none}
 use Rattle.checks.specs.Tables.{chart_in, diagram_in, Tables, pairs_in}
 use Rattle.checks.specs.Ready.{Walk, graph_in, automaton_in, width_is, few_stages, few_nodes, row_start_lem}
@@ -31,6 +30,10 @@ use Rattle.guided_expand.specs.Progress.{Progress, progress, queue_of, seen_in}
 use Rattle.guided_expand.specs.Guides.{Guides, few_pairs}
 use Rattle.guided_loop.specs.Search.{Start, Begun, Searched}
 use Rattle.guided_ends.specs.declared.Ended.{Ended}
+
+-- a queue that holds no pair
+pub no_pairs : Empty (record { heaped = 0; top = 0 })
+no_pairs = record { none_held = refl; none_stacked = refl }
 
 module _ {z : Shape} {on : Walk} {t : Estimates} (by : Guides z on t) where
   abbrev pub g : Graph
@@ -138,7 +141,7 @@ module _ {z : Shape} {on : Walk} {t : Estimates} {rest : ℕ} {x : Work} {log : 
           (subst (Contains (queue_of begun)) (begins e) first_opened.here) (λ k w. only_begin k w ∙ begins e) (omega (arith, pairs_are by, b.space.log_fits))
 
       -- the loop may begin
-      abbrev pub begin_begun : Begun z on t begin begun log
+      abbrev pub begin_begun : Begun z on t begin begun log 0
       begin_begun = record {
         by = b.by;
         begins = begins e;
@@ -162,3 +165,9 @@ module _ {z : Shape} {on : Walk} {t : Estimates} {rest : ℕ} {x : Work} {log : 
 
       pub begin_searched : {x'' : Work} {log'' : List ℕ} {r : Ended} → Searched b.by begun.slices log x'' log'' r → Searched b.by x log x'' log'' r
       begin_searched s = record { goal = s.goal; no_goal = s.no_goal; past = past_more begin_past s.past }
+
+-- what stands in the slices at the end
+pub searched_as : {z : Shape} {on : Walk} {t : Estimates} {by : Guides z on t} {x : Work} {log keys via heap pos stack end keys' via' heap' pos' stack' end' : List ℕ} {r : Ended}
+    → Searched by x log (work keys via heap pos stack) end r → keys' ≡ keys → via' ≡ via → heap' ≡ heap → pos' ≡ pos → stack' ≡ stack → end' ≡ end
+    → Searched by x log (work keys' via' heap' pos' stack') end' r
+searched_as s ek ev eh ep es el = rw (ek, ev, eh, ep, es, el) s

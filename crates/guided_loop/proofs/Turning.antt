@@ -7,8 +7,10 @@ use mathlib.Core.List.{List}
 use mathlib.Core.Logic.{inr}
 use native.Mathlib.Omega.{arith}
 use lib.Dec.{eqb}
-use lib.ListN.{length, get_or, set}
+use lib.ListN.{length, get_or, set, drop}
 use borrow.Author.Tests.{eqb-true, eqb-false}
+use Rattle.std.specs.Prelude.{Option, Some, None}
+use Rattle.std.proofs.lemmas.Option.{none-some}
 use Rattle.definitions.specs.Charts.{Chart}
 use Rattle.definitions.specs.Diagrams.{Diagram}
 use Rattle.definitions.specs.Pairs.{Estimate}
@@ -16,13 +18,14 @@ use Rattle.definitions.specs.Promises.{goal_at}
 use Rattle.definitions.specs.declared.Shape.{Shape}
 use Rattle.theory.specs.Basics.{either, same_or_not, both, true_not_false}
 use Rattle.theory.specs.Product.{start_pair}
-use Rattle.queue.specs.declared.Counts.{Counts}
-use Rattle.queue.specs.Queue.{state, Contains, Queue, Taken}
+use Rattle.queue.specs.Queue.{Counts, held, State, state, Contains, Taken}
+use Rattle.queue.specs.Views.{Takes}
+use Rattle.queue.specs.declared.Next.{Next}
 use Rattle.queue.proofs.Facts.{contains_none, contains_pair, keys_fit}
 use Rattle.checks.specs.Tables.{chart_in, diagram_in, pairs_in}
 use Rattle.checks.specs.Ready.{Walk, count_is, few_stages, from_at, first_all, row_start_lem}
-use Rattle.guided_model.specs.State.{Smallest, Without, cost_so_far}
-use Rattle.guided_model.specs.Moves.{Frontier}
+use Rattle.guided_model.specs.State.{Marks, marks, Smallest, Without, cost_so_far}
+use Rattle.guided_model.specs.Moves.{Frontier, Expanded}
 use Rattle.guided_model.specs.Chosen.{opened_low, chosen_frontier}
 use Rattle.guided_model.specs.Settling.{Located, Settling, located_start, located_via, chosen_settling, no_goal_stage, no_goal_node}
 use Rattle.guided_model.specs.Charts.{Running, GoalSettled, running_room, running_turn, running_goal, running_empty}
@@ -35,9 +38,10 @@ use Rattle.guided_places.specs.declared.Pair.{Pair}
 use Rattle.guided_expand.specs.declared.steps.Source.{Source}
 use Rattle.guided_expand.specs.Opening.{Opens, Opened, Opening}
 use Rattle.guided_places.specs.Places.{GoalAt, stage_at, Placed}
-use Rattle.guided_loop.specs.Search.{Turning, Searched}
+use Rattle.guided_loop.specs.Search.{Turning, Searched, ended}
 use Rattle.nodes.specs.Walks.{Falls}
 use Rattle.nodes.specs.Falling.{lo_falls}
+use Rattle.guided_ends.specs.declared.Goal.{Goal}
 use Rattle.guided_ends.specs.declared.Ended.{Ended}
 use Rattle.guided_places.proofs.Placing.{at_begin, at_mark}
 use Rattle.guided_loop.proofs.Beginning.{g, a, tables, sound, width, narrow, pairs_are}
@@ -64,25 +68,37 @@ module _ {z : Shape} {on : Walk} {t : Estimates} (by : Guides z on t)
       seen_filled (pairs_in z) x.filled x.slices.keys q i
       (seen_block (pairs_in z) x.filled x.slices.keys q i (opened_low by.guide w.running.searching q (inr o)))
 
-  -- nothing is open any more
-  pub turn_none : {r : Ended} → x.counts.held ≤ 0 → r.found ≡ false → r.count ≡ count → Searched by x₀ log₀ x.slices log r
-  turn_none {r} e f k = record {
-    goal = λ q. absurd (true_not_false (sym q ∙ f));
-    no_goal = λ q. rw k (running_empty C D (sound by) by.guide w.running (λ i o. contains_none w.queue (omega arith) o));
-    past = w.past;
-  }
+  -- the queue held no pair: nothing is open any more
+  pub turn_none : (q : State) {r : Option Next} → Takes (pairs_in z) floor (queue_of x) q r → r ≡ None → {e : Ended} → e.goal ≡ None → e.count ≡ count
+      → Searched by x₀ log₀ (work q.keys x.slices.via q.heap q.pos q.stack) log e
+  turn_none q taken is {e} ne k =
+      let none : (held x.counts ≡ 0) × (q ≡ queue_of x) = subst (Takes (pairs_in z) floor (queue_of x) q) is taken in
+      record {
+        goal = λ g f. absurd (none-some g (sym ne ∙ f));
+        no_goal = λ f. rw k (running_empty C D (sound by) by.guide w.running (λ i o. contains_none w.queue none.0 o));
+        past = record {
+          keys_past = ap (λ (i : State). drop (pairs_in z) i.keys) none.1 ∙ w.past.keys_past;
+          via_past = w.past.via_past;
+          heap_past = ap (λ (i : State). drop (pairs_in z) i.heap) none.1 ∙ w.past.heap_past;
+          pos_past = ap (λ (i : State). drop (pairs_in z) i.pos) none.1 ∙ w.past.pos_past;
+          stack_past = ap (λ (i : State). drop (pairs_in z) i.stack) none.1 ∙ w.past.stack_past;
+        };
+      }
 
-  -- the next pair can be taken
-  pub turn_takes : 0 < x.counts.held → (p : ℕ) × Queue p floor (queue_of x) × (0 < x.counts.held)
-  turn_takes more = (pairs_in z, w.queue, more)
+  -- the pair that was taken
+  pub turn_taken : {q : State} {r : Option Next} {next : Next} → Takes (pairs_in z) floor (queue_of x) q r → r ≡ Some next → Taken (pairs_in z) floor next.pair next.key (queue_of x) q
+  turn_taken {q} {r} {next} taken is =
+      let some : (0 < held x.counts) × Taken (pairs_in z) floor next.pair next.key (queue_of x) q = subst (Takes (pairs_in z) floor (queue_of x) q) is taken in
+      some.1
 
-  module _ {begin y key : ℕ} {heap' pos' : List ℕ} {c' : Counts} (eb : begin ≡ start_pair (g by) (a by))
-      (took : (p : ℕ) → Queue p floor (queue_of x) → Taken p floor y key (queue_of x) (state x.slices.keys heap' pos' x.slices.stack c')) where
-    k : Taken (pairs_in z) floor y key (queue_of x) (state x.slices.keys heap' pos' x.slices.stack c')
-    k = took (pairs_in z) w.queue
-
+  module _ {begin y key : ℕ} {keys' heap' pos' stack' : List ℕ} {c' : Counts} (eb : begin ≡ start_pair (g by) (a by)) (ek : keys' ≡ x.slices.keys)
+      (k : Taken (pairs_in z) floor y key (queue_of x) (state keys' heap' pos' stack' c')) where
     abbrev x' : Progress
-    x' = progress (work x.slices.keys x.slices.via heap' pos' x.slices.stack) x.filled c'
+    x' = progress (work keys' x.slices.via heap' pos' stack') x.filled c'
+
+    -- the keys stay
+    marks_are : seen_in (pairs_in z) x' ≡ marks keys x.slices.via (Contains (queue_of x'))
+    marks_are = ap (λ (l : List ℕ). marks (seen (pairs_in z) x.filled l) x.slices.via (Contains (queue_of x'))) ek
 
     key_is : key ≡ get_or keys y 0
     key_is = k.its_key ∙ sym (open_key y k.was)
@@ -170,19 +186,19 @@ module _ {z : Shape} {on : Walk} {t : Estimates} (by : Guides z on t)
         abbrev pub turn_source : Source
         turn_source = record { pair = pair; cost = key - r; key = key }
 
-        pub turn_opens : Opens (by) turn_source (pairs_in z) x'
-        turn_opens = record {
-          all = refl;
+        pub turn_opens : {pairs : ℕ} → pairs ≡ pairs_in z → Opens (by) turn_source pairs x'
+        turn_opens all = record {
+          all = all;
           fits = w.fits;
           blocks = w.blocks;
           queue = k.queue;
-          frontier = subst (λ (i : ℕ). Frontier (g by) (a by) h (seen_in (pairs_in z) x') i) (sym key_is)
+          frontier = subst₂ (λ (m : Marks) (i : ℕ). Frontier (g by) (a by) h m i) (sym marks_are) (sym key_is)
               (chosen_frontier by.guide w.running.searching smallest others);
           settling = subst (λ (i : ℕ). Settling (g by) (a by) h s n (i - r) i) (sym key_is) settles.2;
         }
 
-        abbrev pub turn_asks : Opening on t turn_source (pairs_in z) x'
-        turn_asks = record { z = z; by = by; opens = turn_opens }
+        abbrev pub turn_asks : {pairs : ℕ} → pairs ≡ pairs_in z → Opening on t turn_source pairs x'
+        turn_asks all = record { z = z; by = by; opens = turn_opens all }
 
         module _ {goal-at : Bool} (tested : GoalAt on.read.inner.lo z.end.0 s n goal-at)
             {count' : ℕ} {log' : List ℕ} (logged : (count' ≡ count + 1) × (log' ≡ set log count y)) where
@@ -190,23 +206,24 @@ module _ {z : Shape} {on : Walk} {t : Estimates} (by : Guides z on t)
           eg = tested.is D on.read.inner.step on.read.inner.hi (tables by).held turn_located.node
 
           -- a goal pair
-          pub turn_goal : goal-at ≡ true → {e : Ended} → e.node.0 ≡ n → e.cost ≡ key - r → e.count ≡ count' → e.found ≡ true
-              → Searched by x₀ log₀ x'.slices log' e
-          turn_goal q {e} nn ec ek ef =
+          pub turn_goal : goal-at ≡ true → Searched by x₀ log₀ x'.slices log' (ended (Some (record { node = pair.node; cost = key - r })) count')
+          turn_goal q =
               let v = both (eqb s z.end.0) ((a by).accepts n) (sym eg ∙ q) in
               record {
-                goal = λ i. rw (nn, ec, ek)
+                goal = λ i f.
+                    let same : ◌≡◌ {A = Goal} (record { node = pair.node; cost = key - r }) i = cc in
+                    subst (λ (i : Goal). GoalSettled C D h by.guide.base x.slices.via on.read.steps.from i.node.0 i.cost count' log₀ log') same
                     (subst₂ (λ (k : ℕ) (l : List ℕ). GoalSettled C D h by.guide.base x.slices.via on.read.steps.from n (key - r) k log₀ l)
                     (sym logged.0) (sym logged.1)
                     (running_goal C D (sound by) by.guide w.running smallest s n (key - r) on.read.steps.from
                     (λ f j. from_at z on.read (tables by) f (omega (arith, count_is z on.read (tables by))))
                     turn_located (eqb-true s z.end.0 v.0) v.1 spent_is));
-                no_goal = λ i. absurd (true_not_false (sym ef ∙ i));
+                no_goal = λ f. absurd (none-some {A = Goal} (record { node = pair.node; cost = key - r }) (sym f));
                 past = past_more w.past taken_past;
               }
             where
               taken_past : Past (pairs_in z) x.slices x'.slices
-              taken_past = record { keys_past = refl; via_past = refl; heap_past = k.past.heap_past; pos_past = k.past.pos_past; stack_past = refl }
+              taken_past = record { keys_past = ap (drop (pairs_in z)) ek; via_past = refl; heap_past = k.past.heap_past; pos_past = k.past.pos_past; stack_past = k.past.stack_past }
 
           no_goal : goal-at ≡ false → goal_at (g by) (a by) h y ≡ false
           no_goal q = go (eqb s z.end.0) refl ((a by).accepts n) refl
@@ -227,12 +244,13 @@ module _ {z : Shape} {on : Walk} {t : Estimates} (by : Guides z on t)
             running = subst₂ (λ (k : ℕ) (l : List ℕ). Running C D h (seen_in (pairs_in z) x'') log₀ l k key) (sym logged.0) (sym logged.1)
                 (subst (λ (f : ℕ). Running C D h (seen_in (pairs_in z) x'') log₀ (set log count y) (count + 1) f) (sym key_is)
                 (running_turn C D (sound by) by.guide w.running smallest others s n (key - r) (get_or on.first s 0) (get_or on.first (s + 1) 0)
-                turn_located spent_is (λ e i f. first_all z on by.ready s e turn_located.stage i f) o.expanded (no_goal q)));
+                turn_located spent_is (λ e i f. first_all z on by.ready s e turn_located.stage i f)
+                (subst (λ (m : Marks). Expanded (g by) (a by) h s n (key - r) (get_or on.first s 0) (get_or on.first (s + 1) 0) m (seen_in (pairs_in z) x'')) marks_are o.expanded) (no_goal q)));
             past = past_more w.past (record {
-              keys_past = o.kept.past.keys_past;
+              keys_past = o.kept.past.keys_past ∙ ap (drop (pairs_in z)) ek;
               via_past = o.kept.past.via_past;
               heap_past = o.kept.past.heap_past ∙ k.past.heap_past;
               pos_past = o.kept.past.pos_past ∙ k.past.pos_past;
-              stack_past = o.kept.past.stack_past;
+              stack_past = o.kept.past.stack_past ∙ k.past.stack_past;
             });
           }

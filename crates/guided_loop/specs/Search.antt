@@ -1,6 +1,6 @@
 -- What the search rests on, what holds at each turn, and what it leaves.
 -- Assumes nothing.
-use Rattle.std.specs.Prelude.{ℕ, ◌≤◌, ◌<◌, ◌≡◌, true, false, List, length}
+use Rattle.std.specs.Prelude.{ℕ, ◌≤◌, ◌<◌, ◌≡◌, Option, Some, None, List, length}
 use Rattle.std.proofs.Math.Option.{some}
 use Rattle.definitions.specs.declared.Shape.{Shape}
 use Rattle.theory.specs.Product.{start_pair}
@@ -12,6 +12,7 @@ use Rattle.guided_offers.specs.Estimates.{Estimates}
 use Rattle.guided_offers.specs.Work.{Work, Past}
 use Rattle.guided_expand.specs.Progress.{Progress, queue_of, seen_in}
 use Rattle.guided_expand.specs.Guides.{Guides}
+use Rattle.guided_ends.specs.declared.Goal.{Goal}
 use Rattle.guided_ends.specs.declared.Ended.{Ended}
 
 -- each slice has an entry for each pair
@@ -41,13 +42,17 @@ module _ {z : Shape} {on : Walk} {t : Estimates} (by : Guides z on t) where
 
   -- what the search leaves
   pub record Searched (x : Work) (log : List ℕ) (x' : Work) (log' : List ℕ) (r : Ended) : Type 0 where
-    pub goal : r.found ≡ true → GoalSettled (chart_in z on.read) (diagram_in z on.read) by.h by.guide.base
-        x'.via on.read.steps.from r.node.0 r.cost r.count log log'
-    pub no_goal : r.found ≡ false → NoneSettled (chart_in z on.read) (diagram_in z on.read) by.h by.guide.base r.count log log'
+    pub goal : (g : Goal) → r.goal ≡ Some g → GoalSettled (chart_in z on.read) (diagram_in z on.read) by.h by.guide.base
+        x'.via on.read.steps.from g.node.0 g.cost r.count log log'
+    pub no_goal : r.goal ≡ None → NoneSettled (chart_in z on.read) (diagram_in z on.read) by.h by.guide.base r.count log log'
     pub past : Past (pairs_in z) x x'
 
--- nothing is settled yet, the pairs of the queue are open, and `begin` is the pair of start and root
-pub record Begun (z : Shape) (on : Walk) (t : Estimates) (begin : ℕ) (x : Progress) (log : List ℕ) : Type 0 where
+-- so many pairs are settled and in the log, the pairs of the queue are open, and `begin` is the pair of start and root
+pub record Begun (z : Shape) (on : Walk) (t : Estimates) (begin : ℕ) (x : Progress) (log : List ℕ) (count : ℕ) : Type 0 where
   pub by : Guides z on t
   pub begins : begin ≡ start_pair (graph_in z on.read) (automaton_in z on.read)
-  pub turning : Turning by x.slices log x log 0 0
+  pub turning : Turning by x.slices log x log 0 count
+
+-- how a search ended that settled a goal pair, or none, and so many pairs
+abbrev pub ended : Option Goal → ℕ → Ended
+ended goal count = record { goal = goal; count = count }

@@ -3,4 +3,4 @@
 
 mod turns;
 
-pub use turns::search;
+pub use turns::{Slices, search};

@@ -1,17 +1,13 @@
--- The place of an opened pair and the goal test, on each way through the code.
+-- The place of an opened pair, on each way through the code.
 -- Assumes nothing.
 use Prim.Native.Nat.{ℕ, ◌+◌, ◌≤◌, ◌<◌}
-use mathlib.Core.Path.{◌≡◌, sym, ◌∙◌, ap, subst}
-use mathlib.Core.Bool.{Bool, false, ◌&&◌}
+use mathlib.Core.Path.{◌≡◌, sym, ◌∙◌, subst}
 use mathlib.Core.List.{List}
-use lib.Dec.{eqb}
 use lib.ListN.{get_or}
 use borrow.Author.Tests.{eq-eqb, ne_eqb}
-use Rattle.definitions.specs.Diagrams.{finish}
 use Rattle.theory.specs.Basics.{pick_true, pick_false}
-use Rattle.nodes.specs.Walks.{Finishes}
 use Rattle.via_marks.specs.Marks.{stage_in}
-use Rattle.guided_places.specs.Places.{GoalAt, stage_at, Placed}
+use Rattle.guided_places.specs.Places.{stage_at, Placed}
 
 module _ (via : List ℕ) (begin start x : ℕ) where
   pub at_begin : x ≡ begin → stage_at via begin start x ≡ start
@@ -36,11 +32,3 @@ module _ {via row : List ℕ} {begin start x : ℕ} (p : Placed via row begin st
 
     pub placed_mark : InRow s
     placed_mark = subst InRow (sym placed_stage) (p.stage, p.from_row, p.in_row)
-
--- the goal test
-module _ (lo : List ℕ) (end s n : ℕ) where
-  pub goal_there : s ≡ end → (b : Bool) → Finishes lo n b → GoalAt lo end s n b
-  goal_there q b f = record { is = λ d step hi h l. f.is d step hi h l ∙ sym (ap (λ (t : Bool). t && eqb (finish d n) 1) (eq-eqb s end q)) }
-
-  pub goal_elsewhere : (s ≡ end → ⊥) → GoalAt lo end s n false
-  goal_elsewhere q = record { is = λ d step hi h l. sym (ap (λ (t : Bool). t && eqb (finish d n) 1) (ne_eqb s end q)) }

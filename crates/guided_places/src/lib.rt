@@ -6,7 +6,6 @@ ghost use Rattle.guided_places.specs.Places.{GoalAt, stage_at, Placed};
 ghost use Rattle.diagram_fields.specs.Words.{nodes_in};
 ghost use Rattle.nodes.specs.Walks.{Falls};
 
-use convert::wide;
 use definitions::{Node, Stage};
 use nodes::finishes;
 use via_marks::stage_in;
@@ -23,7 +22,7 @@ fn pair_in(row: &[u32; 256], s: Stage, x: usize) -> Pair
     requires { (s.0 < 256) × (get_or row.now s.0 0 ≤ x) × (x < get_or row.now s.0 0 + 512) }
     ensures { (result.stage.0 ≡ s.0) × (get_or row.now result.stage.0 0 + result.node.0 ≡ x) }
 {
-    let first = wide(row[s.0 as usize]);
+    let first = row[s.0 as usize] as usize;
     Pair {
         stage: s,
         node: Node((x - first) as u16),
@@ -53,18 +52,26 @@ pub fn is_goal(inner: &[u32; 512], end: Stage, at: Pair) -> bool
     requires { Falls (nodes_in inner.now).lo at.node.0 }
     ensures { GoalAt (nodes_in inner.now).lo end.0 at.stage.0 at.node.0 result }
 {
-    if at.stage.0 == end.0 {
-        return finishes(inner, at.node);
-    }
-    false
+    at.stage.0 == end.0 && finishes(inner, at.node)
 }
 
-// Writes pair x to the log, of which `count` entries are written, and counts it.
-pub fn log_pair(log: &mut [u32], count: usize, x: usize) -> usize
-    requires { (count < length log.old) × (x < 4294967296) }
-    ensures { (result ≡ count + 1) × (log.new ≡ set log.old count x) }
-{
-    let next = count + 1;
-    log[count] = x as u32;
-    next
+// The log of settled pairs, in order: `count` of its entries are written.
+#[derive(Drop)]
+pub struct Log<'a> {
+    pub entries: &'a mut [u32],
+    pub count: usize,
+}
+
+impl<'a> Log<'a> {
+    // Writes pair x at the first entry that is free, and counts it.
+    pub fn push(&mut self, x: usize)
+        requires { (self.old.count < length self.old.entries.now) × (x < 4294967296) }
+        ensures same { self.new.entries.ghost_name ≡ self.old.entries.ghost_name }
+        ensures counted { self.new.count ≡ self.old.count + 1 }
+        ensures written { self.new.entries.now ≡ set self.old.entries.now self.old.count x }
+    {
+        let count = self.count;
+        self.entries[count] = x as u32;
+        self.count = count + 1;
+    }
 }

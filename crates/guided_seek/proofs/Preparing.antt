@@ -2,7 +2,6 @@
 -- Assumes nothing.
 use Prim.Native.Nat.{ℕ, ◌+◌, ◌≤◌, ◌<◌, max}
 use mathlib.Core.Path.{◌≡◌, refl, sym, ◌∙◌, subst}
-use mathlib.Core.Bool.{false}
 use mathlib.Core.List.{List}
 use mathlib.Core.Option.{Option, none, some}
 use mathlib.Core.Logic.{◌⊎◌, inl, inr}
@@ -17,7 +16,9 @@ use Rattle.definitions.specs.Pairs.{Automaton}
 use Rattle.definitions.specs.Plans.{chart_estimate, diagram_estimate, estimate}
 use Rattle.definitions.specs.Promises.{shown}
 use Rattle.definitions.specs.declared.Shape.{Shape}
-use Rattle.theory.specs.Basics.{either, true_not_false}
+use Rattle.std.specs.Prelude.{None}
+use Rattle.std.proofs.lemmas.Option.{none-some}
+use Rattle.theory.specs.Basics.{either}
 use Rattle.theory.specs.Limits.{Sound}
 use Rattle.theory.specs.Estimates.{chart_bounded, diagram_bounded}
 use Rattle.chart_stages.specs.FirstSteps.{SortedTable, FirstTable}
@@ -29,7 +30,7 @@ use Rattle.nodes.specs.Falling.{lo_falls, hi_falls}
 use Rattle.node_estimates.specs.Estimates.{Priced, Costs}
 use Rattle.node_estimates.specs.Prices.{costs_of, priced}
 use Rattle.chart.specs.Held.{held_tag}
-use Rattle.checks.specs.Tables.{Read, chart_in, diagram_in, Tables}
+use Rattle.checks.specs.Tables.{Read, Named, chart_in, diagram_in, Tables}
 use Rattle.checks.specs.Ready.{Walk, graph_in, automaton_in, count_is, width_is, few_stages, few_nodes, cost_at_lem}
 use Rattle.guided_model.specs.State.{Guide}
 use Rattle.guided_model.specs.Guides.{guide, estimate_until}
@@ -71,14 +72,14 @@ module _ {z : Shape} {t : Read} (in_tables : Tables z t) where
   width = width_is z t in_tables
 
   -- where the first step is not grouped, the column of costs has what each group costs
-  pub plain_costs : (k : ℕ) → k ≡ get_or t.steps.tag 0 0 → (k ≡ 3 → ⊥) → Costs C t.steps.cost
-  plain_costs k ek n = costs_of C t.steps.cost in_tables.kinds (go (dec_lt 0 z.steps)) (λ e h. cost_at_lem z t in_tables e (omega (arith, count_is z t in_tables)))
+  pub plain_costs : (Named t → ⊥) → Costs C t.steps.cost
+  plain_costs n = costs_of C t.steps.cost in_tables.kinds (go (dec_lt 0 z.steps)) (λ e h. cost_at_lem z t in_tables e (omega (arith, count_is z t in_tables)))
     where
       go : Dec (0 < z.steps) → ((get_or C.steps 0 no_step).tag ≡ plain) ⊎ (g.count ≡ 0)
       go (no h) = inr (omega (arith, count_is z t in_tables))
       go (yes h) =
           either (in_tables.kinds.tags 0 (omega (arith, count_is z t in_tables))) (λ q. inl q)
-          (λ q. absurd (n (ek ∙ sym (held_tag z.steps t.steps 0 h) ∙ q)))
+          (λ q. absurd (n (sym (held_tag z.steps t.steps 0 h) ∙ q)))
 
   -- what the calls that fill tables ask
   pub run_lo : Falls t.inner.lo (z.nodes + 1)
@@ -135,9 +136,9 @@ module _ {z : Shape} {on : Walk} {byNode : List ℕ} (p : Prepared z on byNode) 
     run_shown = er ∙ run_holds z.start.0 z.root.0 (omega arith) (run_root in_tables).0 (omega (arith, (sound in_tables).root_inside, width in_tables))
 
     -- it has no estimate: nothing is settled
-    pub sought_none : rest ≡ NONE → {x : Work} {log : List ℕ} {r : Ended} → r.found ≡ false → r.count ≡ 0 → Sought z t x log x log r
+    pub sought_none : rest ≡ NONE → {x : Work} {log : List ℕ} {r : Ended} → r.goal ≡ None → r.count ≡ 0 → Sought z t x log x log r
     sought_none q {x} {log} {r} f c = record {
-      goal = λ g. absurd (true_not_false (sym g ∙ f));
+      goal = λ g e. absurd (none-some g (sym f ∙ e));
       no_goal = λ g. subst (λ (k : ℕ). NoneSettled (chart_in z t) (diagram_in z t) (estimate_in z t) 0 k log log) (sym c)
           (none_begun (chart_in z t) (diagram_in z t) (sound in_tables) (run_guide in_tables) log
           (estimate_none (run_guide in_tables) z.start.0 z.root.0 rest (sound in_tables).root_inside run_shown q));

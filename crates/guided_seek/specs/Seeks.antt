@@ -1,6 +1,6 @@
 -- What a guided search rests on once both files stand in tables, and what it leaves.
 -- Assumes nothing.
-use Rattle.std.specs.Prelude.{ℕ, ◌≡◌, true, false, List}
+use Rattle.std.specs.Prelude.{ℕ, ◌≡◌, Some, None, List}
 use Rattle.definitions.specs.Pairs.{Estimate}
 use Rattle.definitions.specs.Plans.{estimate}
 use Rattle.definitions.specs.declared.Shape.{Shape}
@@ -10,6 +10,7 @@ use Rattle.checks.specs.Ready.{Walk, Ready}
 use Rattle.guided_model.specs.Charts.{GoalSettled, NoneSettled}
 use Rattle.guided_offers.specs.Work.{Work, Past}
 use Rattle.guided_loop.specs.Search.{Space}
+use Rattle.guided_ends.specs.declared.Goal.{Goal}
 use Rattle.guided_ends.specs.declared.Ended.{Ended}
 
 -- the estimate that guides the search
@@ -34,6 +35,6 @@ pub record Seeking (z : Shape) (on : Walk) (byNode : List ℕ) (x : Work) (log :
 
 -- what the search leaves, also where it was not begun since the start has no estimate
 pub record Sought (z : Shape) (t : Read) (x : Work) (log : List ℕ) (x' : Work) (log' : List ℕ) (r : Ended) : Type 0 where
-  pub goal : r.found ≡ true → GoalSettled (chart_in z t) (diagram_in z t) (estimate_in z t) 0 x'.via t.steps.from r.node.0 r.cost r.count log log'
-  pub no_goal : r.found ≡ false → NoneSettled (chart_in z t) (diagram_in z t) (estimate_in z t) 0 r.count log log'
+  pub goal : (g : Goal) → r.goal ≡ Some g → GoalSettled (chart_in z t) (diagram_in z t) (estimate_in z t) 0 x'.via t.steps.from g.node.0 g.cost r.count log log'
+  pub no_goal : r.goal ≡ None → NoneSettled (chart_in z t) (diagram_in z t) (estimate_in z t) 0 r.count log log'
   pub past : Past (pairs_in z) x x'

@@ -4,7 +4,7 @@ ghost use Rattle.checks.specs.Tables.{read, Tables};
 ghost use Rattle.checks.specs.Ready.{walk};
 ghost use Rattle.guided_seek.specs.Seeks.{NodeEstimates, Prepared};
 
-use chart_fields::{COST, ENDS, tag_at};
+use chart_fields::StepTable;
 use chart_stages::fill_first_steps;
 use definitions::{NONE, Shape};
 use node_estimates::{fill_diagram_estimates, fill_prices};
@@ -15,20 +15,20 @@ use rows::fill_row_starts;
 fn estimate_nodes<'a>(
     by_node: &mut [u32; 512],
     z: Shape,
-    steps: &'a [[u32; 1024]; 2],
+    steps: &'a StepTable,
     inner: &'a [u32; 512],
 )
     requires long_enough { length by_node.old ≡ 512 }
     requires tables { Tables z (read steps.now inner.now) }
     ensures { NodeEstimates z (read steps.now inner.now) by_node.new }
 {
-    if tag_at(&steps[ENDS], 0) == 3 {
+    if steps.is_grouped() {
         let mut price = [NONE; 1024];
         fill_prices(&mut price, z, steps);
         fill_diagram_estimates(by_node, z, inner, &price);
         return;
     }
-    fill_diagram_estimates(by_node, z, inner, &steps[COST]);
+    fill_diagram_estimates(by_node, z, inner, &steps.costs);
 }
 
 // Fills the first step of each stage, the start of each stage's row and the estimate of each node.
@@ -37,7 +37,7 @@ pub fn fill_tables<'a>(
     row: &mut [u32; 256],
     by_node: &mut [u32; 512],
     z: Shape,
-    steps: &'a [[u32; 1024]; 2],
+    steps: &'a StepTable,
     inner: &'a [u32; 512],
 )
     requires no_first { first.old ≡ replicate 257 0 }
@@ -46,7 +46,7 @@ pub fn fill_tables<'a>(
     requires tables { Tables z (read steps.now inner.now) }
     ensures { Prepared z (walk (read steps.now inner.now) first.new row.new) by_node.new }
 {
-    fill_first_steps(first, &steps[ENDS], z.steps, z.stages);
+    fill_first_steps(first, steps, z.steps, z.stages);
     estimate_nodes(by_node, z, steps, inner);
     fill_row_starts(row, z.stages as usize, z.nodes + 2);
 }

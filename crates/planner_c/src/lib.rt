@@ -4,7 +4,7 @@
 
 ghost use Rattle.std.specs.Prelude.{◌≡◌, min, length};
 ghost use Rattle.definitions.specs.Fields.{refused_field};
-ghost use Rattle.definitions.specs.Answers.{read_files, refusal as refusalOf};
+ghost use Rattle.definitions.specs.Answers.{read_files};
 ghost use Rattle.definitions.specs.Diagrams.{strict};
 ghost use Rattle.definitions.specs.Promises.{sweep_slices, SweepCall, guided_slices, GuidedCall, cycle_slices, CyclesCall, conjoin_slices, ConjoinCall, ReduceCall};
 ghost use Rattle.space.specs.Space.{space_needed};
@@ -14,10 +14,12 @@ ghost use Rattle.answer_arrays.specs.Numbers.{space_numbers};
 ghost use Rattle.planner_c.specs.Exports.{Given, BothGiven};
 
 use answer_arrays::{store, store_both, store_field, store_space};
-use checks::{Loaded, refusal};
+use chart_fields::StepTable;
+use checks::{WalkTables, accepted, refusal};
 use cycles::entry::answered;
-use cycles::once::{prepare, turns};
+use cycles::once::prepare;
 use definitions::Cycle;
+use guided_loop::Slices;
 
 // How much space the searches need for two files: the number, file and place of a refusal, or 0; then the entries that
 // each work slice and the plan slice need.
@@ -75,14 +77,6 @@ pub extern "C" fn planner_guided(
     store(found, answer)
 }
 
-// What the call over a list answers: the refusal of its checks, or all 0.
-fn tell(got: Loaded, answer: &mut [usize; 6]) -> u32
-    ensures { Given (λ a. a ≡ refusalOf got.number got.file got.place 0) answer.new result }
-{
-    let told = refusal(got.number, got.file, got.place, 0);
-    store(told, answer)
-}
-
 // A list of starts and ends on one chart: each entry gets the answer of a guided search from its start to its end. The files
 // are read and checked once, and the tables that no start or end changes are filled once.
 #[unsafe(no_mangle)]
@@ -105,36 +99,43 @@ pub extern "C" fn planner_cycles(
         Given (CyclesCall chart.now rules.now before after list.old list.new)
         answer.new result }
 {
-    let mut steps = [[0u32; 1024]; 2];
+    let mut steps = StepTable::blank();
     let mut inner = [0u32; 512];
     let mut first = [0u16; 257];
     let mut row = [0u32; 256];
     let mut by_node = [0u32; 512];
-    let got = prepare(
+    let mut slices = Slices {
+        keys,
+        via,
+        heap,
+        pos,
+        stack,
+        log,
+    };
+    let prepared = prepare(
         chart,
         rules,
-        keys.len(),
-        via.len(),
-        heap.len(),
-        pos.len(),
-        stack.len(),
-        log.len(),
+        &slices,
         &mut steps,
         &mut inner,
         &mut first,
         &mut row,
         &mut by_node,
     );
-    let n = turns(got, list.len());
-    let mut i: usize = 0;
-    while i < n {
-        let c = list[i];
-        list[i] = answered(
-            c, keys, via, heap, pos, stack, log, &steps, &first, &row, &inner, &by_node, got.shape,
-        );
-        i += 1;
+    let z = match prepared {
+        Ok(z) => z,
+        Err(refused) => return store(refusal(refused, 0), answer),
+    };
+    let tables = WalkTables {
+        steps: &steps,
+        inner: &inner,
+        first: &first,
+        row: &row,
+    };
+    for c in list.iter_mut() {
+        *c = answered(*c, &mut slices, tables, &by_node, z);
     }
-    tell(got, answer)
+    store(accepted(0, 0, 0), answer)
 }
 
 // Both searches, on the slices of each. The number returned is the guided search's.

@@ -3,30 +3,46 @@
 #![tactic(auto)]
 
 ghost use Rattle.definitions.specs.Promises.{ReduceCall};
+ghost use Rattle.diagram.specs.Files.{Room};
+ghost use Rattle.reduce.specs.Reducing.{LoadsAs};
 
-use checks::refusal;
+use apply::{Operands, Pair};
+use checks::{InFile, Refused, in_file, refusal};
 use conjoin::{check_chart, join};
 use definitions::Answer;
-use diagram::read_diagram;
+use diagram::{DiagramSizes, read_diagram};
 use diagram_fields::leaf_word;
+
+// Reads the chart, and the diagram into a table.
+fn load(chart: &[u8], rules: &[u8], nodes: &mut [u32; 512]) -> Result<DiagramSizes, Refused>
+    requires { Room nodes.old }
+    ensures { LoadsAs chart.now rules.now nodes.old nodes.new result }
+{
+    let c = in_file(check_chart(chart), InFile::Chart)?;
+    in_file(read_diagram(rules, c.groups, false, nodes), InFile::Rules)
+}
 
 // The reduction of the diagram `rules` over the chart, as a file at the front of `file`. Padding in `rules` is taken. What
 // the walk needs, an entry for each pair of a node and 0 or 1, is kept here.
 pub fn reduce(chart: &[u8], rules: &[u8], file: &mut [u8]) -> Answer
     ensures { ReduceCall chart.now rules.now file.old file.new result }
 {
-    let c = check_chart(chart);
-    if c.number != 0 {
-        return refusal(c.number as u32, 1, c.place, 0);
-    }
     let mut nodes = [0u32; 512];
-    let d = read_diagram(rules, c.groups, false, &mut nodes);
-    if d.number != 0 {
-        return refusal(d.number as u32, 2, d.place, 0);
+    match load(chart, rules, &mut nodes) {
+        Err(refused) => refusal(refused, 0),
+        Ok(d) => {
+            let always = [leaf_word(); 512];
+            let operands = Operands {
+                left: &nodes,
+                right: &always,
+                width: 2,
+            };
+            let roots = Pair {
+                first: d.root,
+                second: 1,
+            };
+            let mut work = [0u32; 1024];
+            join(&operands, roots, (d.nodes + 2) * 2, &mut work, file)
+        }
     }
-    let leaf = leaf_word();
-    let always = [leaf; 512];
-    let mut work = [0u32; 1024];
-    let pairs = (d.nodes + 2) * 2;
-    join(&mut work, file, &nodes, &always, 2, pairs, d.root, 1)
 }

@@ -3,8 +3,8 @@
 ghost use Rattle.std.specs.Prelude.{◌≡◌, ◌==◌, ◌≤◌, ◌%◌, if◌then◌else◌, length};
 ghost use Rattle.std.specs.Iterator.{at_most};
 
-use crate::rules::{Rule, low};
-use crate::write::Field;
+use crate::rules::{Rule, low, low_24};
+use crate::write::{Field, Role};
 
 // The low bytes of a number. One function for each width: std has no conversion that drops the high bytes.
 fn low_byte(x: u64) -> u8 {
@@ -13,14 +13,6 @@ fn low_byte(x: u64) -> u8 {
 
 fn low_word(x: u64) -> u32 {
     (x % 4294967296) as u32
-}
-
-// A file that calls read: the chart, the diagram, the second diagram.
-#[derive(Clone, Copy)]
-pub enum Role {
-    Chart,
-    Rules,
-    More,
 }
 
 // What a search is lent: how many entries of each work slice and of the plan slice, and what they are full of.
@@ -129,10 +121,10 @@ impl Call {
 #[derive(Clone, Copy)]
 pub enum Command<'a> {
     // Adds so many fields to the file in the making, by a rule.
-    Add { count: u64, rule: Rule },
-    // Sets a byte of the file in the making.
+    Add { count: u32, rule: Rule },
+    // Sets a byte of the buffer, whose first are those of the file in the making.
     SetByte { place: usize, byte: u8 },
-    // Makes it so long.
+    // Makes the file in the making so long.
     SetSize(usize),
     // Takes it for another file, and begins an empty one.
     Take(Role),
@@ -171,37 +163,37 @@ impl<'a> Command<'a> {
                 hi: low(c),
             }),
             b't' => Command::Add {
-                count: a,
+                count: low_24(a),
                 rule: Rule::Steps {
                     fan: b,
-                    reach: c,
-                    spread: d,
-                    value: e,
-                    rise: f,
+                    reach: low_24(c),
+                    spread: low(d),
+                    value: low_24(e),
+                    rise: low(f),
                 },
             },
             b'm' => Command::Add {
-                count: a,
+                count: low_24(a),
                 rule: Rule::Nodes {
                     fan: b,
-                    fall: c,
+                    fall: low(c),
                     lo: d,
-                    hi: e,
-                    spread: f,
+                    hi: low_24(e),
+                    spread: low(f),
                 },
             },
             b'l' => Command::Add {
-                count: a,
+                count: low_24(a),
                 rule: Rule::Chain {
                     group: b,
-                    fall: c,
-                    first: d,
+                    fall: low(c),
+                    first: low_24(d),
                     lo: e,
                     hi: f,
                 },
             },
             b'z' => Command::Add {
-                count: a,
+                count: low_24(a),
                 rule: Rule::Same(Field::Filled {
                     tag: low_byte(b),
                     length: low(c),

@@ -1,11 +1,11 @@
 // Many fields by a rule, each by its number, from 0.
-ghost use Rattle.std.specs.Prelude.{◌≡◌};
+ghost use Rattle.std.specs.Prelude.{◌≡◌, ◌<◌, ◌%◌};
 ghost use Rattle.script_files.specs.declared.write.Field.{Field};
 ghost use Rattle.script_files.specs.declared.rules.Rule.TheVariants.{Same};
 
 use crate::write::Field;
 
-// A field by its number i. Stages, groups and nodes stay within what two bytes hold.
+// A field by its number i. What a number is reduced modulo is what its type holds, or `low_24` says.
 #[derive(Clone, Copy)]
 pub enum Rule {
     // The same for each i.
@@ -14,43 +14,59 @@ pub enum Rule {
     // value + rise × i, modulo 1,000,001.
     Steps {
         fan: u64,
-        reach: u64,
-        spread: u64,
-        value: u64,
-        rise: u64,
+        reach: u32,
+        spread: u16,
+        value: u32,
+        rise: u16,
     },
     // A node of group 1023 - fall × (i / fan); lo is that many nodes before it, and hi is hi + spread × (i mod fan) nodes
     // before it.
     Nodes {
         fan: u64,
-        fall: u64,
+        fall: u16,
         lo: u64,
-        hi: u64,
-        spread: u64,
+        hi: u32,
+        spread: u16,
     },
     // A node of group - fall × i with the number first + i; lo and hi are that many nodes before it.
     Chain {
         group: u64,
-        fall: u64,
-        first: u64,
+        fall: u16,
+        first: u32,
         lo: u64,
         hi: u64,
     },
 }
 
 // The low two bytes of a number.
-pub(crate) fn low(x: u64) -> u16 {
+pub(crate) fn low(x: u64) -> u16
+    ensures { result ≡ x % 65536 }
+{
     (x % 65536) as u16
 }
 
-fn step(i: u64, fan: u64, reach: u64, spread: u64, value: u64, rise: u64) -> Field {
+// The low three bytes of a number.
+pub(crate) fn low_24(x: u64) -> u32
+    ensures { result ≡ x % 16777216 }
+{
+    (x % 16777216) as u32
+}
+
+// A factor times the low two bytes of a number.
+fn times(factor: u16, x: u64) -> u64
+    ensures { result < 4294967296 }
+{
+    u64::from(factor) * u64::from(low(x))
+}
+
+fn step(i: u64, fan: u64, reach: u32, spread: u16, value: u32, rise: u16) -> Field {
     let fan = fan.max(1);
     let from = (i / fan).min(254);
-    let further = reach.saturating_add(spread.saturating_mul(i % fan));
-    let value = value.saturating_add(rise.saturating_mul(i)) % 1000001;
+    let to = from + u64::from(reach) + times(spread, i % fan);
+    let value = (u64::from(value) + times(rise, i)) % 1000001;
     Field::Step {
         from: low(from),
-        to: low(from.saturating_add(further).min(255)),
+        to: low(to.min(255)),
         value: value as u32,
     }
 }
@@ -86,10 +102,10 @@ impl Rule {
             } => {
                 let fan = fan.max(1);
                 node(
-                    1023u64.saturating_sub(fall.saturating_mul(i / fan)),
-                    i.saturating_add(2),
+                    1023u64.saturating_sub(times(fall, i / fan)),
+                    u64::from(low_24(i)) + 2,
                     lo,
-                    hi.saturating_add(spread.saturating_mul(i % fan)),
+                    u64::from(hi) + times(spread, i % fan),
                 )
             }
             Rule::Chain {
@@ -99,8 +115,8 @@ impl Rule {
                 lo,
                 hi,
             } => node(
-                group.saturating_sub(fall.saturating_mul(i)),
-                first.saturating_add(i),
+                group.saturating_sub(times(fall, i)),
+                u64::from(first) + u64::from(low_24(i)),
                 lo,
                 hi,
             ),

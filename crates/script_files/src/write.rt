@@ -1,8 +1,11 @@
-// Files made in a buffer, field by field. Past the buffer's end nothing is written.
-ghost use Rattle.std.specs.Prelude.{◌≡◌, ◌+◌, ◌<◌, ◌≤◌, length, min, slice_set, take};
+// Files made in one buffer, field by field. Past the buffer's end nothing is written.
+ghost use Rattle.std.specs.Prelude.{◌≡◌, ◌+◌, ◌*◌, ◌<◌, ◌≤◌, if◌then◌else◌, drop, length, nat_le, slice_set, take};
 
-// How many bytes the buffer of a file has.
+// How many bytes of the buffer a file has. A longer one goes on into the next file's.
 pub const LONGEST: usize = 32784;
+
+// How many bytes the buffer of all files has.
+pub const BUFFER: usize = 4 * LONGEST;
 
 // A field, by the numbers in its body.
 #[derive(Clone, Copy)]
@@ -15,66 +18,142 @@ pub enum Field {
     Filled { tag: u8, length: u16, byte: u8 },
 }
 
-// A file in a buffer: its bytes are the buffer's first, and `size` says how many. Behind them stands what stood there before.
+// A file that calls read: the chart, the diagram, the second diagram.
 #[derive(Clone, Copy)]
-pub struct FileBuffer {
-    pub buffer: [u8; LONGEST],
-    pub size: usize,
-    ghost within: { size ≤ 32784 },
+pub enum Role {
+    Chart,
+    Rules,
+    More,
 }
 
-impl FileBuffer {
-    // An empty file.
-    pub fn new() -> Self
-        ensures { result.size ≡ 0 }
+impl Role {
+    // Where in the buffer the file begins.
+    fn place(self) -> usize
+        ensures { result + 32784 ≤ 131136 }
     {
-        FileBuffer {
-            buffer: [0; LONGEST],
-            size: 0,
+        match self {
+            Role::Chart => LONGEST,
+            Role::Rules => 2 * LONGEST,
+            Role::More => 3 * LONGEST,
+        }
+    }
+}
+
+// The buffer has the file in the making at its start, and after it the chart, the diagram and the second diagram. Beside it:
+// how many bytes each is said to have, which may be more than the buffer has.
+#[derive(Drop)]
+pub struct Files {
+    pub buffer: [u8; BUFFER],
+    pub making: usize,
+    pub chart: usize,
+    pub rules: usize,
+    pub more: usize,
+}
+
+impl Files {
+    // All empty.
+    pub fn new() -> Self
+        ensures making { result.making ≡ 0 }
+        ensures chart { result.chart ≡ 0 }
+        ensures rules { result.rules ≡ 0 }
+        ensures more { result.more ≡ 0 }
+    {
+        Files {
+            buffer: [0; BUFFER],
+            making: 0,
+            chart: 0,
+            rules: 0,
+            more: 0,
         }
     }
 
-    // The file's bytes.
-    pub fn bytes(&self) -> &[u8]
-        ensures { result.now ≡ take self.now.size self.now.buffer }
+    // So many bytes from a place of the buffer on, or the whole buffer where there are not so many.
+    fn part(&self, place: usize, size: usize) -> &[u8]
+        ensures { result.now ≡ (if nat_le (place + size) 131136 then take size (drop place self.now.buffer) else self.now.buffer) }
     {
-        &self.buffer[..self.size]
+        match place.checked_add(size) {
+            Some(end) if end <= BUFFER => &self.buffer[place..end],
+            _ => &self.buffer,
+        }
     }
 
-    // Makes the file so long, or as long as the buffer.
+    // The bytes of the file in the making.
+    pub fn making(&self) -> &[u8]
+        ensures { self.now.making ≤ 131136 → result.now ≡ take self.now.making self.now.buffer }
+    {
+        self.part(0, self.making)
+    }
+
+    // How many bytes another file has.
+    fn size(&self, role: Role) -> usize {
+        match role {
+            Role::Chart => self.chart,
+            Role::Rules => self.rules,
+            Role::More => self.more,
+        }
+    }
+
+    // The bytes of another file.
+    pub fn file(&self, role: Role) -> &[u8] {
+        self.part(role.place(), self.size(role))
+    }
+
+    // Says how many bytes the file in the making has.
     pub fn set_size(&mut self, size: usize)
-        ensures cut { self.new.size ≡ min size 32784 }
+        ensures size { self.new.making ≡ size }
         ensures kept { self.new.buffer ≡ self.old.buffer }
     {
-        self.size = size.min(LONGEST);
+        self.making = size;
     }
 
     // Sets the byte at a place of the buffer.
     pub fn set_byte(&mut self, place: usize, byte: u8)
-        ensures kept { self.new.size ≡ self.old.size }
-        ensures set { place < 32784 → self.new.buffer ≡ slice_set self.old.buffer place byte }
+        ensures kept { self.new.making ≡ self.old.making }
+        ensures set { place < 131136 → self.new.buffer ≡ slice_set self.old.buffer place byte }
+        ensures past { 131136 ≤ place → self.new.buffer ≡ self.old.buffer }
     {
-        if place < LONGEST {
+        if place < BUFFER {
             self.buffer[place] = byte;
         }
     }
 
-    // Adds bytes at the file's end, as far as the buffer goes.
-    fn append(&mut self, bytes: &[u8])
-        ensures size { self.new.size ≡ min (self.old.size + length bytes.now) 32784 }
-        ensures grows { self.old.size ≤ self.new.size }
-        ensures kept { take self.old.size self.new.buffer ≡ take self.old.size self.old.buffer }
+    // Takes the file in the making for another, and begins an empty one.
+    pub fn take(&mut self, role: Role)
+        ensures { self.new.making ≡ 0 }
     {
-        let count = bytes.len().min(LONGEST - self.size);
-        let end = self.size + count;
-        self.buffer[self.size..end].copy_from_slice(&bytes[..count]);
-        self.size = end;
+        self.buffer.copy_within(..LONGEST, role.place());
+        match role {
+            Role::Chart => self.chart = self.making,
+            Role::Rules => self.rules = self.making,
+            Role::More => self.more = self.making,
+        }
+        self.making = 0;
+    }
+
+    // Takes the chart for the file in the making.
+    pub fn restore(&mut self)
+        ensures { self.new.making ≡ self.old.chart }
+    {
+        self.buffer.copy_within(LONGEST..2 * LONGEST, 0);
+        self.making = self.chart;
+    }
+
+    // Adds bytes at the end of the file in the making, as far as the buffer goes; the file grows past it too.
+    // No script of 65,536 bytes makes a size of 2^64: its numbers are below 10^19, and what it adds below 10^17.
+    fn append(&mut self, bytes: &[u8])
+        ensures grows { self.old.making ≤ self.new.making }
+        ensures kept { take self.old.making self.new.buffer ≡ take self.old.making self.old.buffer }
+    {
+        let start = self.making.min(BUFFER);
+        let count = bytes.len().min(BUFFER - start);
+        self.buffer[start..start + count].copy_from_slice(&bytes[..count]);
+        self.making = self.making.saturating_add(bytes.len());
     }
 
     // Adds a field's tag and the length of its body.
     fn add_header(&mut self, tag: u8, length: u16)
-        ensures grows { self.old.size ≤ self.new.size }
-        ensures kept { take self.old.size self.new.buffer ≡ take self.old.size self.old.buffer }
+        ensures grows { self.old.making ≤ self.new.making }
+        ensures kept { take self.old.making self.new.buffer ≡ take self.old.making self.old.buffer }
     {
         self.append(&[tag]);
         self.append(&length.to_le_bytes());
@@ -82,48 +161,49 @@ impl FileBuffer {
 
     // Adds numbers of two bytes.
     fn add_numbers(&mut self, numbers: &[u16])
-        ensures grows { self.old.size ≤ self.new.size }
-        ensures kept { take self.old.size self.new.buffer ≡ take self.old.size self.old.buffer }
+        ensures grows { self.old.making ≤ self.new.making }
+        ensures kept { take self.old.making self.new.buffer ≡ take self.old.making self.old.buffer }
     {
         for number in numbers {
             self.append(&number.to_le_bytes());
         }
     }
 
-    // Adds a field of any tag and length, whose body is full of one byte.
-    fn add_filled(&mut self, tag: u8, length: u16, byte: u8)
-        ensures grows { self.old.size ≤ self.new.size }
-        ensures kept { take self.old.size self.new.buffer ≡ take self.old.size self.old.buffer }
+    // Adds a field whose body is numbers of two bytes, or begins with them.
+    fn add_field(&mut self, tag: u8, length: u16, numbers: &[u16])
+        ensures grows { self.old.making ≤ self.new.making }
+        ensures kept { take self.old.making self.new.buffer ≡ take self.old.making self.old.buffer }
     {
         self.add_header(tag, length);
-        let end = (self.size + usize::from(length)).min(LONGEST);
-        self.buffer[self.size..end].fill(byte);
-        self.size = end;
+        self.add_numbers(numbers);
+    }
+
+    // Adds a field of any tag and length, whose body is full of one byte.
+    fn add_filled(&mut self, tag: u8, length: u16, byte: u8)
+        ensures grows { self.old.making ≤ self.new.making }
+        ensures kept { take self.old.making self.new.buffer ≡ take self.old.making self.old.buffer }
+    {
+        self.add_header(tag, length);
+        let length = usize::from(length);
+        let start = self.making.min(BUFFER);
+        let end = (start + length).min(BUFFER);
+        self.buffer[start..end].fill(byte);
+        self.making = self.making.saturating_add(length);
     }
 
     // Adds a field.
     pub fn add(&mut self, field: Field)
-        ensures grows { self.old.size ≤ self.new.size }
-        ensures kept { take self.old.size self.new.buffer ≡ take self.old.size self.old.buffer }
+        ensures grows { self.old.making ≤ self.new.making }
+        ensures kept { take self.old.making self.new.buffer ≡ take self.old.making self.old.buffer }
     {
         match field {
-            Field::ChartHead { stages, start, end } => {
-                self.add_header(1, 6);
-                self.add_numbers(&[stages, start, end]);
-            }
+            Field::ChartHead { stages, start, end } => self.add_field(1, 6, &[stages, start, end]),
             Field::Step { from, to, value } => {
-                self.add_header(2, 8);
-                self.add_numbers(&[from, to]);
+                self.add_field(2, 8, &[from, to]);
                 self.append(&value.to_le_bytes());
             }
-            Field::DiagramHead { root } => {
-                self.add_header(17, 2);
-                self.add_numbers(&[root]);
-            }
-            Field::Node { group, lo, hi } => {
-                self.add_header(18, 6);
-                self.add_numbers(&[group, lo, hi]);
-            }
+            Field::DiagramHead { root } => self.add_field(17, 2, &[root]),
+            Field::Node { group, lo, hi } => self.add_field(18, 6, &[group, lo, hi]),
             Field::Filled { tag, length, byte } => self.add_filled(tag, length, byte),
         }
     }

@@ -5,6 +5,7 @@ ghost use Rattle.std.specs.Prelude.{◌≤◌};
 use crate::lend::lend;
 use crate::show::show_changed;
 use crate::written::{MOST_BYTES, show_written};
+use chart_fields::StepTable;
 use script_files::read::JoinSlices;
 use std::io;
 
@@ -16,15 +17,21 @@ fn references(file: &[u8], groups: usize) -> usize
     ensures { result ≤ 513 }
 {
     let mut table = [0u32; 512];
-    let r = diagram::read_diagram(file, groups.min(1024), true, &mut table);
-    r.nodes % 512 + 2
+    let sizes = match diagram::read_diagram(file, groups.min(1024), true, &mut table) {
+        Ok(sizes) => sizes,
+        Err(stopped) => stopped.passed,
+    };
+    sizes.nodes % 512 + 2
 }
 
 // How many pairs of nodes two diagrams have.
 fn pairs(chart: &[u8], rules: &[u8], more: &[u8]) -> usize {
-    let mut table = [[0u32; 1024]; 2];
-    let groups = chart::read_chart(chart, &mut table).groups;
-    references(rules, groups) * references(more, groups)
+    let mut table = StepTable::blank();
+    let sizes = match chart::read_chart(chart, &mut table) {
+        Ok(sizes) => sizes,
+        Err(stopped) => stopped.passed,
+    };
+    references(rules, sizes.groups) * references(more, sizes.groups)
 }
 
 // How many entries of the work slice are the call's own: none where it is refused before it begins. 7 is the buffer's where

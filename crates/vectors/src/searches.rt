@@ -14,7 +14,10 @@ const MOST_STEPS: usize = 260;
 // How many entries of each work slice are the search's own: none where it is refused before it begins.
 fn own(chart: &[u8], rules: &[u8], number: u32) -> usize {
     match number {
-        0 | 8 => space::space_needed(chart, rules).work,
+        0 | 8 => match space::space_needed(chart, rules) {
+            Ok(needed) => needed.work,
+            Err(_) => 0,
+        },
         _ => 0,
     }
 }

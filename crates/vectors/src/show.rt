@@ -1,31 +1,33 @@
 // What the calls answer, written.
+use chart_fields::StepTable;
 use definitions::{Answer, NONE};
+use fields::Fault;
 use std::fmt::Display;
 use std::io;
 
-fn show_refusal(rt: &impl Print, number: u8, place: usize) -> io::Result<()> {
-    print!(rt; " refused {number} place {place}")
+fn show_fault(rt: &impl Print, fault: Fault) -> io::Result<()> {
+    print!(rt; " refused {} place {}", fault.refusal.number(), fault.place)
 }
 
 // A chart file.
 pub fn show_chart(rt: &impl Print, file: &[u8]) -> io::Result<()> {
-    let mut table = [[0u32; 1024]; 2];
-    let r = chart::read_chart(file, &mut table);
-    if r.number != 0 {
-        return show_refusal(rt, r.number, r.place);
+    let mut table = StepTable::blank();
+    match chart::read_chart(file, &mut table) {
+        Ok(c) => {
+            print!(rt; " stages {} start {} end {}", c.stages, c.start, c.end)?;
+            print!(rt; " steps {} groups {}", c.steps, c.groups)
+        }
+        Err(stopped) => show_fault(rt, stopped.fault),
     }
-    print!(rt; " stages {} start {} end {}", r.stages, r.start, r.end)?;
-    print!(rt; " steps {} groups {}", r.steps, r.groups)
 }
 
 // A diagram file over a chart of so many groups, or as many as a chart can have; padding is refused (strict) or taken.
 pub fn show_diagram(rt: &impl Print, file: &[u8], groups: usize, strict: bool) -> io::Result<()> {
     let mut table = [0u32; 512];
-    let r = diagram::read_diagram(file, groups.min(1024), strict, &mut table);
-    if r.number != 0 {
-        return show_refusal(rt, r.number, r.place);
+    match diagram::read_diagram(file, groups.min(1024), strict, &mut table) {
+        Ok(d) => print!(rt; " root {} nodes {}", d.root, d.nodes),
+        Err(stopped) => show_fault(rt, stopped.fault),
     }
-    print!(rt; " root {} nodes {}", r.root, r.nodes)
 }
 
 // The refused field of a file mark and a place: how many bytes, and each in hexadecimal.

@@ -1,29 +1,20 @@
 -- `diagram_writer::write_nodes` meets its contract.
-use Rattle.diagram_writer.specs.Files.{node_appended}
-use Rattle.unique_table.specs.Nodes.{nodes_long}
-use mathlib.Core.Path.{◌∙◌, refl}
-use native.Mathlib.Omega.{arith}
+use Rattle.std.proofs.Common.{rules, ◌∙◌, arith}
 use Rattle.definitions.specs.Bytes.{node_bytes}
 use Rattle.definitions.specs.Diagrams.{no_node}
-use Rattle.buffer.specs.Appends.{append_none}
 use Rattle.buffer.specs.Writing.{wrote_long, wrote_next, wrote_all}
-use Rattle.unique_table.specs.Tables.{unique_table}
-use borrow.Author.Rules.{rules}
+use Rattle.unique_table.specs.Held.{held}
+use Rattle.diagram_writer.specs.Files.{words_long, node_appended}
 use Rattle.diagram_writer.proofs.write_nodes.Goals as goal
 
-pub loop-k-init : goal.loop-k-init
-loop-k-init c = (search rules, search rules, search rules, refl, (refl, append_none _ _))
-
-pub loop-k-preserved : goal.loop-k-preserved
-loop-k-preserved c = (
+pub loop-w-preserved : goal.loop-w-preserved
+loop-w-preserved c = (
   search rules,
-  search rules,
-  search rules,
-  wrote_long (search rules) c.write_node.ensures ∙ c.loop-k.invariant.3,
-  wrote_next node_bytes _ c.loop-k.k no_node (search rules) (omega (arith, nodes_long (unique_table c.args.nodes.now c.args.chains.now), c.loop-k.invariant.1)) c.loop-k.invariant.4
-      (c.write_node.ensures.0, node_appended (unique_table c.args.nodes.now c.args.chains.now) c.loop-k.k (search rules) _ _ _ c.step_of.ensures c.lo_of.ensures c.hi_of.ensures c.write_node.ensures.1),
+  wrote_long (search rules) c.write_node.ensures ∙ c.loop-w.invariant.1,
+  wrote_next node_bytes _ c.loop-w.w-index no_node (search rules) (omega (arith, words_long (held c.args.table.now) _ c.requires.0 c.count.ensures, c.loop-w-test.true)) c.loop-w.invariant.2
+      (c.write_node.ensures.0, node_appended (held c.args.table.now) _ c.requires.0 c.count.ensures c.loop-w-test.true c.step_of.ensures c.lo_of.ensures c.hi_of.ensures c.write_node.ensures.1),
 )
 
 pub returns : goal.returns
 returns c =
-    wrote_all node_bytes _ c.loop-k.k (omega (arith, nodes_long (unique_table c.args.nodes.now c.args.chains.now), c.loop-k.invariant.1, c.loop-k.invariant.0)) c.loop-k.invariant.4
+    wrote_all node_bytes _ c.loop-w.w-index (omega (arith, words_long (held c.args.table.now) _ c.requires.0 c.count.ensures, c.loop-w-test.false)) c.loop-w.invariant.2

@@ -1,23 +1,25 @@
 -- `conjoin::join` meets its contract.
-use Rattle.conjoin.specs.Joins.{pairs_inside, walk_ready, walk_entries, joins_full, joins_made}
+use Rattle.conjoin.specs.Joins.{walk_ready, joins_full, joins_made}
+use Rattle.std.proofs.Common.{◌∙◌, ap}
+use Rattle.definitions.specs.Answers.{refusal}
+use Rattle.definitions.specs.Refusals.{number}
+use Rattle.checks.specs.Refusing.{file_mark}
+use Rattle.checks.specs.declared.answers.Refused.{Refused}
 use Rattle.conjoin.proofs.call.join.Goals as goal
 
-pub clear-requires : goal.clear-requires
-clear-requires c =
-    pairs_inside c.requires
-
-pub apply-root-requires : goal.apply-root-requires
-apply-root-requires c =
-    walk_ready c.requires _ c.clear.ensures
-
-pub returns-then-root-eq-FULL : goal.returns-then-root-eq-FULL
-returns-then-root-eq-FULL c =
-    λ x. joins_full x _ c.clear.ensures _ _ _ (c.apply-root.ensures (walk_ready x _ c.clear.ensures)) c.if-root-eq-FULL.true _ c.refusal.ensures _
+pub apply-requires : goal.apply-requires
+apply-requires c =
+    walk_ready c.requires _ c.clear.ensures c.over-table.ensures.blank
 
 pub write_diagram-requires : goal.write_diagram-requires
 write_diagram-requires c =
-    walk_entries c.requires _ c.clear.ensures _ _ _ (c.apply-root.ensures (walk_ready c.requires _ c.clear.ensures))
+    (c.in-Some.ensures.walked (walk_ready c.requires _ c.clear.ensures c.over-table.ensures.blank)).entries
 
-pub returns : goal.returns
-returns c =
-    λ x. joins_made x _ c.clear.ensures _ _ _ (c.apply-root.ensures (walk_ready x _ c.clear.ensures)) c.if-root-eq-FULL.false _ _ _ c.write_diagram.ensures
+pub returns-in-Some : goal.returns-in-Some
+returns-in-Some c =
+    λ x. joins_made x _ c.clear.ensures c.over-table.ensures.blank (c.in-Some.ensures.walked (walk_ready x _ c.clear.ensures c.over-table.ensures.blank)) c.write_diagram.ensures
+
+pub returns-in-None : goal.returns-in-None
+returns-in-None c =
+    λ x. joins_full x _ c.clear.ensures c.over-table.ensures.blank (c.in-None.ensures.walked (walk_ready x _ c.clear.ensures c.over-table.ensures.blank))
+    (c.refusal.ensures ∙ ap (λ (z : Refused). refusal (number z.refusal) (file_mark z.file) z.place 0) c.of_call.ensures) _

@@ -1,43 +1,36 @@
 -- `conjoin::load_two` meets its contract.
-use Rattle.conjoin.specs.Loads.{few_groups, chart_out, rules_out, more_out, space_out, all_pass, first_few, second_few, fits_add, pairs_fit}
+use Rattle.std.proofs.Common.{rules, ◌∙◌, sym, ap}
+use Rattle.conjoin.specs.Loads.{refused_as, few_groups, chart_out, rules_out, more_out, space_out, all_pass}
 use Rattle.conjoin.proofs.load.load_two.Goals as goal
 
-pub returns-then-c-ne0 : goal.returns-then-c-ne0
-returns-then-c-ne0 c =
-    chart_out _ _ _ c.args.work _ c.check_chart-c.ensures _ _ c.if-c-ne0.true _ c.refused.ensures
+pub returns-in_err-c : goal.returns-in_err-c
+returns-in_err-c c =
+    let out = chart_out c.args.chart.now c.args.rules.now c.args.more.now c.args.work c.check_chart.ensures c.args.left.now c.args.right.now c.in_err-c.ensures in
+    search (rules, out)
 
-pub read_diagram-d-requires : goal.read_diagram-d-requires
-read_diagram-d-requires c =
-    (few_groups c.args.chart.now c.args.rules.now c.args.more.now c.args.work _ c.check_chart-c.ensures c.if-c-ne0.false, c.requires.0)
+pub read_diagram-requires : goal.read_diagram-requires
+read_diagram-requires c =
+    (few_groups c.args.chart.now c.check_chart.ensures _ c.in_ok-c.ensures, c.requires.0)
 
-pub returns-then-d-ne0 : goal.returns-then-d-ne0
-returns-then-d-ne0 c =
-    rules_out _ _ _ c.args.work _ c.check_chart-c.ensures c.if-c-ne0.false _ _ _ c.read_diagram-d.ensures _ c.if-d-ne0.true _ c.refused-then-d-ne0.ensures
+pub returns-in_err-d : goal.returns-in_err-d
+returns-in_err-d c =
+    let out = rules_out c.args.chart.now c.args.rules.now c.args.more.now c.args.work c.check_chart.ensures c.in_ok-c.ensures _ _ c.read_diagram.ensures c.args.right.now c.in_err-d.ensures in
+    search (rules, out)
 
-pub read_diagram-e-requires : goal.read_diagram-e-requires
-read_diagram-e-requires c =
-    (few_groups c.args.chart.now c.args.rules.now c.args.more.now c.args.work _ c.check_chart-c.ensures c.if-c-ne0.false, c.requires.1)
+pub read_diagram-requires-2 : goal.read_diagram-requires-2
+read_diagram-requires-2 c =
+    (few_groups c.args.chart.now c.check_chart.ensures _ c.in_ok-c.ensures, c.requires.1)
 
-pub returns-then-e-ne0 : goal.returns-then-e-ne0
-returns-then-e-ne0 c =
-    more_out _ _ _ c.args.work _ c.check_chart-c.ensures c.if-c-ne0.false _ _ _ c.read_diagram-d.ensures c.if-d-ne0.false _ _ _ c.read_diagram-e.ensures c.if-e-ne0.true _ c.refused-then-e-ne0.ensures
-
-pub overflow_add-width : goal.overflow_add-width
-overflow_add-width c =
-    fits_add (second_few _ _ _ c.args.work _ c.check_chart-c.ensures c.if-c-ne0.false _ _ _ c.read_diagram-d.ensures c.if-d-ne0.false _ _ _ c.read_diagram-e.ensures c.if-e-ne0.false)
-
-pub overflow_add-pairs : goal.overflow_add-pairs
-overflow_add-pairs c =
-    fits_add (first_few _ _ _ c.args.work _ c.check_chart-c.ensures c.if-c-ne0.false _ _ _ c.read_diagram-d.ensures c.if-d-ne0.false _ _ _ c.read_diagram-e.ensures c.if-e-ne0.false)
-
-pub overflow_mul-pairs : goal.overflow_mul-pairs
-overflow_mul-pairs c =
-    pairs_fit _ _ _ c.args.work _ c.check_chart-c.ensures c.if-c-ne0.false _ _ _ c.read_diagram-d.ensures c.if-d-ne0.false _ _ _ c.read_diagram-e.ensures c.if-e-ne0.false
+pub returns-in_err-e : goal.returns-in_err-e
+returns-in_err-e c =
+    let out = more_out c.args.chart.now c.args.rules.now c.args.more.now c.args.work c.check_chart.ensures c.in_ok-c.ensures _ _ c.read_diagram.ensures c.in_ok-d.ensures _ _ c.read_diagram-2.ensures c.in_err-e.ensures in
+    search (rules, out)
 
 pub returns-then-work-pairs : goal.returns-then-work-pairs
 returns-then-work-pairs c =
-    space_out _ _ _ c.args.work _ c.check_chart-c.ensures c.if-c-ne0.false _ _ _ c.read_diagram-d.ensures c.if-d-ne0.false _ _ _ c.read_diagram-e.ensures c.if-e-ne0.false c.if-work-pairs.true _ c.refused-then-work-pairs.ensures
+    space_out _ _ _ c.args.work c.check_chart.ensures c.in_ok-c.ensures _ _ c.read_diagram.ensures c.in_ok-d.ensures _ _ c.read_diagram-2.ensures c.in_ok-e.ensures c.if-work-pairs.true
+    ∙ ap refused_as (sym c.of_call.ensures)
 
 pub returns : goal.returns
 returns c =
-    all_pass _ _ _ c.args.work _ c.check_chart-c.ensures c.if-c-ne0.false _ _ _ c.read_diagram-d.ensures c.if-d-ne0.false _ _ _ c.read_diagram-e.ensures c.if-e-ne0.false c.if-work-pairs.false
+    all_pass _ _ _ c.args.work c.check_chart.ensures c.in_ok-c.ensures _ _ c.read_diagram.ensures c.in_ok-d.ensures _ _ c.read_diagram-2.ensures c.in_ok-e.ensures c.if-work-pairs.false

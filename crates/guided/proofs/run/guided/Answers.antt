@@ -1,28 +1,33 @@
 -- `guided::guided` meets its contract.
 use Rattle.definitions.specs.Promises.{guided_slices}
 use Rattle.checks.specs.Outcome.{shortest_of}
-use Rattle.guided.proofs.Loading.{call_refused, call_runs, call_done}
+use borrow.Author.Rules.{rules}
+use Rattle.guided.proofs.Finding.{runs_as}
+use Rattle.guided.proofs.Loading.{call_refused, call_room, call_done}
 use Rattle.guided.proofs.run.guided.Goals as goal
 
-pub returns-then-got-ne0 : goal.returns-then-got-ne0
-returns-then-got-ne0 c =
-    let a = c.args in
-    let x = guided_slices a.keys.now a.via.now a.heap.now a.pos.now a.stack.now a.log.now a.plan.now in
-    let lent = shortest_of _ _ _ _ _ _ c.lesser.ensures c.lesser-2.ensures c.lesser-shorter.ensures c.lesser-3.ensures c.lesser-work.ensures in
-    call_refused a.chart.now a.rules.now x lent _ _ c.load-got.ensures c.if-got-ne0.true c.refusal.ensures
+pub run-requires-clause-tables : goal.run-requires-clause-tables
+run-requires-clause-tables c = c.in-Ok.ensures.1
 
-pub run-requires : goal.run-requires
-run-requires c =
+pub run-requires-clause-room : goal.run-requires-clause-room
+run-requires-clause-room c =
     let a = c.args in
     let x = guided_slices a.keys.now a.via.now a.heap.now a.pos.now a.stack.now a.log.now a.plan.now in
-    let lent = shortest_of _ _ _ _ _ _ c.lesser.ensures c.lesser-2.ensures c.lesser-shorter.ensures c.lesser-3.ensures c.lesser-work.ensures in
-    let runs = call_runs a.chart.now a.rules.now x lent _ _ c.load-got.ensures c.if-got-ne0.false in
-    record { tables = runs.0; room = runs.1 }
+    let lent = shortest_of _ _ _ _ _ _ c.min.ensures c.min-2.ensures c.min-shorter.ensures c.min-3.ensures c.min-work.ensures in
+    call_room a.chart.now a.rules.now x lent c.in-Ok.ensures.0 c.in-Ok.ensures.1
 
-pub returns : goal.returns
-returns c =
+pub returns-in-Ok : goal.returns-in-Ok
+returns-in-Ok c =
     let a = c.args in
     let x = guided_slices a.keys.now a.via.now a.heap.now a.pos.now a.stack.now a.log.now a.plan.now in
-    let lent = shortest_of _ _ _ _ _ _ c.lesser.ensures c.lesser-2.ensures c.lesser-shorter.ensures c.lesser-3.ensures c.lesser-work.ensures in
-    call_done a.chart.now a.rules.now x lent _ _ c.load-got.ensures c.if-got-ne0.false
-    c.run.ensures c.run.auto.keys c.run.auto.via c.run.auto.heap c.run.auto.pos c.run.auto.stack
+    let lent = shortest_of _ _ _ _ _ _ c.min.ensures c.min-2.ensures c.min-shorter.ensures c.min-3.ensures c.min-work.ensures in
+    call_done a.chart.now a.rules.now x lent c.in-Ok.ensures.0 c.in-Ok.ensures.1
+    (runs_as c.run.ensures.runs (search rules) (search rules) (search rules) (search rules) (search rules) (search rules))
+    (search rules) (search rules) (search rules) (search rules) (search rules)
+
+pub returns-in-Err : goal.returns-in-Err
+returns-in-Err c =
+    let a = c.args in
+    let x = guided_slices a.keys.now a.via.now a.heap.now a.pos.now a.stack.now a.log.now a.plan.now in
+    let lent = shortest_of _ _ _ _ _ _ c.min.ensures c.min-2.ensures c.min-shorter.ensures c.min-3.ensures c.min-work.ensures in
+    call_refused a.chart.now a.rules.now x lent _ c.in-Err.ensures c.refusal.ensures

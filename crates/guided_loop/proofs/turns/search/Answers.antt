@@ -1,9 +1,9 @@
 -- `guided_loop::search` meets its contract: the pair of start and root is opened, then open pairs are settled.
-use mathlib.Core.Path.{refl, ◌∙◌}
+use mathlib.Core.Path.{refl}
 use native.Mathlib.Omega.{arith}
+use borrow.Author.Rules.{rules}
 use Rattle.guided_expand.specs.Guides.{few_pairs}
-use Rattle.guided_loop.proofs.Beginning.{narrow, start_small, begin_block, begin_asks, begin_begun, begin_searched}
-use Rattle.guided_loop.proofs.Turning.{turn_takes, turn_none, turn_room, turn_logs, turn_placed, turn_inside, turn_falls, turn_estimate, turn_asks, turn_goal, turn_more}
+use Rattle.guided_loop.proofs.Beginning.{narrow, start_small, no_pairs, begin_block, begin_asks, begin_begun, begin_searched, searched_as}
 use Rattle.guided_loop.proofs.turns.search.Goals as goal
 
 pub overflow_add-pairs : goal.overflow_add-pairs
@@ -22,93 +22,21 @@ pub open_block-requires : goal.open_block-requires
 open_block-requires c =
     begin_block c.requires c.pair_at-begin.ensures
 
-pub insert-counts-requires : goal.insert-counts-requires
-insert-counts-requires c =
-    begin_asks c.requires c.pair_at-begin.ensures c.open_block.auto.keys c.open_block.ensures c.empty.ensures
+pub insert-requires : goal.insert-requires
+insert-requires c =
+    begin_asks c.requires c.pair_at-begin.ensures c.open_block.auto.keys c.open_block.ensures no_pairs
 
-pub search-init : goal.search-init
-search-init c =
-    let begun = begin_begun c.requires c.pair_at-begin.ensures c.open_block.auto.keys c.open_block.ensures c.empty.ensures c.insert-counts.ensures in
-    (begun, (λ x. x.turning), omega arith, refl, refl, refl, refl, refl, refl, refl)
+pub settle_open-goal-requires : goal.settle_open-goal-requires
+settle_open-goal-requires c = record {
+  all = refl;
+  begun = begin_begun c.requires c.pair_at-begin.ensures c.open_block.auto.keys c.open_block.ensures no_pairs c.insert.ensures.inserted;
+}
 
-pub take-next-requires : goal.take-next-requires
-take-next-requires c =
-    let begun = c.search.invariant.0 in
-    let w = c.search.invariant.1 begun in
-    turn_takes begun.by w c.search-test.true
-
-pub log_pair-count-requires : goal.log_pair-count-requires
-log_pair-count-requires c =
-    let begun = c.search.invariant.0 in
-    let w = c.search.invariant.1 begun in
-    turn_logs begun.by w begun.begins c.take-next.ensures
-
-pub pair_of-at-requires : goal.pair_of-at-requires
-pair_of-at-requires c =
-    let begun = c.search.invariant.0 in
-    let w = c.search.invariant.1 begun in
-    turn_placed begun.by w begun.begins c.take-next.ensures
-
-pub pair_estimate-requires : goal.pair_estimate-requires
-pair_estimate-requires c =
-    let begun = c.search.invariant.0 in
-    let w = c.search.invariant.1 begun in
-    turn_inside begun.by w begun.begins c.take-next.ensures c.pair_of-at.result c.pair_of-at.ensures
-
-pub overflow_sub-spent : goal.overflow_sub-spent
-overflow_sub-spent c =
-    let begun = c.search.invariant.0 in
-    let w = c.search.invariant.1 begun in
-    turn_estimate begun.by w begun.begins c.take-next.ensures c.pair_of-at.result c.pair_of-at.ensures c.pair_estimate.ensures
-
-pub is_goal-requires : goal.is_goal-requires
-is_goal-requires c =
-    let begun = c.search.invariant.0 in
-    let w = c.search.invariant.1 begun in
-    turn_falls begun.by w begun.begins c.take-next.ensures c.pair_of-at.result c.pair_of-at.ensures
-
-pub settle-counts-requires : goal.settle-counts-requires
-settle-counts-requires c =
-    let begun = c.search.invariant.0 in
-    let w = c.search.invariant.1 begun in
-    turn_asks begun.by w begun.begins c.take-next.ensures c.pair_of-at.result c.pair_of-at.ensures c.pair_estimate.ensures
-
-pub search-smaller : goal.search-smaller
-search-smaller c =
-    let begun = c.search.invariant.0 in
-    let w = c.search.invariant.1 begun in
-    omega (arith, turn_room begun.by w begun.begins c.take-next.ensures, c.log_pair-count.ensures.0)
-
-pub search-preserved : goal.search-preserved
-search-preserved c =
-    let begun = c.search.invariant.0 in
-    let w = c.search.invariant.1 begun in (
-      begun,
-      (λ x.
-          let asked = turn_asks x.by (c.search.invariant.1 x) x.begins c.take-next.ensures c.pair_of-at.result c.pair_of-at.ensures c.pair_estimate.ensures in
-          turn_more x.by (c.search.invariant.1 x) x.begins c.take-next.ensures c.pair_of-at.result c.pair_of-at.ensures c.pair_estimate.ensures
-          c.is_goal.ensures c.log_pair-count.ensures c.if-is_goal.false c.settle-counts.auto.via (c.settle-counts.ensures asked)),
-      omega (arith, turn_room begun.by w begun.begins c.take-next.ensures, c.log_pair-count.ensures.0),
-      c.search.invariant.3,
-      c.settle-counts.auto.keys ∙ c.search.invariant.4,
-      c.settle-counts.auto.via ∙ c.search.invariant.5,
-      c.settle-counts.auto.heap ∙ c.take-next.auto.heap ∙ c.search.invariant.6,
-      c.settle-counts.auto.pos ∙ c.take-next.auto.pos ∙ c.search.invariant.7,
-      c.settle-counts.auto.stack ∙ c.search.invariant.8,
-      c.log_pair-count.auto.log ∙ c.search.invariant.9,
-    )
-
-pub returns-after-search : goal.returns-after-search
-returns-after-search c =
+pub returns-clause-searched : goal.returns-clause-searched
+returns-clause-searched c =
     λ x.
-    let begun = begin_begun x c.pair_at-begin.ensures c.open_block.auto.keys c.open_block.ensures c.empty.ensures c.insert-counts.ensures in
-    begin_searched x c.pair_at-begin.ensures c.open_block.auto.keys c.open_block.ensures c.empty.ensures c.insert-counts.ensures
-    (turn_none x.by (c.search.invariant.1 begun) c.search-test.false c.search.invariant.3 refl)
-
-pub returns-then-is_goal : goal.returns-then-is_goal
-returns-then-is_goal c =
-    λ x.
-    let begun = begin_begun x c.pair_at-begin.ensures c.open_block.auto.keys c.open_block.ensures c.empty.ensures c.insert-counts.ensures in
-    begin_searched x c.pair_at-begin.ensures c.open_block.auto.keys c.open_block.ensures c.empty.ensures c.insert-counts.ensures
-    (turn_goal x.by (c.search.invariant.1 begun) begun.begins c.take-next.ensures c.pair_of-at.result c.pair_of-at.ensures c.pair_estimate.ensures
-    c.is_goal.ensures c.log_pair-count.ensures c.if-is_goal.true refl refl refl refl)
+    searched_as
+    (begin_searched x c.pair_at-begin.ensures c.open_block.auto.keys c.open_block.ensures no_pairs c.insert.ensures.inserted
+    (c.settle_open-goal.ensures.searched
+    (begin_begun x c.pair_at-begin.ensures c.open_block.auto.keys c.open_block.ensures no_pairs c.insert.ensures.inserted)))
+    (search rules) (search rules) (search rules) (search rules) (search rules) (search rules)

@@ -6,20 +6,20 @@ use Rattle.guided_seek.proofs.run.seek.Goals as goal
 pub fill_chart_estimates-requires : goal.fill_chart_estimates-requires
 fill_chart_estimates-requires c = record { none_yet = refl; staged = run_staged c.requires.prepared.ready.tables c.requires.prepared.ready.firsts }
 
-pub pair_estimate-rest-requires : goal.pair_estimate-rest-requires
-pair_estimate-rest-requires c =
+pub of_pair-rest-requires : goal.of_pair-rest-requires
+of_pair-rest-requires c =
     run_root c.requires.prepared.ready.tables
 
-pub returns-then-rest : goal.returns-then-rest
-returns-then-rest c =
-    sought_none c.requires.prepared c.fill_chart_estimates.ensures c.pair_estimate-rest.ensures c.if-rest.true refl refl
+pub returns-then-rest-clause-sought : goal.returns-then-rest-clause-sought
+returns-then-rest-clause-sought c =
+    sought_none c.requires.prepared c.fill_chart_estimates.ensures c.of_pair-rest.ensures c.if-rest.true refl refl
 
 pub search-requires : goal.search-requires
 search-requires c =
-    run_start c.requires.prepared c.fill_chart_estimates.ensures c.pair_estimate-rest.ensures c.if-rest.false c.requires.space
+    run_start c.requires.prepared c.fill_chart_estimates.ensures c.of_pair-rest.ensures c.if-rest.false c.requires.space
 
-pub returns : goal.returns
-returns c =
+pub returns-clause-sought : goal.returns-clause-sought
+returns-clause-sought c =
     sought_some c.requires.prepared c.fill_chart_estimates.ensures
-    (c.search.ensures
-    (run_start c.requires.prepared c.fill_chart_estimates.ensures c.pair_estimate-rest.ensures c.if-rest.false c.requires.space))
+    (c.search.ensures.searched
+    (run_start c.requires.prepared c.fill_chart_estimates.ensures c.of_pair-rest.ensures c.if-rest.false c.requires.space))

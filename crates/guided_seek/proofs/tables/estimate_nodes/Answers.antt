@@ -6,8 +6,8 @@ pub fill_diagram_estimates-requires : goal.fill_diagram_estimates-requires
 fill_diagram_estimates-requires c = record { sound = run_nodes c.requires.tables _ c.fill_prices.ensures; long_enough = c.requires.long_enough }
 
 pub fill_diagram_estimates-requires-2 : goal.fill_diagram_estimates-requires-2
-fill_diagram_estimates-requires-2 c = record { sound = run_nodes c.requires.tables _ (plain_costs c.requires.tables _ c.tag_at.ensures c.if-tag_at-eq3.false); long_enough = c.requires.long_enough }
+fill_diagram_estimates-requires-2 c = record { sound = run_nodes c.requires.tables _ (plain_costs c.requires.tables (c.is_grouped.ensures.plain c.if-is_grouped.false)); long_enough = c.requires.long_enough }
 
 pub returns : goal.returns
 returns c =
-    record { prices = _; costs = plain_costs c.requires.tables _ c.tag_at.ensures c.if-tag_at-eq3.false; by = c.fill_diagram_estimates-2.ensures }
+    record { prices = _; costs = plain_costs c.requires.tables (c.is_grouped.ensures.plain c.if-is_grouped.false); by = c.fill_diagram_estimates-2.ensures }

@@ -1,9 +1,0 @@
--- `apply::hi_half` meets its contract.
-use Rattle.apply.specs.Operands.{child-laws}
-use Rattle.apply.proofs.pairs.hi_half.Goals as goal
-
-pub returns-then-step_of-step : goal.returns-then-step_of-step
-returns-then-step_of-step c = search child-laws
-
-pub returns : goal.returns
-returns c = search child-laws
