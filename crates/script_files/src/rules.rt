@@ -5,7 +5,7 @@ ghost use Rattle.script_files.specs.declared.rules.Rule.TheVariants.{Same};
 
 use crate::write::Field;
 
-// A field by its number i. What a number is reduced modulo is what its type holds, or `low_24` says.
+// A field by its number i. A script's numbers are cut to what the types here hold; reach, value, hi and first to three bytes.
 #[derive(Clone, Copy)]
 pub enum Rule {
     // The same for each i.

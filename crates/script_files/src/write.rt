@@ -1,5 +1,7 @@
 // Files made in one buffer, field by field. Past the buffer's end nothing is written.
-ghost use Rattle.std.specs.Prelude.{◌≡◌, ◌+◌, ◌*◌, ◌<◌, ◌≤◌, if◌then◌else◌, drop, length, nat_le, slice_set, take};
+ghost use Rattle.std.specs.Prelude.{◌≡◌, ◌<◌, ◌≤◌, slice_set};
+ghost use Rattle.std.specs.List.{copy_within};
+ghost use Rattle.script_files.specs.Files.{place, size, part, Grown};
 
 // How many bytes of the buffer a file has. A longer one goes on into the next file's.
 pub const LONGEST: usize = 32784;
@@ -29,7 +31,7 @@ pub enum Role {
 impl Role {
     // Where in the buffer the file begins.
     fn place(self) -> usize
-        ensures { result + 32784 ≤ 131136 }
+        ensures { result ≡ place self }
     {
         match self {
             Role::Chart => LONGEST,
@@ -68,24 +70,26 @@ impl Files {
     }
 
     // So many bytes from a place of the buffer on, or the whole buffer where there are not so many.
-    fn part(&self, place: usize, size: usize) -> &[u8]
-        ensures { result.now ≡ (if nat_le (place + size) 131136 then take size (drop place self.now.buffer) else self.now.buffer) }
+    fn part(&self, from: usize, count: usize) -> &[u8]
+        ensures { result.now ≡ part self.now.buffer from count }
     {
-        match place.checked_add(size) {
-            Some(end) if end <= BUFFER => &self.buffer[place..end],
+        match from.checked_add(count) {
+            Some(end) if end <= BUFFER => &self.buffer[from..end],
             _ => &self.buffer,
         }
     }
 
     // The bytes of the file in the making.
     pub fn making(&self) -> &[u8]
-        ensures { self.now.making ≤ 131136 → result.now ≡ take self.now.making self.now.buffer }
+        ensures { result.now ≡ part self.now.buffer 0 self.now.making }
     {
         self.part(0, self.making)
     }
 
     // How many bytes another file has.
-    fn size(&self, role: Role) -> usize {
+    fn size(&self, role: Role) -> usize
+        ensures { result ≡ size self.now role }
+    {
         match role {
             Role::Chart => self.chart,
             Role::Rules => self.rules,
@@ -94,16 +98,18 @@ impl Files {
     }
 
     // The bytes of another file.
-    pub fn file(&self, role: Role) -> &[u8] {
+    pub fn file(&self, role: Role) -> &[u8]
+        ensures { result.now ≡ part self.now.buffer (place role) (size self.now role) }
+    {
         self.part(role.place(), self.size(role))
     }
 
     // Says how many bytes the file in the making has.
-    pub fn set_size(&mut self, size: usize)
-        ensures size { self.new.making ≡ size }
+    pub fn set_size(&mut self, count: usize)
+        ensures set { self.new.making ≡ count }
         ensures kept { self.new.buffer ≡ self.old.buffer }
     {
-        self.making = size;
+        self.making = count;
     }
 
     // Sets the byte at a place of the buffer.
@@ -119,7 +125,9 @@ impl Files {
 
     // Takes the file in the making for another, and begins an empty one.
     pub fn take(&mut self, role: Role)
-        ensures { self.new.making ≡ 0 }
+        ensures bytes { self.new.buffer ≡ copy_within self.old.buffer 0 32784 (place role) }
+        ensures size { size self.new role ≡ self.old.making }
+        ensures empty { self.new.making ≡ 0 }
     {
         self.buffer.copy_within(..LONGEST, role.place());
         match role {
@@ -132,7 +140,8 @@ impl Files {
 
     // Takes the chart for the file in the making.
     pub fn restore(&mut self)
-        ensures { self.new.making ≡ self.old.chart }
+        ensures bytes { self.new.buffer ≡ copy_within self.old.buffer 32784 65568 0 }
+        ensures size { self.new.making ≡ self.old.chart }
     {
         self.buffer.copy_within(LONGEST..2 * LONGEST, 0);
         self.making = self.chart;
@@ -141,8 +150,7 @@ impl Files {
     // Adds bytes at the end of the file in the making, as far as the buffer goes; the file grows past it too.
     // No script of 65,536 bytes makes a size of 2^64: its numbers are below 10^19, and what it adds below 10^17.
     fn append(&mut self, bytes: &[u8])
-        ensures grows { self.old.making ≤ self.new.making }
-        ensures kept { take self.old.making self.new.buffer ≡ take self.old.making self.old.buffer }
+        ensures grown { Grown self.old self.new }
     {
         let start = self.making.min(BUFFER);
         let count = bytes.len().min(BUFFER - start);
@@ -152,8 +160,7 @@ impl Files {
 
     // Adds a field's tag and the length of its body.
     fn add_header(&mut self, tag: u8, length: u16)
-        ensures grows { self.old.making ≤ self.new.making }
-        ensures kept { take self.old.making self.new.buffer ≡ take self.old.making self.old.buffer }
+        ensures grown { Grown self.old self.new }
     {
         self.append(&[tag]);
         self.append(&length.to_le_bytes());
@@ -161,8 +168,7 @@ impl Files {
 
     // Adds numbers of two bytes.
     fn add_numbers(&mut self, numbers: &[u16])
-        ensures grows { self.old.making ≤ self.new.making }
-        ensures kept { take self.old.making self.new.buffer ≡ take self.old.making self.old.buffer }
+        ensures grown { Grown self.old self.new }
     {
         for number in numbers {
             self.append(&number.to_le_bytes());
@@ -171,8 +177,7 @@ impl Files {
 
     // Adds a field whose body is numbers of two bytes, or begins with them.
     fn add_field(&mut self, tag: u8, length: u16, numbers: &[u16])
-        ensures grows { self.old.making ≤ self.new.making }
-        ensures kept { take self.old.making self.new.buffer ≡ take self.old.making self.old.buffer }
+        ensures grown { Grown self.old self.new }
     {
         self.add_header(tag, length);
         self.add_numbers(numbers);
@@ -180,8 +185,7 @@ impl Files {
 
     // Adds a field of any tag and length, whose body is full of one byte.
     fn add_filled(&mut self, tag: u8, length: u16, byte: u8)
-        ensures grows { self.old.making ≤ self.new.making }
-        ensures kept { take self.old.making self.new.buffer ≡ take self.old.making self.old.buffer }
+        ensures grown { Grown self.old self.new }
     {
         self.add_header(tag, length);
         let length = usize::from(length);
@@ -193,8 +197,7 @@ impl Files {
 
     // Adds a field.
     pub fn add(&mut self, field: Field)
-        ensures grows { self.old.making ≤ self.new.making }
-        ensures kept { take self.old.making self.new.buffer ≡ take self.old.making self.old.buffer }
+        ensures grown { Grown self.old self.new }
     {
         match field {
             Field::ChartHead { stages, start, end } => self.add_field(1, 6, &[stages, start, end]),

@@ -62,6 +62,7 @@ fn run(
         row: &row,
     };
     costs[..z.stages as usize * (z.nodes + 2)].fill(NONE);
+    // Built in place: out of a function over one lifetime it would not be known what becomes of the lent slices.
     let mut rows = Rows {
         costs,
         via,
