@@ -13,7 +13,7 @@ use guided_ends::{Ended, conclude};
 use guided_loop::Slices;
 use guided_seek::{fill_tables, seek};
 
-// The answer by how a search ended that left these slices.
+// The answer by how a search ended that left these slices. By itself: of a slice lent on from a struct nothing is known after.
 fn answer<'t>(
     slices: &Slices<'_>,
     tables: WalkTables<'t>,

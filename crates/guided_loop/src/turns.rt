@@ -30,7 +30,7 @@ pub struct Slices<'a> {
     pub log: &'a mut [u32],
 }
 
-// Where the opened pair x stands.
+// Where the opened pair x stands. By itself: of a slice that a loop lends on from a struct nothing is known afterwards.
 fn place_of<'t>(
     work: &Work<'_, '_, '_>,
     row: &'t [u32; 256],

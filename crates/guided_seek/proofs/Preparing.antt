@@ -21,10 +21,9 @@ use Rattle.std.proofs.lemmas.Option.{none-some}
 use Rattle.theory.specs.Basics.{either}
 use Rattle.theory.specs.Limits.{Sound}
 use Rattle.theory.specs.Estimates.{chart_bounded, diagram_bounded}
-use Rattle.chart_stages.specs.FirstSteps.{SortedTable, FirstTable}
+use Rattle.chart_stages.specs.FirstSteps.{SortedTable}
 use Rattle.chart_stages.specs.HeldGraph.{held_sorted}
 use Rattle.chart_stages.specs.Estimates.{EstimateTable}
-use Rattle.chart_stages.specs.Leaving.{Staged}
 use Rattle.nodes.specs.Walks.{Falls}
 use Rattle.nodes.specs.Falling.{lo_falls, hi_falls}
 use Rattle.node_estimates.specs.Estimates.{Priced, Costs}
@@ -94,9 +93,6 @@ module _ {z : Shape} {t : Read} (in_tables : Tables z t) where
 
   pub run_sorted : SortedTable z.steps t.steps.from × (z.stages ≤ 256)
   run_sorted = (held_sorted z t.steps in_tables.valid, few_stages z t in_tables)
-
-  pub run_staged : {first : List ℕ} → FirstTable z.steps z.stages t.steps.from first → Staged z t.steps first
-  run_staged f = record { valid = in_tables.valid; firsts = f }
 
   pub run_narrow : (z.stages ≤ 256) × (z.nodes + 2 ≤ 512)
   run_narrow = (few_stages z t in_tables, omega (arith, few_nodes z t in_tables))

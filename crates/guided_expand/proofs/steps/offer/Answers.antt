@@ -1,4 +1,6 @@
 -- `guided_expand::offer` meets its contract.
+use Prim.Native.Nat.{ℕ, ◌+◌}
+use mathlib.Core.Path.{ap}
 use native.Mathlib.Omega.{arith}
 use Rattle.guided_expand.specs.Opening.{opened_more}
 use Rattle.guided_expand.proofs.Stepping.{step_small, stage_small, target_small, leads_none, leads_fit, leads_block, leads_ask, leads_some, block_filled, block_opened, block_leading}
@@ -43,7 +45,7 @@ packed-requires c =
 pub relax-requires : goal.relax-requires
 relax-requires c =
     let l = block_leading c.requires c.to-stage.ensures _ c.of_pair-rest.ensures c.if-rest.false _ c.pair_at-y.ensures c.open_block.auto.keys c.open_block.ensures in
-    leads_ask l c.to-stage.ensures _ c.of_pair-rest.ensures c.if-rest.false _ c.pair_at-y.ensures _ (omega (arith, c.cost.ensures))
+    leads_ask l c.to-stage.ensures _ c.of_pair-rest.ensures c.if-rest.false _ c.pair_at-y.ensures _ (ap (λ (k : ℕ). c.args.source.cost + k + c.of_pair-rest.result) c.cost.ensures)
     (block_filled c.requires c.to-stage.ensures _ c.of_pair-rest.ensures c.if-rest.false _ c.pair_at-y.ensures c.open_block.auto.keys c.open_block.ensures)
 
 pub returns-clause-offered : goal.returns-clause-offered
@@ -51,7 +53,7 @@ returns-clause-offered c =
     λ x.
     let l = block_leading x c.to-stage.ensures _ c.of_pair-rest.ensures c.if-rest.false _ c.pair_at-y.ensures c.open_block.auto.keys c.open_block.ensures in
     let filled = block_filled x c.to-stage.ensures _ c.of_pair-rest.ensures c.if-rest.false _ c.pair_at-y.ensures c.open_block.auto.keys c.open_block.ensures in
-    let asked = leads_ask l c.to-stage.ensures _ c.of_pair-rest.ensures c.if-rest.false _ c.pair_at-y.ensures _ (omega (arith, c.cost.ensures)) filled in
+    let asked = leads_ask l c.to-stage.ensures _ c.of_pair-rest.ensures c.if-rest.false _ c.pair_at-y.ensures _ (ap (λ (k : ℕ). c.args.source.cost + k + c.of_pair-rest.result) c.cost.ensures) filled in
     opened_more x.by _ (block_opened x c.to-stage.ensures _ c.of_pair-rest.ensures c.if-rest.false _ c.pair_at-y.ensures c.open_block.auto.keys c.open_block.ensures)
-    (leads_some l c.to-stage.ensures _ c.of_pair-rest.ensures c.if-rest.false _ c.pair_at-y.ensures _ (omega (arith, c.cost.ensures)) filled
+    (leads_some l c.to-stage.ensures _ c.of_pair-rest.ensures c.if-rest.false _ c.pair_at-y.ensures _ (ap (λ (k : ℕ). c.args.source.cost + k + c.of_pair-rest.result) c.cost.ensures) filled
     c.packed.ensures c.relax.ensures.same.2.0.1 (c.relax.ensures.relaxed asked))

@@ -1,14 +1,7 @@
 -- `guided_seek::seek` meets its contract.
 use mathlib.Core.Path.{refl}
-use Rattle.guided_seek.proofs.Preparing.{run_staged, run_root, sought_none, run_start, sought_some}
+use Rattle.guided_seek.proofs.Preparing.{sought_none, run_start, sought_some}
 use Rattle.guided_seek.proofs.run.seek.Goals as goal
-
-pub fill_chart_estimates-requires : goal.fill_chart_estimates-requires
-fill_chart_estimates-requires c = record { none_yet = refl; staged = run_staged c.requires.prepared.ready.tables c.requires.prepared.ready.firsts }
-
-pub of_pair-rest-requires : goal.of_pair-rest-requires
-of_pair-rest-requires c =
-    run_root c.requires.prepared.ready.tables
 
 pub returns-then-rest-clause-sought : goal.returns-then-rest-clause-sought
 returns-then-rest-clause-sought c =

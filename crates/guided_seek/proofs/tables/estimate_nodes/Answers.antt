@@ -2,11 +2,13 @@
 use Rattle.guided_seek.proofs.Preparing.{plain_costs, run_nodes}
 use Rattle.guided_seek.proofs.tables.estimate_nodes.Goals as goal
 
-pub fill_diagram_estimates-requires : goal.fill_diagram_estimates-requires
-fill_diagram_estimates-requires c = record { sound = run_nodes c.requires.tables _ c.fill_prices.ensures; long_enough = c.requires.long_enough }
+pub fill_diagram_estimates-requires-clause-sound : goal.fill_diagram_estimates-requires-clause-sound
+fill_diagram_estimates-requires-clause-sound c =
+    run_nodes c.requires.tables _ c.fill_prices.ensures
 
-pub fill_diagram_estimates-requires-2 : goal.fill_diagram_estimates-requires-2
-fill_diagram_estimates-requires-2 c = record { sound = run_nodes c.requires.tables _ (plain_costs c.requires.tables (c.is_grouped.ensures.plain c.if-is_grouped.false)); long_enough = c.requires.long_enough }
+pub fill_diagram_estimates-requires-2-clause-sound : goal.fill_diagram_estimates-requires-2-clause-sound
+fill_diagram_estimates-requires-2-clause-sound c =
+    run_nodes c.requires.tables _ (plain_costs c.requires.tables (c.is_grouped.ensures.plain c.if-is_grouped.false))
 
 pub returns : goal.returns
 returns c =

@@ -1,9 +1,5 @@
 -- `guided_seek::fill_tables` meets its contract.
-use Prim.Native.Nat.{ℕ}
-use mathlib.Core.Path.{ap}
-use mathlib.Core.List.{List}
 use native.Mathlib.Omega.{arith}
-use lib.ListN.{length}
 use Rattle.guided_seek.proofs.Preparing.{run_sorted, run_narrow}
 use Rattle.guided_seek.proofs.tables.fill_tables.Goals as goal
 
@@ -11,9 +7,6 @@ pub fill_first_steps-requires : goal.fill_first_steps-requires
 fill_first_steps-requires c =
     let sorted = run_sorted c.requires.tables in
     (c.requires.no_first, sorted.0, sorted.1)
-
-pub estimate_nodes-requires : goal.estimate_nodes-requires
-estimate_nodes-requires c = record { long_enough = ap (λ (l : List ℕ). length l) c.requires.no_node; tables = c.requires.tables }
 
 pub overflow_add-z : goal.overflow_add-z
 overflow_add-z c =
