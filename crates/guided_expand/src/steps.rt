@@ -47,6 +47,7 @@ fn offer<'t>(
         → Opened x.by source e.0 (e.0 + 1) before after }
 {
     let stage = tables.steps.to(e);
+    // None is NONE: the estimates are numbers in tables.
     let rest = estimates.of_pair(stage, t);
     if rest == NONE {
         return;

@@ -52,7 +52,7 @@ pub fn is_goal(inner: &[u32; 512], end: Stage, at: Pair) -> bool
     requires { Falls (nodes_in inner.now).lo at.node.0 }
     ensures { GoalAt (nodes_in inner.now).lo end.0 at.stage.0 at.node.0 result }
 {
-    at.stage.0 == end.0 && finishes(inner, at.node)
+    at.stage == end && finishes(inner, at.node)
 }
 
 // The log of settled pairs, in order: `count` of its entries are written.

@@ -29,6 +29,7 @@ pub fn seek<'t>(
         by_stage: &by_stage,
         by_node,
     };
+    // None is NONE: the estimates are numbers in tables.
     let rest = estimates.of_pair(z.start, z.root);
     if rest == NONE {
         return Ended {
