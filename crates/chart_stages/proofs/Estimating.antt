@@ -68,9 +68,6 @@ module _ {z : Shape} {t : Steps} {first : List ℕ} (on : Staged z t first) wher
   pub firsts : Firsts G first
   firsts = held_firsts z t on.valid first on.firsts
 
-  pub first_small : (s : ℕ) → s ≤ z.end.0 → get_or first s 0 ≤ 1024
-  first_small s h = omega (arith, firsts.at s (omega (arith, on.valid.end_inside)), first_inside G on.valid s, on.valid.few)
-
   pub stages_start : {end : ℕ} → z.end.0 ≡ end → Told G end (set (replicate 256 NONE) end 0)
   stages_start q = rw (← q) (told_start G on.valid)
 

@@ -21,19 +21,14 @@ fn through(known: usize, estimates: &[u32; 256], t: Stage, cost: u32) -> usize
 }
 
 // The estimate of the stage that the steps from `start` to before `until` leave, by those of the stages after it.
-fn least_through<'a>(
-    estimates: &'a [u32; 256],
-    steps: &'a StepTable,
-    start: usize,
-    until: usize,
-) -> u32
+fn least_through<'a>(estimates: &'a [u32; 256], steps: &'a StepTable, start: u16, until: u16) -> u32
     requires { Leaving (steps_in steps.now) start until estimates.now }
     ensures { let t = steps_in steps.now in
         (x : Leaving t start until estimates.now) → Shows (WayFrom (graph (chart_in x.z t)) x.s) result }
 {
     let mut best = NONE as usize;
     for e in start..until {
-        let step = Step(e as u16);
+        let step = Step(e);
         best = through(best, estimates, steps.to(step), steps.cost(step));
     }
     best as u32
@@ -55,6 +50,6 @@ pub fn fill_chart_estimates<'a>(
     let end = z.end.0 as usize;
     estimates[end] = 0;
     for s in (start..end).rev() {
-        estimates[s] = least_through(estimates, steps, first[s] as usize, first[s + 1] as usize);
+        estimates[s] = least_through(estimates, steps, first[s], first[s + 1]);
     }
 }

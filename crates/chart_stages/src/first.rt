@@ -12,9 +12,9 @@ fn mark_ends(first: &mut [u16; 257], steps: &StepTable, count: usize)
     requires { (first.old ≡ replicate 257 0) × SortedTable count (froms steps.now.ends) }
     ensures { EndTable count (froms steps.now.ends) first.new }
 {
-    for e in 0..count {
-        let s = steps.from(Step(e as u16)).0 as usize;
-        first[s + 1] = (e + 1) as u16;
+    for e in 0..count as u16 {
+        let s = steps.from(Step(e)).0 as usize;
+        first[s + 1] = e + 1;
     }
 }
 

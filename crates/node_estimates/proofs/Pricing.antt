@@ -29,6 +29,9 @@ module _ (z : Shape) (t : Steps) (limits : Valid (graph (chart_in z t)) × Small
   same_count : (graph c).count ≡ z.steps
   same_count = held_count z.steps t
 
+  pub pricing_few : z.steps ≤ 1024
+  pricing_few = omega (arith, same_count, limits.0.few)
+
   module _ (e : ℕ) (h : e < z.steps) where
     exists : e < (graph c).count
     exists = omega (arith, same_count)

@@ -71,8 +71,8 @@ pub fn fill_prices(price: &mut [u32; 1024], z: Shape, steps: &StepTable)
     requires sound { let c = chart_in z (steps_in steps.now) in Valid (graph c) × Small c }
     ensures { Costs (chart_in z (steps_in steps.now)) price.new }
 {
-    for e in 0..z.steps {
-        let step = Step(e as u16);
+    for e in 0..z.steps as u16 {
+        let step = Step(e);
         let k = steps.group(step).0 as usize;
         price[k] = price[k].min(steps.cost(step));
     }

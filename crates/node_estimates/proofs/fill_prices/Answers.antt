@@ -3,14 +3,14 @@ use Rattle.std.proofs.Common.{◌∙◌, ap}
 use Rattle.std.specs.Prelude.{ℕ, min, get_or}
 use native.Mathlib.Omega.{arith}
 use Rattle.chart.specs.Tables.{steps_in}
-use Rattle.node_estimates.proofs.Pricing.{pricing_start, pricing_step, pricing_group, pricing_more, pricing_done}
+use Rattle.node_estimates.proofs.Pricing.{pricing_start, pricing_few, pricing_step, pricing_group, pricing_more, pricing_done}
 use Rattle.node_estimates.proofs.fill_prices.Goals as goal
 
 pub loop-e-init : goal.loop-e-init
 loop-e-init c = (pricing_start _ _ _ c.requires.none_yet, omega arith)
 
-pub overflow_cast-step : goal.overflow_cast-step
-overflow_cast-step c = omega (arith, pricing_step c.args.z (steps_in c.args.steps.now) c.requires.sound _ c.loop-e-test.true)
+pub overflow_cast-e-end : goal.overflow_cast-e-end
+overflow_cast-e-end c = omega (arith, pricing_few c.args.z (steps_in c.args.steps.now) c.requires.sound)
 
 pub group-k-requires : goal.group-k-requires
 group-k-requires c = pricing_step c.args.z (steps_in c.args.steps.now) c.requires.sound _ c.loop-e-test.true

@@ -4,7 +4,7 @@ use mathlib.Core.Path.{refl, ◌∙◌, ap}
 use lib.ListN.{length, length-set, length-replicate}
 use native.Mathlib.Omega.{arith}
 use Rattle.definitions.specs.Basics.{NONE}
-use Rattle.chart_stages.proofs.Estimating.{end_below, first_small, stages_start, stage_leaving, stage_turn, stages_done}
+use Rattle.chart_stages.proofs.Estimating.{end_below, stages_start, stage_leaving, stage_turn, stages_done}
 use borrow.Author.Rules.{rules}
 use Rattle.chart_stages.proofs.estimates.fill_chart_estimates.Goals as goal
 
@@ -32,14 +32,6 @@ pub loop-s-init : goal.loop-s-init
 loop-s-init c =
     let long = length-set c.args.estimates.now _ 0 ∙ ap length c.requires.none_yet ∙ length-replicate {A = ℕ} 256 NONE in
     (search rules, end_below c.requires.staged, long, λ z on q. rw c.requires.none_yet (stages_start on q))
-
-pub overflow_cast-first : goal.overflow_cast-first
-overflow_cast-first c =
-    omega (arith, first_small c.requires.staged (c.loop-s.s - 1) (omega arith))
-
-pub overflow_cast-first-in-loop-s : goal.overflow_cast-first-in-loop-s
-overflow_cast-first-in-loop-s c =
-    omega (arith, first_small c.requires.staged (c.loop-s.s - 1 + 1) (omega arith))
 
 pub least_through-requires : goal.least_through-requires
 least_through-requires c =
