@@ -71,7 +71,8 @@ def found(commit):
             if re.search(r'\.len\(\)', head) or (uses and all(re.search(r'_at\(rt, s, %s\b' % i, body) for _ in uses)):
                 yield '3b', path, number, head
         for m in re.finditer(r'\bfn (\w+)(?:<[^(]*>)?\(([^)]*)\)', text):
-            parameters = [p for p in m.group(2).split(',') if p.strip()]
+            plain = re.sub(r'<[^<>]*>', '', re.sub(r'<[^<>]*>', '', m.group(2)))
+            parameters = [p for p in plain.split(',') if p.strip()]
             if len(parameters) >= 6:
                 yield '5', path, text.count('\n', 0, m.start()) + 1, f'{m.group(1)}: {len(parameters)} parameters'
 

@@ -74,7 +74,8 @@ pub fn in_file<T, S: Drop>(read: Result<T, Stopped<S>>, file: InFile) -> Result<
     }
 }
 
-// An answer that refuses: it has cost 0 and length 0.
+// An answer that refuses: it has cost 0 and length 0. An answer has numbers, not the enums: it is handed to C as six of them, and
+// the promises of the calls say it so.
 pub fn refusal(refused: Refused, count: usize) -> Answer
     ensures { result ≡ refusal_of (number refused.refusal) (file_mark refused.file) refused.place count }
 {

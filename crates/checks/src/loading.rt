@@ -10,7 +10,7 @@ use definitions::{Node, Refusal, Shape, Stage};
 use diagram::read_diagram;
 
 // Reads both files into tables and compares what is lent with what is needed: `work` entries in the shortest work slice,
-// `plan` entries in the plan slice.
+// `plan` entries in the plan slice. Two tables, and no struct of both: each file is read into its own.
 pub fn load(
     chart: &[u8],
     rules: &[u8],

@@ -13,7 +13,8 @@ use guided_seek::fill_tables;
 // No plan slice is lent: the longest plan that any chart has, so that none is asked for.
 const MOST_STEPS: usize = 255;
 
-// Checks both files and the lengths of the six slices that each search is lent, and fills the tables.
+// Checks both files and the lengths of the six slices that each search is lent, and fills the tables. The tables stand one by one:
+// each is filled by a call of its own.
 pub fn prepare(
     chart: &[u8],
     rules: &[u8],

@@ -48,6 +48,7 @@ impl<'q, 'a, 'v> Work<'q, 'a, 'v> {
             return;
         }
         self.via[y] = mark;
+        // None is NONE: the keys stand in a slice that a caller lends.
         if old == NONE {
             self.queue.insert(floor, y, v);
             return;

@@ -31,7 +31,8 @@ fn estimate_nodes<'a>(
     fill_diagram_estimates(by_node, z, inner, &steps.costs);
 }
 
-// Fills the first step of each stage, the start of each stage's row and the estimate of each node.
+// Fills the first step of each stage, the start of each stage's row and the estimate of each node. Three tables, each filled by a
+// call of its own.
 pub fn fill_tables<'a>(
     first: &mut [u16; 257],
     row: &mut [u32; 256],

@@ -15,7 +15,7 @@ pub struct Answers {
 
 // Runs the sweep on `cost`, `cost_via`, `nodes` and `cost_plan`, and the guided search on the other slices. Where all
 // checks pass for both they agree: both give a legal plan or both give 8, at equal cost, and the guided search settles
-// no more pairs than the sweep reaches.
+// no more pairs than the sweep reaches. Kept as single slices: a caller in C lends them so.
 pub fn both(
     chart: &[u8],
     rules: &[u8],

@@ -65,6 +65,7 @@ fn write_answers(w: &mut Writer, guided: Answer, plan: &[u16], sweep: Answer)
     requires { w.old.at ≤ length w.old.out.now }
     ensures { Wrote w.old (report guided plan.now sweep) w.new }
 {
+    // An answer is numbers: C has the same.
     if guided.number != 0 {
         return write_refused(w, guided.number, guided.file, guided.place);
     }

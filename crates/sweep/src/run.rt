@@ -74,7 +74,8 @@ fn run(
 }
 
 // The least cost of every pair and a cheapest legal plan, from both files. `cost` gets the least costs; `via` and
-// `nodes` are work space. Each of these three needs stage count × N entries, `plan` stage count − 1.
+// `nodes` are work space. Each of these three needs stage count × N entries, `plan` stage count − 1. Kept as single slices: a
+// caller in C lends them so.
 pub fn sweep(
     chart: &[u8],
     rules: &[u8],

@@ -33,6 +33,7 @@ impl Rows<'_> {
         if old <= v {
             return;
         }
+        // None is NONE: the cost slice that a caller lends has numbers.
         if old == NONE {
             let stage = s.0 as usize;
             let k = self.counts[stage];
