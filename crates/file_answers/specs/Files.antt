@@ -5,11 +5,20 @@ use Rattle.std.proofs.Math.Path.{sym}
 use Rattle.std.proofs.Common.{◌∙◌, ap, lt-ltb, le-ltb}
 use native.Mathlib.Omega.{arith}
 use Rattle.std.proofs.Math.ListN.{length}
-use Rattle.definitions.specs.Answers.{file_answer, file_buffer, Filed}
+use Rattle.definitions.specs.Answers.{refusal, accepted, file_answer, file_buffer, Filed}
 use Rattle.definitions.specs.declared.Answer.{Answer}
 use Rattle.theory.specs.Basics.{pick_true, pick_false}
 use Rattle.buffer.specs.Appending.{Appended}
 use Rattle.buffer.specs.Appends.{append_front}
+
+module _ (bytes room : ℕ) where
+  pub answer_short : room < bytes → refusal 7 0 0 0 ≡ file_answer bytes room
+  unfolding file_answer
+  answer_short h = sym (pick_true _ _ _ (lt-ltb room bytes h))
+
+  pub answer_whole : bytes ≤ room → accepted 0 bytes 0 ≡ file_answer bytes room
+  unfolding file_answer
+  answer_whole h = sym (pick_false _ _ _ (le-ltb room bytes h))
 
 -- a call with this answer, for a file of so many bytes: it leaves a buffer that is too short as it was, or writes the file to the buffer's front
 module _ (file out : List ℕ) (r : Answer) (bytes : ℕ) (long : length file ≡ bytes) (given : r ≡ file_answer bytes (length out)) where
