@@ -2,7 +2,7 @@
 """Checks that every file, function, definition and law that the pages name is in the tree.
 
     tools/check_names.py             README.md, docs/*.md and the README.md of each folder. Those that tell history
-                                     (docs/changes/, docs/PORT*.md) name what there was at their time, and are left out
+                                     (docs/changes/, docs/PORT*.md, docs/DESIGN-PASS.md) name what there was at their time, and are left out
     tools/check_names.py PAGE...     these pages
 
 Looked at, in each page: what stands between backquotes, the paths in blocks of code, the targets of links, and the sections
@@ -129,7 +129,7 @@ def sections():
 
 def is_history(page):
     """Whether a page tells what was, so that its names need not be in the tree."""
-    return page.parts[:2] == ("docs", "changes") or page.match("docs/PORT*.md")
+    return page.parts[:2] == ("docs", "changes") or page.match("docs/PORT*.md") or page.match("docs/DESIGN-PASS.md")
 
 
 # ---- what is wrong with a name, or None
