@@ -39,7 +39,13 @@ SEARCHES = {
         "sweep::run::sweep",
         "sweep::run::run",
         [FILL],
-        {"sweep::run::least_costs", "sweep_rows::relax_row", "sweep_offers::Rows::relax_step", "sweep::conclude::conclude", "trace::pair_at"},
+        {
+            "sweep::run::least_costs",
+            "sweep_rows::relax_row",
+            "sweep_offers::Rows::relax_step",
+            "sweep::conclude::conclude",
+            "trace::pair_at",
+        },
     ),
     "guided": ("guided::run::guided", "guided::run::run", [FILL_ALL, FILL], {"guided_places::pair_in", "trace::pair_at"}),
 }
@@ -166,9 +172,9 @@ def local(operand):
 
 
 def is_entry(operand):
-    """Whether an operand is what an address holds, and that is no array: one entry."""
+    """Whether an operand is the number that stands at an address."""
     steps = list(members(operand[1][2])) if operand[0] in ("copy", "move") else []
-    return steps != [] and steps[-1][0] == "deref" and steps[-1][1][0] != "ty_array"
+    return steps != [] and steps[-1][0] == "deref" and steps[-1][1][0] == "ty_int"
 
 
 def callee(called):
@@ -283,7 +289,7 @@ class Search:
         return found
 
     def lent(self):
-        """The functions that the filled table is handed to, each with its locals that hold it."""
+        """The functions that the filled table is handed to, each with its places that are it or lead to it."""
         holder = self.program[self.holder]
         lent = self.handed(self.holder, self.fills[0])
         tables = {self.holder: {place(value) for to, value, _ in holder.assigned if to in lent and value[0] == "addr_of"}}
@@ -292,14 +298,15 @@ class Search:
             name = left.pop()
             leading = self.program[name].leading(tables[name])
             for called, places, _ in self.program[name].called:
-                more = {(str(i + 1), fields) for i, at in enumerate(places) for fields in rest_of(at, leading)} - tables.get(called, set())
+                more = {(str(i + 1), fields) for i, at in enumerate(places) for fields in rest_of(at, leading)}
+                more -= tables.get(called, set())
                 if more and called in self.program:
                     tables[called] = tables.get(called, set()) | more
                     left.append(called)
         return tables
 
     def handed(self, caller, fill):
-        """The locals that a caller hands over as the table."""
+        """The places that a caller hands over as the table."""
         return {places[PLACES[fill]] for name, places, _ in self.program[caller].called if name == fill}
 
     def filling(self):
