@@ -6,10 +6,11 @@
 
 It reads the sources as the prover does (rt check --generated): there each operator and call stands by itself, with the whole name of
 what is called and the value of each constant. A search is sweep::sweep or guided::guided with all that it calls, the trace-back too,
-but for checks::load, which reads the files before. In its loops run the loops of these functions, and the whole of every
+but for checks::loading::load, which reads the files before. In its loops run the loops of these functions, and the whole of every
 function that is called in one or that calls itself. There every product, quotient and remainder is by a constant of CONSTANTS,
 on its right side; the index of an entry, times its bytes (SIZES), is left out. The table of row starts is filled outside of all
-loops, and just the functions under SEARCHES read it. Sums are not looked at: a product by repeated addition is not found.
+loops, and just the functions under SEARCHES read it, whether it is lent by itself or in a field of a struct. Sums are not looked
+at: a product by repeated addition is not found. What the library does is not read: just the functions of LIBRARY are called.
 
 Of the call over a list (LIST) it checks that the files are read and the tables filled once: its loop calls ENTRY alone, from which
 neither is reached.
@@ -26,7 +27,7 @@ from functools import cache
 from pathlib import Path
 
 ROOT = Path(__file__).resolve().parent.parent
-READING, FILL, FILL_ALL = "checks::load", "rows::fill_row_starts", "guided_seek::tables::fill_tables"
+READING, FILL, FILL_ALL = "checks::loading::load", "rows::fill_row_starts", "guided_seek::tables::fill_tables"
 # The call over a list, what its loop calls for each entry, and what is done once for all of them.
 LIST, ENTRY, ONCE = "planner_c::planner_cycles", "cycles::entry::answered", (READING, FILL_ALL)
 # The functions that the table is handed to be filled, with its place among their parameters.
@@ -38,7 +39,13 @@ SEARCHES = {
         "sweep::run::sweep",
         "sweep::run::run",
         [FILL],
-        {"sweep::run::least_costs", "sweep_rows::relax_row", "sweep_offers::relax_step", "sweep::conclude::conclude", "trace::pair_at"},
+        {
+            "sweep::run::least_costs",
+            "sweep_rows::relax_row",
+            "sweep_offers::Rows::relax_step",
+            "sweep::conclude::conclude",
+            "trace::pair_at",
+        },
     ),
     "guided": ("guided::run::guided", "guided::run::run", [FILL_ALL, FILL], {"guided_places::pair_in", "trace::pair_at"}),
 }
@@ -52,7 +59,31 @@ CONSTANTS = {
     256: "the stages in it",
 }
 # By what an index is multiplied: the bytes of an entry.
-SIZES = {2, 4, 8, 4096}
+SIZES = {2, 4, 8}
+# What the searches call of the library: there products and quotients are of the bytes of an entry and of halves alone.
+LIBRARY = {
+    "core::clone::U32Clone::clone",
+    "core::clone::UsizeClone::clone",
+    "core::int::u16::max",
+    "core::int::u32::max",
+    "core::int::u32::min",
+    "core::int::usize::min",
+    "core::iter::accum::unsigned::UsizeSum::sum",
+    "core::iter::closures::MapIterator::next",
+    "core::iter::closures::MapIterator::size_hint",
+    "core::iter::slices::IterIterator::next",
+    "core::iter::slices::IterIterator::size_hint",
+    "core::iter::slices::slice+T::iter",
+    "core::slice::edits::slice+T::fill",
+    "core::slice::edits::slice+T::reverse",
+    "core::slice::edits::slice+T::swap",
+    "std::iter::Iterator::map",
+    "std::iter::Iterator::sum",
+    "std::option::Option::is_none_or",
+    "std::prelude::OptionFromResidualNoValue::from_residual",
+    "std::prelude::OptionTry::branch",
+    "std::prelude::U16PartialEq::eq",
+}
 FACTORS = ("mul", "div", "rem")
 PLAIN = ("add", "sub", "lt", "le", "eq", "ne", "offset")
 
@@ -77,8 +108,8 @@ def read_code(text, names):
     """The body of a function that rt writes as definitions, each of a part of it; a call has the function's whole name."""
     parts = {name: body for name, body in re.findall(r"^abbrev pub (\S+) : [^\n]*\n\1 =(.*?)(?=\n\n|\Z)", text, re.M | re.S)}
     called = {}
-    for crate, at, alias in re.findall(r"^use Rattle\.(\w+)\.proofs\.(\S+)\.Symbol(?: as (\S+))?$", text, re.M):
-        called[f"{alias or 'Symbol'}.name"] = names.get((crate, at), f"{crate}::{at}")
+    for crate, at, alias in re.findall(r"^use Rattle\.([\w.]+?)\.proofs\.(\S+)\.Symbol(?: as (\S+))?$", text, re.M):
+        called[f"{alias or 'Symbol'}.name"] = names.get((crate, at), f"{crate.split('.')[-1]}::{at.replace('.', '::')}")
 
     def whole(node):
         if isinstance(node, list):
@@ -115,18 +146,43 @@ def walk(tree):
         left += [(part, looped) for part in node if isinstance(part, list)]
 
 
-def members(chain):
-    """The members of a list that is written (cons a (cons b nil))."""
+def links(chain):
+    """The links of a list that is written (cons a (cons b nil))."""
     while isinstance(chain, list):
-        yield chain[1]
+        yield chain
         chain = chain[2]
+
+
+def members(chain):
+    """The members of such a list."""
+    return (link[1] for link in links(chain))
+
+
+def place(operand):
+    """The local that an operand, an address or a place begins at, and the fields that lead on from there; none for a constant."""
+    while isinstance(operand, list) and operand[0] != "place":
+        operand = operand[1]
+    return (operand[1], tuple(step[1] for step in members(operand[2]) if step[0] == "field")) if isinstance(operand, list) else None
 
 
 def local(operand):
     """The local that an operand, an address or a place begins at; none for a constant."""
-    while isinstance(operand, list) and operand[0] != "place":
-        operand = operand[1]
-    return operand[1] if isinstance(operand, list) else None
+    found = place(operand)
+    return found and found[0]
+
+
+def is_entry(operand):
+    """Whether an operand is the number that stands at an address."""
+    steps = list(members(operand[1][2])) if operand[0] in ("copy", "move") else []
+    return steps != [] and steps[-1][0] == "deref" and steps[-1][1][0] == "ty_int"
+
+
+def callee(called):
+    """The name of what is called, and those of the methods handed to it for its type parameters."""
+    methods = [word.strip('"') for node, _ in walk(called) if node[:1] == ["impl"] for word in members(node[1])]
+    while isinstance(called[0], list):
+        called = called[0]
+    return called[1][1].strip('"') if called[0] == "direct" else called[0], methods
 
 
 def operator(value):
@@ -139,16 +195,18 @@ def constant(operand):
 
 
 class Function:
-    """What the code of a function assigns and calls, each with whether that stands in a loop."""
+    """What the code of a function assigns and calls, each with whether that stands in a loop. A method that is handed to a function
+    for a type parameter counts as called in a loop: how often it is called is not looked at."""
 
     def __init__(self, code):
         self.assigned, self.called = [], []
         for node, looped in walk(code):
             if node[:1] == ["assign"] and isinstance(node[2], list):
-                self.assigned.append((local(node[1]), node[2], looped))
+                self.assigned.append((place(node[1]), node[2], looped))
             elif node[:1] == ["call"]:
-                name = node[1][1][1].strip('"') if node[1][0] == "direct" else node[1][0]
-                self.called.append((name, [local(operand) for operand in members(node[2])], looped))
+                name, methods = callee(node[1])
+                self.called.append((name, [None if is_entry(operand) else place(operand) for operand in members(node[2])], looped))
+                self.called += [(method, [], True) for method in methods]
         self.places = {local(value[3]) for _, value, _ in self.assigned if operator(value) == "offset"}
 
     def factors(self, all_of_it):
@@ -158,27 +216,46 @@ class Function:
             if name is None or name in PLAIN or not (looped or all_of_it):
                 continue
             by = constant(value[3]) if name in FACTORS else None
-            if name != "mul" or by not in SIZES or to not in self.places:
+            if name != "mul" or by not in SIZES or to[0] not in self.places:
                 yield by
 
     def calls(self, all_of_it):
         return [name for name, _, looped in self.called if looped or all_of_it]
 
     def leading(self, tables):
-        """Its locals that hold a table or lead into it, where some do."""
-        found = set(tables)
-        for _ in self.assigned:
-            for to, value, _ in self.assigned:
-                source = value[2] if operator(value) == "offset" else value[1] if value[0] in ("addr_of", "rv_opd") else None
-                whole = source and (value[0] == "addr_of" or source[-1][-1:] == ["List.[]"])
-                if whole and local(source) in found:
-                    found.add(to)
+        """Its places that are a table or lead to it, each a local with the fields from there on, where some do."""
+        found, left = set(tables), set(tables)
+        while left:
+            left = {it for to, value, _ in self.assigned for it in led(to, value, found)} - found
+            found |= left
         return found
 
     def reads(self, tables):
-        """Whether an entry of a table is looked up."""
+        """Whether an entry of a table is looked up, here or in a function of the library that gets it."""
         found = self.leading(tables)
-        return any(operator(value) == "offset" and local(value[2]) in found for _, value, _ in self.assigned)
+        lent = any(rest_of(at, found) for name, places, _ in self.called if name in LIBRARY for at in places)
+        return lent or any(operator(value) == "offset" and () in rest(value[2], found) for _, value, _ in self.assigned)
+
+
+def rest(operand, found):
+    """By which fields an operand leads to a table, of all that is found."""
+    return rest_of(place(operand), found)
+
+
+def rest_of(at, found):
+    """The same of a place."""
+    return {fields[len(at[1]) :] for to, fields in found if at and to == at[0] and fields[: len(at[1])] == at[1]}
+
+
+def led(to, value, found):
+    """The places that lead to a table once a place has a value."""
+    if value[0] == "aggregate":
+        parts = [((str(i),), part) for i, part in enumerate(members(value[-1]))]
+    elif value[0] == "addr_of" or value[0] == "rv_opd" and not is_entry(value[1]):
+        parts = [((), value[1])]
+    else:
+        parts = [((), value[2])] if operator(value) == "offset" else []
+    return {(to[0], to[1] + part + fields) for part, operand in parts for fields in rest(operand, found)}
 
 
 # ---- the check
@@ -212,23 +289,24 @@ class Search:
         return found
 
     def lent(self):
-        """The functions that the filled table is handed to, each with its locals that hold it."""
+        """The functions that the filled table is handed to, each with its places that are it or lead to it."""
         holder = self.program[self.holder]
         lent = self.handed(self.holder, self.fills[0])
-        tables = {self.holder: {local(value) for to, value, _ in holder.assigned if to in lent and value[0] == "addr_of"}}
+        tables = {self.holder: {place(value) for to, value, _ in holder.assigned if to in lent and value[0] == "addr_of"}}
         left = [self.holder]
         while left:
             name = left.pop()
             leading = self.program[name].leading(tables[name])
             for called, places, _ in self.program[name].called:
-                more = {str(i + 1) for i, place in enumerate(places) if place in leading} - tables.get(called, set())
+                more = {(str(i + 1), fields) for i, at in enumerate(places) for fields in rest_of(at, leading)}
+                more -= tables.get(called, set())
                 if more and called in self.program:
                     tables[called] = tables.get(called, set()) | more
                     left.append(called)
         return tables
 
     def handed(self, caller, fill):
-        """The locals that a caller hands over as the table."""
+        """The places that a caller hands over as the table."""
         return {places[PLACES[fill]] for name, places, _ in self.program[caller].called if name == fill}
 
     def filling(self):
@@ -236,7 +314,7 @@ class Search:
         return zip([self.holder, *self.fills], self.fills)
 
     def faults(self):
-        for name in sorted(self.all - set(self.program)):
+        for name in sorted(self.all - set(self.program) - LIBRARY):
             yield f"{self.root}: what {name} does is not known"
         for name, factors in sorted(self.inside.items()):
             for by in factors:
@@ -246,7 +324,7 @@ class Search:
             filled = [looped for name, _, looped in self.program[caller].called if name == fill]
             if filled != [False] or fill in self.looped:
                 yield f"{self.root}: {caller} does not call {fill} once, outside of all loops"
-            if caller in PLACES and not self.handed(caller, fill) <= self.program[caller].leading({str(PLACES[caller] + 1)}):
+            if caller in PLACES and not self.handed(caller, fill) <= self.program[caller].leading({(str(PLACES[caller] + 1), ())}):
                 yield f"{self.root}: {caller} hands another table to {fill}"
         for name in sorted(self.found ^ self.readers):
             yield f"{self.root}: {name} {'reads' if name in self.found else 'does not read'} the table of row starts"
@@ -296,7 +374,7 @@ def trials(search, codes):
             if not (looped or name in search.looped):
                 continue
             if node[:1] == ["call"]:
-                yield name, node[1], 0, "indirect"
+                yield name, node, 1, ["indirect"]
             elif operator(node) in ("add", "sub") and constant(node[3]) is None:
                 yield from ((name, node, 1, [factor, "unsigned"]) for factor in ("mul", "div", "rem", "shl"))
             elif operator(node) in FACTORS and constant(node[3]) in CONSTANTS:
@@ -307,11 +385,20 @@ def trials(search, codes):
         for node, _ in walk(codes[name]) if outside else []:
             if node[:1] == ["fnRef"]:
                 yield name, node, 1, f'"{name}"'
-    for name in sorted(search.found):
+        for node, _ in walk(codes[name]):
+            if node[:1] == ["impl"]:
+                yield name, node, 1, ["List.◌∷◌", '"indirect"', "List.[]"]
+    for name in sorted(search.tables):
         leading = search.program[name].leading(search.tables[name])
         for node, _ in walk(codes[name]):
-            if operator(node) == "offset" and local(node[2]) in leading:
+            if operator(node) == "offset" and () in rest(node[2], leading) and name in search.found:
                 yield name, node, 2, ["copy", ["place", "0", "List.[]"]]
+            elif node[:1] == ["aggregate"]:
+                for link in links(node[-1]):
+                    if rest(link[1], leading):
+                        yield name, link, 1, ["copy", ["place", "0", "List.[]"]]
+            elif node[:1] == ["call"] and any(rest(operand, leading) for operand in members(node[2])):
+                yield name, node, 1, ["direct", ["fnRef", f'"{min(LIBRARY)}"']]
     for caller, fill in search.filling():
         for node, _ in list(walk(codes[caller])):
             if node[:1] == ["seq"] and node[1][:1] == ["call"] and fill in str(node[1][1]):
@@ -320,12 +407,12 @@ def trials(search, codes):
 
 
 def missed(program, codes, tries, faults):
-    """How many trials there are, and those in which no fault is told."""
-    count, left = 0, []
+    """How many trials there are, and those in which no fault is told that the program itself has not."""
+    count, left, known = 0, [], set(faults(program))
     for name, node, at, new in tries:
         old, node[at] = node[at], new
         changed = program | {name: Function(codes[name])}
-        if not any(True for _ in faults(changed)):
+        if all(fault in known for fault in faults(changed)):
             left.append(f"trial: {name} with {new} for {old} is not told")
         node[at] = old
         count += 1

@@ -514,7 +514,7 @@ def play(text):
 
 def scripts():
     """The scripts in the order in which the program plays them; all of data/."""
-    names = re.findall(r'play\(&rt, "(.*)"\)', (CRATE / "src/main.rt").read_text())
+    names = re.findall(r'^ *"(.*)",$', (CRATE / "src/main.rt").read_text(), re.M)
     if sorted(names) != sorted(f.name for f in (CRATE / "data").iterdir()):
         sys.exit("crates/vectors/src/main.rt does not play the files of crates/vectors/data")
     for name in names:
