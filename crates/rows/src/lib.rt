@@ -10,7 +10,10 @@ pub fn fill_row_starts(row: &mut [u32; 256], stages: usize, width: usize)
     ensures { row.new ≡ row_starts stages width }
 {
     let gap = width as u32;
+    let mut at: u32 = 0;
+    // The next start is counted on: no loop of a search multiplies by N.
     for s in 0..stages {
-        row[s] = s as u32 * gap;
+        row[s] = at;
+        at += gap;
     }
 }
