@@ -67,16 +67,18 @@ fn settle_open<'t>(
         → Searched x.by before.slices entries (work_of work.new) log.new.entries.now (ended result log.new.count) }
 {
     let mut floor: u32 = 0;
-    while let Some(next) = work.queue.take(floor) {
+    let mut goal = None;
+    'search: while let Some(next) = work.queue.take(floor) {
         floor = next.key;
         log.push(next.pair);
         let at = place_of(work, tables.row, begin, z.start, next.pair);
         let cost = floor - estimates.of_pair(at.stage, at.node);
         if is_goal(tables.inner, z.end, at) {
-            return Some(Goal {
+            goal = Some(Goal {
                 node: at.node,
                 cost,
             });
+            break 'search;
         }
         let source = Source {
             pair: at,
@@ -85,7 +87,7 @@ fn settle_open<'t>(
         };
         settle(work, filled, pairs, tables, estimates, source);
     }
-    None
+    goal
 }
 
 // Opens the pair of start and root, whose estimate is `rest`, and settles open pairs from there on.
