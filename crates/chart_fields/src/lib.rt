@@ -8,5 +8,5 @@ mod table;
 
 pub use bodies::{HeadBody, StepBody, check_head, check_step, head_of, step_of};
 pub use ends::{ends_of, from_at, group_at, tag_at, to_at};
-pub use kinds::StepKind;
+pub use kinds::{StepKind, step_length};
 pub use table::StepTable;

@@ -2,7 +2,6 @@
 ghost use Rattle.std.specs.Prelude.{◌≡◌, ◌<◌, true, false, get_or};
 ghost use Rattle.definitions.specs.Charts.{grouped};
 ghost use Rattle.chart_fields.specs.Ends.{ends_of, froms, tos, tags, groups};
-ghost use Rattle.chart_fields.specs.Kinds.{kind_tag};
 ghost use Rattle.chart_fields.specs.Stored.{blank, stored};
 
 use crate::bodies::StepBody;
@@ -31,10 +30,10 @@ impl StepTable {
     // Step e gets its entry.
     pub fn put(&mut self, e: usize, step: StepBody)
         requires { (e < 1024) × (step.group < 1024) }
-        ensures { self.new ≡ stored self.old e (ends_of (kind_tag step.kind) step.group step.from step.to) step.cost }
+        ensures { self.new ≡ stored self.old e (ends_of step.tag step.group step.from step.to) step.cost }
     {
         self.ends[e] = ends_of(
-            step.kind.tag(),
+            step.tag,
             Group(step.group),
             Stage(step.from),
             Stage(step.to),
