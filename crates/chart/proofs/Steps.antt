@@ -49,7 +49,7 @@ module _ (stages : ℕ) (kind : StepKind) (last group count : ℕ) (b : List ℕ
   pub step_cheap : four b 4 ≤ 1000000
   step_cheap = fits.cheap
 
-  pub step_group : (step_body kind count b).group < 1024
+  pub step_group : (step_body (kind_tag kind) count b).group < 1024
   step_group = go (same_or_not (kind_tag kind) grouped)
     where
       go : (kind_tag kind ≡ grouped) ⊎ (kind_tag kind ≡ grouped → ⊥) → pick (eqb (kind_tag kind) grouped) (two b 8) count < 1024
@@ -196,22 +196,22 @@ module _ (s : List ℕ) (first stages : ℕ) (table₀ table : StepTable) (t : S
             filled = λ few room. filled_grown sofar.before y _ t.steps table₀ table (packs_y few) sofar.counted passed.below (sofar.filled few room);
           }
 
--- The step of this kind that stands at t is judged, and put into the table where it passes; `len` is how long its body is
-module _ (s : List ℕ) (stages : ℕ) (t : StepsRead) (table : StepTable) (kind : StepKind) (has : HasStep s t kind) (len : ℕ) (el : len ≡ step_length (kind_tag kind)) where
+-- The step of this kind that stands at t is judged by its tag `k`, and put into the table where it passes; `len` is how long its body is
+module _ (s : List ℕ) (stages : ℕ) (t : StepsRead) (table : StepTable) (kind : StepKind) (has : HasStep s t kind) (len : ℕ) (el : len ≡ step_length (kind_tag kind)) (k : ℕ) (ek : k ≡ kind_tag kind) where
   abbrev body : List ℕ
   body = part s (t.place + 3) (t.place + 3 + len)
 
-  pub put_long : Long (kind_tag kind) body
-  put_long = rw el (long_body s t.place kind has.has)
+  pub put_long : Long k body
+  put_long = rw (ek, el) (long_body s t.place kind has.has)
 
-  module _ {A : Type 0} (v : Result A Refusal) (judged : fault_number v ≡ step_fault stages (kind_tag kind) t.last t.group t.steps body) where
+  module _ {A : Type 0} (v : Result A Refusal) (judged : fault_number v ≡ step_fault stages k t.last t.group t.steps body) where
     pub put_bad : (refusal : Refusal) → v ≡ Err refusal → (x : Stopped StepsRead) → x ≡ record { fault = record { refusal = refusal; place = t.place }; passed = t }
         → Takes s stages t table table (Err x)
-    put_bad refusal q x e o sofar = rw e (step_bad s o.0 stages o.1 table t sofar kind has refusal (rw (q, el) at judged))
+    put_bad refusal q x e o sofar = rw e (step_bad s o.0 stages o.1 table t sofar kind has refusal (rw (q, ek, el) at judged))
 
     module _ (a : A) (q : v ≡ Ok a) where
       passes : 0 ≡ step_fault stages (kind_tag kind) t.last t.group t.steps body
-      passes = rw q at judged
+      passes = rw (q, ek) at judged
 
       pub put_below : t.steps < 1024
       put_below = step_below stages kind t.last t.group t.steps body passes
@@ -219,14 +219,14 @@ module _ (s : List ℕ) (stages : ℕ) (t : StepsRead) (table : StepTable) (kind
       pub put_cheap : four body 4 ≤ 1000000
       put_cheap = step_cheap stages kind t.last t.group t.steps body passes
 
-      module _ (x : StepBody) (read : x ≡ step_body kind t.steps body) where
+      module _ (x : StepBody) (read : x ≡ step_body k t.steps body) where
         pub put_group : x.group < 1024
-        put_group = rw read (step_group stages kind t.last t.group t.steps body passes)
+        put_group = rw (read, ek) (step_group stages kind t.last t.group t.steps body passes)
 
-        pub put_good : (table' : StepTable) → table' ≡ stored table t.steps (ends_of (kind_tag x.kind) x.group x.from x.to) x.cost
+        pub put_good : (table' : StepTable) → table' ≡ stored table t.steps (ends_of x.tag x.group x.from x.to) x.cost
             → Takes s stages t table table' (Ok (record { place = t.place + 3 + len; steps = t.steps + 1; last = x.from; group = x.group; kind = Some kind }))
         put_good table' e =
-            rw (e, read, el) (
+            rw (e, read, ek, el) (
               has_less s t.place (kind_tag kind) (step_length (kind_tag kind)) has.has,
               λ o sofar. step_good s o.0 stages o.1 table t sofar kind has (rw el at passes),
             )

@@ -115,13 +115,14 @@ fn put_step<const GROUPED: bool>(
     ensures kind { IfOk result (λ r. r.kind ≡ Some (kind_if GROUPED)) }
 {
     let kind = kind_if(GROUPED);
+    let tag = kind.tag();
     let start = read.place + 3;
     let end = start + usize::from(kind.length());
     let body = &file[start..end];
-    if let Err(refusal) = check_step(body, stages, kind, read.last, read.group, read.steps) {
+    if let Err(refusal) = check_step(body, stages, tag, read.last, read.group, read.steps) {
         return Err(read.stopped(refusal, read.place));
     }
-    let step = step_of(body, kind, read.steps);
+    let step = step_of(body, tag, read.steps);
     steps.put(read.steps, step);
     Ok(StepsRead {
         place: end,

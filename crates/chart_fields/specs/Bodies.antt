@@ -3,8 +3,6 @@
 use Rattle.std.specs.Prelude.{ℕ, ◌≤◌, ◌≡◌, List, length}
 use Rattle.definitions.specs.Fields.{two}
 use Rattle.definitions.specs.Charts.{grouped, step_of}
-use Rattle.chart_fields.specs.Kinds.{kind_tag}
-use Rattle.chart_fields.specs.declared.kinds.StepKind.{StepKind}
 use Rattle.chart_fields.specs.declared.bodies.HeadBody.{HeadBody}
 use Rattle.chart_fields.specs.declared.bodies.StepBody.{StepBody}
 
@@ -15,5 +13,5 @@ head_body b = record { stages = two b 0; start = two b 2; end = two b 4 }
 abbrev pub Long : ℕ → List ℕ → Type 0
 Long tag b = (8 ≤ length b) × (tag ≡ grouped → 10 ≤ length b)
 
-abbrev pub step_body : StepKind → ℕ → List ℕ → StepBody
-step_body kind e b = let x = step_of (kind_tag kind) e b in record { kind = kind; from = x.from; to = x.to; cost = x.cost; group = x.group }
+abbrev pub step_body : ℕ → ℕ → List ℕ → StepBody
+step_body tag e b = let x = step_of tag e b in record { tag = tag; from = x.from; to = x.to; cost = x.cost; group = x.group }

@@ -5,7 +5,6 @@ ghost use Rattle.definitions.specs.Fields.{two, four};
 ghost use Rattle.definitions.specs.Charts.{grouped, head_fault, group_fault, step_fault, rounded};
 ghost use Rattle.definitions.specs.Refusals.{fault_number};
 ghost use Rattle.chart_fields.specs.Bodies.{head_body, Long, step_body};
-ghost use Rattle.chart_fields.specs.Kinds.{kind_tag};
 
 use crate::kinds::StepKind;
 use definitions::Refusal;
@@ -73,13 +72,13 @@ fn check_group(b: &[u8], last: u16) -> Result<(), Refusal>
 pub fn check_step(
     b: &[u8],
     stages: u16,
-    kind: StepKind,
+    tag: u8,
     last: u16,
     group: u16,
     count: usize,
 ) -> Result<(), Refusal>
-    requires { Long (kind_tag kind) b.now }
-    ensures { fault_number result ≡ step_fault stages (kind_tag kind) last group count b.now }
+    requires { Long tag b.now }
+    ensures { fault_number result ≡ step_fault stages tag last group count b.now }
 {
     if 1024 <= count {
         return Err(Refusal::StepOrder); // the 1,025th
@@ -99,10 +98,10 @@ pub fn check_step(
     if 1000000 < value {
         return Err(Refusal::DearStep); // too dear
     }
-    match kind {
-        StepKind::Plain => Ok(()),
-        StepKind::Grouped => check_group(b, group),
+    if tag == StepKind::Grouped.tag() {
+        return check_group(b, group);
     }
+    Ok(())
 }
 
 // What a step costs that has this value in the file: whole ticks of 50.
@@ -116,7 +115,7 @@ fn rounded_cost(value: u32) -> u32
 // What the body of a step holds, its cost rounded.
 #[derive(Clone, Copy)]
 pub struct StepBody {
-    pub kind: StepKind,
+    pub tag: u8,
     pub from: u16,
     pub to: u16,
     pub cost: u32,
@@ -124,27 +123,26 @@ pub struct StepBody {
 }
 
 // The group of step e: the one that it names, or its own number.
-#[tactic(auto, unfolding(definitions::specs::Basics::pick))]
-fn group_in(b: &[u8], kind: StepKind, e: usize) -> u16
-    requires { Long (kind_tag kind) b.now × (e < 1024) }
-    ensures { result ≡ pick (eqb (kind_tag kind) grouped) (two b.now 8) e }
+fn group_in(b: &[u8], tag: u8, e: usize) -> u16
+    requires { Long tag b.now × (e < 1024) }
+    ensures { result ≡ pick (eqb tag grouped) (two b.now 8) e }
 {
-    match kind {
-        StepKind::Plain => e as u16,
-        StepKind::Grouped => read_u16(b, 8),
+    if tag == StepKind::Grouped.tag() {
+        return read_u16(b, 8);
     }
+    e as u16
 }
 
-pub fn step_of(b: &[u8], kind: StepKind, e: usize) -> StepBody
-    requires long { Long (kind_tag kind) b.now × (e < 1024) }
+pub fn step_of(b: &[u8], tag: u8, e: usize) -> StepBody
+    requires long { Long tag b.now × (e < 1024) }
     requires cheap { four b.now 4 ≤ 1000000 }
-    ensures { result ≡ step_body kind e b.now }
+    ensures { result ≡ step_body tag e b.now }
 {
     StepBody {
-        kind,
+        tag,
         from: read_u16(b, 0),
         to: read_u16(b, 2),
         cost: rounded_cost(read_u32(b, 4)),
-        group: group_in(b, kind, e),
+        group: group_in(b, tag, e),
     }
 }

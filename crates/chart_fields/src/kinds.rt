@@ -23,13 +23,19 @@ impl StepKind {
     }
 
     // How long their bodies are.
-    #[tactic(auto, unfolding(definitions::specs::Basics::pick))]
     pub fn length(self) -> u16
         ensures { result ≡ step_length (kind_tag self) }
     {
-        match self {
-            StepKind::Plain => 8,
-            StepKind::Grouped => 10,
-        }
+        step_length(self.tag())
     }
+}
+
+// How long the body of a step with this tag is.
+pub fn step_length(tag: u8) -> u16
+    ensures { result ≡ step_length tag }
+{
+    if tag == StepKind::Grouped.tag() {
+        return 10;
+    }
+    8
 }

@@ -3,8 +3,8 @@
 // beside it, with the count of nodes.
 #![tactic(auto)]
 
-ghost use Rattle.std.specs.Prelude.{◌≡◌, ◌+◌, ◌*◌, ◌≤◌, ◌<◌};
-ghost use Rattle.unique_table.specs.Tables.{Table, count_in, hash, Finds, Adds, Interns};
+ghost use Rattle.std.specs.Prelude.{◌≡◌, ◌+◌, ◌*◌, ◌≤◌, ◌<◌, get_or};
+ghost use Rattle.unique_table.specs.Tables.{unique_table, Table, count_in, hash, Finds, Adds, Interns};
 ghost use Rattle.unique_table.specs.Held.{held, SameArray, Blank};
 
 use diagram_fields::word;
@@ -13,11 +13,33 @@ use diagram_fields::word;
 const HEADS: usize = 512;
 
 // The chain that a node is in.
-#[tactic(auto, unfolding(crate::specs::Tables::hash))]
 fn chain(w: u32) -> usize
     ensures { (result ≡ hash w) × (result < 512) }
 {
     w as usize * 2654435769 / 8388608 % 512
+}
+
+// The number of a node, where a table of these nodes and chains has it.
+pub fn find<'a>(nodes: &'a [u32; 512], chains: &'a [u16; 1024], w: u32) -> Option<u16>
+    requires { Table (unique_table nodes.now chains.now) }
+    ensures { Finds (unique_table nodes.now chains.now) w result }
+{
+    let mut m = chains[HEADS + chain(w)];
+    while 2 <= m {
+        let at = m as usize;
+        if nodes[at] == w {
+            return Some(m);
+        }
+        m = chains[at];
+    }
+    None
+}
+
+// How many inner nodes a table of these chains has.
+pub fn count(chains: &[u16; 1024]) -> usize
+    ensures { result ≡ get_or chains.now 0 0 }
+{
+    chains[0] as usize
 }
 
 #[derive(Drop)]
@@ -44,7 +66,7 @@ impl<'a> UniqueTable<'a> {
     pub fn count(&self) -> usize
         ensures { result ≡ count_in (held self.now) }
     {
-        self.chains[0] as usize
+        count(&self.chains)
     }
 
     // The number of a node, where the table has it.
@@ -52,16 +74,7 @@ impl<'a> UniqueTable<'a> {
         requires { Table (held self.now) }
         ensures { Finds (held self.now) w result }
     {
-        let nodes = &*self.nodes;
-        let mut m = self.chains[HEADS + chain(w)];
-        while 2 <= m {
-            let at = m as usize;
-            if nodes[at] == w {
-                return Some(m);
-            }
-            m = self.chains[at];
-        }
-        None
+        find(&*self.nodes, &self.chains, w)
     }
 
     // A new node, as the last one.

@@ -1,7 +1,7 @@
 -- `chart_fields::check_step` meets its contract.
-use Rattle.std.proofs.Common.{◌≡◌, ap}
-use Rattle.chart_fields.specs.Kinds.{kind_tag}
-use Rattle.chart_fields.proofs.Values.{step-laws}
+use Rattle.std.proofs.Common.{◌≡◌, sym, ◌∙◌}
+use Rattle.chart_fields.proofs.Values.{long_named, step-laws}
+use borrow.Author.Rules.{rules}
 use Rattle.chart_fields.proofs.bodies.check_step.Goals as goal
 
 pub returns-then-count-ge1024 : goal.returns-then-count-ge1024
@@ -19,8 +19,11 @@ returns-then-from-last c = search step-laws
 pub returns-then-value-gt1000000 : goal.returns-then-value-gt1000000
 returns-then-value-gt1000000 c = search step-laws
 
-pub returns-in-Plain : goal.returns-in-Plain
-returns-in-Plain c = let plain : kind_tag c.args.kind ≡ 2 = ap kind_tag c.in-Plain.is in search step-laws
+pub check_group-requires : goal.check_group-requires
+check_group-requires c = search (long_named, rules)
 
-pub returns-in-Grouped : goal.returns-in-Grouped
-returns-in-Grouped c = let grouped : kind_tag c.args.kind ≡ 3 = ap kind_tag c.in-Grouped.is in search step-laws
+pub returns-then-tag : goal.returns-then-tag
+returns-then-tag c = let named : c.args.tag ≡ 3 = c.if-tag.true ∙ c.tag.ensures in search step-laws
+
+pub returns : goal.returns
+returns c = let plain : c.args.tag ≡ 3 → ⊥ = λ e. c.if-tag.false (e ∙ sym c.tag.ensures) in search step-laws

@@ -1,11 +1,10 @@
 -- `StepTable::is_grouped` meets its contract.
 use Rattle.std.proofs.Common.{sym, ◌∙◌, eqb-true}
 use Rattle.std.proofs.lemmas.Bool.{eqb-false}
-use Rattle.chart_fields.specs.Ends.{tags_at}
 use Rattle.chart_fields.proofs.table.StepTable.is_grouped.Goals as goal
 
 pub returns-clause-named : goal.returns-clause-named
-returns-clause-named c = λ h. tags_at _ _ ∙ sym c.tag_of.ensures ∙ eqb-true _ _ h ∙ c.tag.ensures
+returns-clause-named c = λ h. sym c.tag_at.ensures ∙ eqb-true _ _ h ∙ c.tag.ensures
 
 pub returns-clause-plain : goal.returns-clause-plain
-returns-clause-plain c = λ h e. eqb-false _ _ h (c.tag_of.ensures ∙ sym (tags_at _ _) ∙ e ∙ sym c.tag.ensures)
+returns-clause-plain c = λ h e. eqb-false _ _ h (c.tag_at.ensures ∙ e ∙ sym c.tag.ensures)

@@ -1,7 +1,0 @@
--- `StepTable::to` meets its contract.
-use mathlib.Core.Path.{sym, ◌∙◌}
-use Rattle.chart_fields.specs.Ends.{tos_at}
-use Rattle.chart_fields.proofs.table.StepTable.to.Goals as goal
-
-pub returns : goal.returns
-returns c = c.to_of.ensures ∙ sym (tos_at _ _)
