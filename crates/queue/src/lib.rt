@@ -5,10 +5,22 @@
 #![tactic(auto)]
 
 ghost use Rattle.std.specs.Prelude.{ℕ, ◌≡◌, List};
-ghost use Rattle.queue.specs.Queue.{Counts, Inserting, Inserted, Decreasing, Decreased};
+ghost use Rattle.queue.specs.Queue.{Counts, state, Inserting, Inserted, Decreasing, Decreased};
 ghost use Rattle.queue.specs.Views.{counts_of, state_with, state_of, IsQueue, SameSlices, Takes};
 
 use heap::Heap;
+
+// Gives pair q, which is in the queue, the key v, below the one that it has and at least the floor. The counts and the stack,
+// whatever they are, stay.
+pub fn decrease(keys: &mut [u32], heap: &mut [u32], pos: &mut [u32], q: usize, v: u32)
+    requires { (stack : List ℕ) × (counts : Counts) × Decreasing q v (state keys.old heap.old pos.old stack counts) }
+    ensures { (stack : List ℕ) (counts : Counts) →
+        let before = state keys.old heap.old pos.old stack counts in
+        let after = state keys.new heap.new pos.new stack counts in
+        (x : Decreasing q v before) → Decreased x.p x.floor q v before after }
+{
+    heap::decrease_key(keys, heap, pos, q, v);
+}
 
 // The four slices, and how many pairs are in the heap and on the stack: both are 0 in a queue that holds nothing. The heap's
 // slices stand here themselves: of a struct within this one a caller would not learn what its slices end as.
@@ -54,8 +66,7 @@ impl<'a> Queue<'a> {
         self.heaped = heap.held;
     }
 
-    // Gives pair q, which is in the queue, the key v, below the one that it has and at least the floor. The counts and the
-    // stack, whatever they are, stay.
+    // As the function `decrease`.
     pub fn decrease(&mut self, q: usize, v: u32)
         requires { (stack : List ℕ) × (counts : Counts) × Decreasing q v (state_with self.old stack counts) }
         ensures same { SameSlices self.old self.new }
@@ -66,13 +77,7 @@ impl<'a> Queue<'a> {
             let after = state_with self.new stack counts in
             (x : Decreasing q v before) → Decreased x.p x.floor q v before after }
     {
-        let mut heap = Heap {
-            keys: &mut *self.keys,
-            heap: &mut *self.heap,
-            pos: &mut *self.pos,
-            held: self.heaped,
-        };
-        heap.decrease_key(q, v);
+        decrease(self.keys, self.heap, self.pos, q, v);
     }
 
     // Takes a pair with the least key out of the queue, if it holds one: the last one on the stack, if there is one. The keys
