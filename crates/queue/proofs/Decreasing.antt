@@ -9,7 +9,8 @@ use lib.ListN.{get_or}
 use lib.Seq.{get_or-set_same, get_or-set_other}
 use Rattle.heap_sift.specs.Heap.{slices, In}
 use Rattle.heap.specs.Calls as calls
-use Rattle.queue.specs.Queue.{Counts, state, Contains, Queue, Decreasing, Decreased}
+use Rattle.queue.specs.declared.Counts.{Counts}
+use Rattle.queue.specs.Queue.{state, Contains, Queue, Decreasing, Decreased}
 use Rattle.queue.proofs.Facts.{contains_pair}
 
 module _ {keys heap pos stack : List ℕ} {c : Counts} {q v : ℕ} (d : Decreasing q v (state keys heap pos stack c)) where
