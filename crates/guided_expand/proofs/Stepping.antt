@@ -9,7 +9,8 @@ use mathlib.Core.Option.{some}
 use native.Mathlib.Omega.{arith}
 use lib.ListN.{length, get_or}
 use Rattle.definitions.specs.Basics.{NONE}
-use Rattle.queue.specs.Queue.{Counts, Contains}
+use Rattle.queue.specs.declared.Counts.{Counts}
+use Rattle.queue.specs.Queue.{Contains}
 use Rattle.queue.proofs.Facts.{keys_fit, contains_pair, contains_keys, queue_keys}
 use Rattle.definitions.specs.Ways.{Graph}
 use Rattle.definitions.specs.Pairs.{Automaton, Estimate, pair}

@@ -1,7 +1,8 @@
 -- How far a search has come.
 -- Assumes nothing.
 use Rattle.std.specs.Prelude.{ℕ, Bool, List}
-use Rattle.queue.specs.Queue.{Counts, State, Contains}
+use Rattle.queue.specs.declared.Counts.{Counts}
+use Rattle.queue.specs.Queue.{State, Contains}
 use Rattle.guided_model.specs.State.{Marks, marks}
 use Rattle.guided_keys.specs.Seen.{seen}
 use Rattle.guided_offers.specs.Work.{Work, queue_in}

@@ -16,7 +16,8 @@ use Rattle.theory.specs.Limits.{Sound}
 use Rattle.theory.specs.Basics.{either, same_or_not, true_not_false}
 use Rattle.theory.specs.Pairs.{pair_inside, pair_of, node_of_inside}
 use Rattle.theory.specs.Product.{start_pair}
-use Rattle.queue.specs.Queue.{Counts, state, Contains, Queue, Empty, Inserting, Inserted}
+use Rattle.queue.specs.declared.Counts.{Counts}
+use Rattle.queue.specs.Queue.{state, Contains, Queue, Empty, Inserting, Inserted}
 use Rattle.queue.proofs.Facts.{queue_empty, contains_none}
 use Rattle.checks.specs.Tables.{chart_in, diagram_in, Tables, pairs_in}
 use Rattle.checks.specs.Ready.{Walk, graph_in, automaton_in, width_is, few_stages, few_nodes, row_start_lem}

@@ -18,7 +18,8 @@ use Rattle.definitions.specs.Promises.{goal_at}
 use Rattle.definitions.specs.declared.Shape.{Shape}
 use Rattle.theory.specs.Basics.{either, same_or_not, both, true_not_false}
 use Rattle.theory.specs.Product.{start_pair}
-use Rattle.queue.specs.Queue.{Counts, held, State, state, Contains, Taken}
+use Rattle.queue.specs.declared.Counts.{Counts}
+use Rattle.queue.specs.Queue.{held, State, state, Contains, Taken}
 use Rattle.queue.specs.Views.{Takes}
 use Rattle.queue.specs.declared.Next.{Next}
 use Rattle.queue.proofs.Facts.{contains_none, contains_pair, keys_fit}
@@ -88,7 +89,7 @@ module _ {z : Shape} {on : Walk} {t : Estimates} (by : Guides z on t)
   -- the pair that was taken
   pub turn_taken : {q : State} {r : Option Next} {next : Next} → Takes (pairs_in z) floor (queue_of x) q r → r ≡ Some next → Taken (pairs_in z) floor next.pair next.key (queue_of x) q
   turn_taken {q} {r} {next} taken is =
-      let some : (0 < held x.counts) × Taken (pairs_in z) floor next.pair next.key (queue_of x) q = subst (Takes (pairs_in z) floor (queue_of x) q) is taken in
+      let some : (0 < held x.counts) × Taken (pairs_in z) floor next.pair next.key (queue_of x) q × (next.counts ≡ q.counts) = subst (Takes (pairs_in z) floor (queue_of x) q) is taken in
       some.1
 
   module _ {begin y key : ℕ} {keys' heap' pos' stack' : List ℕ} {c' : Counts} (eb : begin ≡ start_pair (g by) (a by)) (ek : keys' ≡ x.slices.keys)

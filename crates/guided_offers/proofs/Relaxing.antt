@@ -7,7 +7,8 @@ use native.Mathlib.Omega.{arith}
 use lib.ListN.{length, get_or, set, drop}
 use lib.Seq.{drop-set-lt}
 use Rattle.definitions.specs.Basics.{NONE}
-use Rattle.queue.specs.Queue.{Counts, state, Contains, Inserting, Inserted, Decreasing, Decreased}
+use Rattle.queue.specs.declared.Counts.{Counts}
+use Rattle.queue.specs.Queue.{state, Contains, Inserting, Inserted, Decreasing, Decreased}
 use Rattle.queue.proofs.Facts.{keys_fit}
 use Rattle.guided_model.specs.Moves.{relaxed_none, relaxed_falls}
 use Rattle.guided_offers.specs.Work.{Work, work, queue_in, marks_in, kept_same, Offering, Relaxes}

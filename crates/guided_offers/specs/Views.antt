@@ -2,7 +2,7 @@
 -- Assumes nothing.
 use Rattle.std.specs.Prelude.{◌≡◌}
 use Rattle.heap.specs.Views.{SameSlice}
-use Rattle.queue.specs.Queue.{Counts}
+use Rattle.queue.specs.declared.Counts.{Counts}
 use Rattle.queue.specs.Views as queues
 use Rattle.guided_offers.specs.Estimates as tables
 use Rattle.guided_offers.specs.Work as slices

@@ -3,7 +3,8 @@
 use Rattle.std.specs.Prelude.{ℕ, ◌≤◌, ◌<◌, ◌≡◌, refl, List, length, drop}
 use Rattle.std.proofs.Common.{◌∙◌}
 use Rattle.definitions.specs.Basics.{NONE}
-use Rattle.queue.specs.Queue.{Counts, State, state, Contains, Queue}
+use Rattle.queue.specs.declared.Counts.{Counts}
+use Rattle.queue.specs.Queue.{State, state, Contains, Queue}
 use Rattle.guided_model.specs.State.{Marks, marks}
 use Rattle.guided_model.specs.Moves.{Offerable, Relaxed}
 

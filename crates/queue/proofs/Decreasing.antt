@@ -9,7 +9,8 @@ use lib.ListN.{get_or}
 use lib.Seq.{get_or-set_same, get_or-set_other}
 use Rattle.heap_sift.specs.Heap.{slices, In}
 use Rattle.heap.specs.Calls as calls
-use Rattle.queue.specs.Queue.{Counts, state, Contains, Queue, Decreasing, Decreased}
+use Rattle.queue.specs.declared.Counts.{Counts}
+use Rattle.queue.specs.Queue.{state, Contains, Queue, Decreasing, Decreased}
 use Rattle.queue.proofs.Facts.{contains_pair}
 
 module _ {keys heap pos stack : List ℕ} {c : Counts} {q v : ℕ} (d : Decreasing q v (state keys heap pos stack c)) where
@@ -50,8 +51,8 @@ module _ {keys heap pos stack : List ℕ} {c : Counts} {q v : ℕ} (d : Decreasi
         above k a (yes e) = rw (u.stored, e) (omega (arith, d.above, get_or-set_same keys q v 0 (omega (arith, contains_pair x d.here, x.ordered.keys_fit))))
         above k a (no nd) = rw u.stored (omega (arith, get_or-set_other keys q k v 0 nd, x.above k (u.only k a)))
 
-    decrease_heap : Decreased p floor q v (state keys heap pos stack c) (state keys' heap' pos' stack c)
-    decrease_heap = record {
+    pub decrease_done : Decreased p floor q v (state keys heap pos stack c) (state keys' heap' pos' stack c)
+    decrease_done = record {
       stored = u.stored;
       queue = lower_queue;
       kept = kept;
@@ -66,8 +67,3 @@ module _ {keys heap pos stack : List ℕ} {c : Counts} {q v : ℕ} (d : Decreasi
         only : (k : ℕ) → Contains (state keys' heap' pos' stack c) k → Contains (state keys heap pos stack c) k
         only k (Contains.in_heap i) = Contains.in_heap (u.only k i)
         only k (Contains.on_stack i h e) = Contains.on_stack i h e
-
-    -- where the slices hold what the heap's do
-    pub decrease_done : {keys'' heap'' pos'' : List ℕ} → keys'' ≡ keys' → heap'' ≡ heap' → pos'' ≡ pos'
-        → Decreased p floor q v (state keys heap pos stack c) (state keys'' heap'' pos'' stack c)
-    decrease_done ek eh ep = rw (ek, eh, ep) decrease_heap

@@ -8,7 +8,8 @@ use lib.ListN.{length, get_or}
 use Rattle.heap_sift.specs.Heap.{slices, key, parent, Heap}
 use Rattle.heap_sift.proofs.Places.{in_pair, stands}
 use Rattle.heap.proofs.Facts.{heap_empty}
-use Rattle.queue.specs.Queue.{Counts, held, State, state, Contains, Queue, Empty}
+use Rattle.queue.specs.declared.Counts.{Counts}
+use Rattle.queue.specs.Queue.{held, State, state, Contains, Queue, Empty}
 
 -- a queue that is made with no pair in its heap and none on its stack is empty
 pub empty_counts : Empty (record { heaped = 0; top = 0 })

@@ -12,7 +12,8 @@ use Rattle.theory.specs.Counting.{room}
 use Rattle.heap_sift.specs.Heap.{slices, In}
 use Rattle.heap.specs.Calls.{Pushing, Pushed}
 use Rattle.heap.proofs.Facts.{heap_other}
-use Rattle.queue.specs.Queue.{Counts, state, Contains, Queue, Inserting, Inserted}
+use Rattle.queue.specs.declared.Counts.{Counts}
+use Rattle.queue.specs.Queue.{state, Contains, Queue, Inserting, Inserted}
 use Rattle.queue.proofs.Recent.{recent_more, recent_same}
 
 -- an entry of the stack after q is put at its top
@@ -138,8 +139,8 @@ module _ {keys heap pos stack : List ℕ} {floor : ℕ} {c : Counts} {q v : ℕ}
         above k w (yes d) = rw (u.stored, d) (omega (arith, new_key, asks.at_least))
         above k w (no nd) = rw u.stored (omega (arith, old_key k nd, x.above k (u.only k w nd)))
 
-    insert_heaped : Inserted p floor q v (state keys heap pos stack c) (state keys' heap' pos' stack added)
-    insert_heaped = record {
+    pub insert_heap : Inserted p floor q v (state keys heap pos stack c) (state keys' heap' pos' stack added)
+    insert_heap = record {
       stored = u.stored;
       queue = heap_queue;
       one_more = omega arith;
@@ -158,8 +159,3 @@ module _ {keys heap pos stack : List ℕ} {floor : ℕ} {c : Counts} {q v : ℕ}
         only : (k : ℕ) → Contains (state keys' heap' pos' stack added) k → k ≢ q → Contains (state keys heap pos stack c) k
         only k (Contains.in_heap w) nd = Contains.in_heap (u.only k w nd)
         only k (Contains.on_stack i h d) nd = Contains.on_stack i h d
-
-    -- where n is how many the heap then has, and the slices hold what the heap's do
-    pub insert_heap : {n : ℕ} {keys'' heap'' pos'' : List ℕ} → n ≡ c.heaped + 1 → keys'' ≡ keys' → heap'' ≡ heap' → pos'' ≡ pos'
-        → Inserted p floor q v (state keys heap pos stack c) (state keys'' heap'' pos'' stack (record { heaped = n; top = c.top }))
-    insert_heap e ek eh ep = rw (e, ek, eh, ep) insert_heaped

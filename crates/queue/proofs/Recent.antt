@@ -7,7 +7,8 @@ use native.Mathlib.Numerals.{add-one}
 use native.Mathlib.Omega.{arith}
 use lib.ListN.{length, get_or, set}
 use lib.Seq.{get_or-set_same, get_or-set_other}
-use Rattle.queue.specs.Queue.{Counts, backwards, recent}
+use Rattle.queue.specs.declared.Counts.{Counts}
+use Rattle.queue.specs.Queue.{backwards, recent}
 
 -- a store at i leaves the first n entries where n is at most i
 backwards_set : (stack : List ℕ) (i q n : ℕ) → n ≤ i → backwards (set stack i q) n ≡ backwards stack n

@@ -8,9 +8,10 @@ use native.Mathlib.Decide.{ℕ_discrete}
 use native.Mathlib.Omega.{arith}
 use lib.ListN.{length, get_or}
 use Rattle.theory.specs.Counting.{pigeons}
-use Rattle.heap_sift.specs.Heap.{Slices, slices}
+use Rattle.heap_sift.specs.Heap.{slices}
 use Rattle.heap.specs.Calls.{Popped}
-use Rattle.queue.specs.Queue.{Counts, state, Contains, Queue, recent, Taken}
+use Rattle.queue.specs.declared.Counts.{Counts}
+use Rattle.queue.specs.Queue.{state, Contains, Queue, recent, Taken}
 use Rattle.queue.proofs.Facts.{contains_pair, floor_le}
 use Rattle.queue.proofs.Recent.{recent_last, recent_none}
 
@@ -75,12 +76,7 @@ module _ {keys heap pos stack : List ℕ} {p floor : ℕ} {c : Counts} (x : Queu
     }
 
   -- ---- `take` from the heap, where the stack is empty
-  -- where the keys are as before
-  module _ {r : ℕ} {keys' heap' pos' : List ℕ} (z : c.top ≤ 0) (y : 0 < c.heaped) (same : keys' ≡ keys)
-      (took : Popped p c.heaped r (slices keys heap pos) (slices keys' heap' pos')) where
-    u : Popped p c.heaped r (slices keys heap pos) (slices keys heap' pos')
-    u = rw same at took
-
+  module _ {r : ℕ} {heap' pos' : List ℕ} (z : c.top ≤ 0) (y : 0 < c.heaped) (u : Popped p c.heaped r (slices keys heap pos) (slices keys heap' pos')) where
     abbrev left : Counts
     left = record { heaped = c.heaped - 1; top = c.top }
 
@@ -103,11 +99,11 @@ module _ {keys heap pos stack : List ℕ} {p floor : ℕ} {c : Counts} (x : Queu
     none : recent stack c ≡ []
     none = recent_none stack c (omega arith)
 
-    pub take_within : {keys'' : List ℕ} → keys'' ≡ keys' → r < length keys''
-    take_within e = omega (arith, u.pair, x.ordered.keys_fit, ap length same, ap length e)
+    pub take_within : r < length keys
+    take_within = omega (arith, u.pair, x.ordered.keys_fit)
 
-    take_heaped : Taken p floor r (get_or keys r 0) (state keys heap pos stack c) (state keys heap' pos' stack left)
-    take_heaped = record {
+    pub take_heap : Taken p floor r (get_or keys r 0) (state keys heap pos stack c) (state keys heap' pos' stack left)
+    take_heap = record {
       was = Contains.in_heap u.was;
       pair = u.pair;
       least = least;
@@ -130,13 +126,3 @@ module _ {keys heap pos stack : List ℕ} {p floor : ℕ} {c : Counts} (x : Queu
       none_recent = λ d. recent_none stack left (omega arith);
       past = record { heap_past = u.past.heap_past; pos_past = u.past.pos_past; stack_past = refl };
     }
-
-    -- where n is how many the heap then has, and the slices hold what the heap's do
-    pub take_heap : {n : ℕ} {keys'' heap'' pos'' : List ℕ} → n ≡ c.heaped - 1 → keys'' ≡ keys' → heap'' ≡ heap' → pos'' ≡ pos'
-        → Taken p floor r (get_or keys'' r 0) (state keys heap pos stack c) (state keys'' heap'' pos'' stack (record { heaped = n; top = c.top }))
-    take_heap e ek eh ep = rw (e, ek, eh, ep, same) take_heaped
-
--- ---- `take` where there is none
-pub take_none : {keys heap pos stack : List ℕ} {c : Counts} {left : Slices} {keys'' heap'' pos'' : List ℕ} → left ≡ slices keys heap pos
-    → keys'' ≡ left.keys → heap'' ≡ left.heap → pos'' ≡ left.pos → state keys'' heap'' pos'' stack c ≡ state keys heap pos stack c
-take_none e ek eh ep = rw (ek, eh, ep, e) refl

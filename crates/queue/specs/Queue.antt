@@ -5,11 +5,7 @@
 use Rattle.std.specs.Prelude.{ℕ, zero, suc, ◌+◌, ◌≤◌, ◌<◌, ◌≡◌, ◌≢◌, List, [], ◌∷◌, length, get_or, set, drop}
 use Rattle.heap_sift.specs.Heap.{slices, In, Heap}
 use Rattle.theory.specs.Counting.{Distinct}
-
--- how many of the pairs are in the heap, and how many are on the stack
-pub record Counts : Type 0 where
-  pub heaped : ℕ
-  pub top : ℕ
+use Rattle.queue.specs.declared.Counts.{Counts}
 
 -- how many pairs there are
 abbrev pub held : Counts → ℕ

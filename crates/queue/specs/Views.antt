@@ -3,7 +3,8 @@
 use Rattle.std.specs.Prelude.{ℕ, ◌<◌, ◌≡◌, List, Option, Some, None}
 use Rattle.heap.specs.Views.{SameSlice}
 use Rattle.queue.specs.Queue as order
-use Rattle.queue.specs.Queue.{Counts, held, State, state, Taken}
+use Rattle.queue.specs.declared.Counts.{Counts}
+use Rattle.queue.specs.Queue.{held, State, state, Taken}
 use Rattle.queue.specs.declared.Next.{Next}
 use Rattle.queue.specs.declared.Queue.{Queue}
 
@@ -25,7 +26,7 @@ IsQueue p floor x = order.Queue p floor (state_of x)
 abbrev pub SameSlices : Queue → Queue → Type 0
 SameSlices x x' = SameSlice x.keys x'.keys × SameSlice x.heap x'.heap × SameSlice x.pos x'.pos × SameSlice x.stack x'.stack
 
--- what `take` answers: a pair that it took, or none, exactly where nothing is held
+-- what `take` answers: a pair that it took, with the counts after that, or none, exactly where nothing is held
 abbrev pub Takes : (p floor : ℕ) → State → State → Option Next → Type 0
-Takes p floor x x' (Some next) = (0 < held x.counts) × Taken p floor next.pair next.key x x'
+Takes p floor x x' (Some next) = (0 < held x.counts) × Taken p floor next.pair next.key x x' × (next.counts ≡ x'.counts)
 Takes p floor x x' None = (held x.counts ≡ 0) × (x' ≡ x)
