@@ -28,7 +28,7 @@ pub extern "C" fn planner_space_needed(chart: &[u8], rules: &[u8], space: &mut [
     ensures { let needed = space_needed (read_files strict chart.now rules.now) in
         (result ≡ needed.number) × (space.new ≡ space_numbers needed) }
 {
-    let s = space::space_needed(chart, rules);
+    let s = space::told(space::space_needed(chart, rules));
     store_space(s, space)
 }
 
