@@ -2,7 +2,7 @@
 -- Assumes nothing.
 use Rattle.std.specs.Prelude.{ℕ, List, [], ◌∷◌}
 use Rattle.definitions.specs.declared.Answer.{Answer}
-use Rattle.space.specs.Space.{Needed}
+use Rattle.space.specs.declared.Needed.{Needed}
 
 abbrev pub numbers : Answer → List ℕ
 numbers a = a.number ∷ a.file ∷ a.place ∷ a.cost ∷ a.length ∷ a.count ∷ []

@@ -3,13 +3,11 @@
 
 ghost use Rattle.std.specs.Prelude.{◌≡◌, min, length};
 ghost use Rattle.buffer.specs.Appending.{Appended};
-ghost use Rattle.space.specs.Space.{told};
 ghost use Rattle.answer_arrays.specs.Numbers.{numbers, space_numbers};
 
 use buffer::Writer;
-use checks::Refused;
 use definitions::Answer;
-use space::Space;
+use space::Needed;
 
 // Stores an answer (number, file, place, cost, length, count) and returns its number. Not an `impl From`: neither type is this crate's.
 pub fn store(a: Answer, array: &mut [usize; 6]) -> u32
@@ -36,26 +34,13 @@ pub fn store_both(
 }
 
 // Stores the space needed (number, file, place, work, plan) and returns its number.
-pub fn store_space(needed: Result<Space, Refused>, array: &mut [usize; 5]) -> u32
-    ensures { (result ≡ (told needed).number) × (array.new ≡ space_numbers (told needed)) }
+pub fn store_space(s: Needed, array: &mut [usize; 5]) -> u32
+    ensures { (result ≡ s.number) × (array.new ≡ space_numbers s) }
 {
-    match needed {
-        Ok(space) => {
-            *array = [0, 0, 0, space.work, space.plan];
-            0
-        }
-        Err(refused) => {
-            let number = refused.refusal.number();
-            *array = [
-                number as usize,
-                refused.file_mark() as usize,
-                refused.place,
-                0,
-                0,
-            ];
-            number as u32
-        }
-    }
+    let number = s.number as usize;
+    let file = s.file as usize;
+    *array = [number, file, s.place, s.work, s.plan];
+    s.number
 }
 
 // Copies a field to the front of a buffer as far as there is room, and returns how many bytes the field has.

@@ -12,14 +12,16 @@ pub struct Writer<'a> {
 }
 
 impl<'a> Writer<'a> {
-    // Copies bytes into the buffer from the place on, as far as there is room, and goes on behind them.
+    // Copies bytes into the buffer from the place on, as far as there is room, and goes on behind them. Byte by byte: most are two
+    // or nine, and the library for C is to need no function of the C library for it.
     pub fn copy(&mut self, bytes: &[u8])
         requires { self.old.at ≤ length self.old.out.now }
         ensures { Wrote self.old bytes.now self.new }
     {
         let count = bytes.len().min(self.out.len() - self.at);
-        let end = self.at + count;
-        self.out[self.at..end].copy_from_slice(&bytes[..count]);
-        self.at = end;
+        for i in 0..count {
+            self.out[self.at + i] = bytes[i];
+        }
+        self.at += count;
     }
 }

@@ -58,6 +58,18 @@ impl Refused {
             None => 0,
         }
     }
+
+    // The answer that says so.
+    pub fn answer(self, count: usize) -> Answer
+        ensures { result ≡ refusal_of (number self.refusal) (file_mark self.file) self.place count }
+    {
+        refusal(
+            self.refusal.number() as u32,
+            self.file_mark() as u32,
+            self.place,
+            count,
+        )
+    }
 }
 
 // What was read of a file, or that the file is at fault.
@@ -76,13 +88,13 @@ pub fn in_file<T, S: Drop>(read: Result<T, Stopped<S>>, file: InFile) -> Result<
 
 // An answer that refuses: it has cost 0 and length 0. An answer has numbers, not the enums: it is handed to C as six of them, and
 // the promises of the calls say it so.
-pub fn refusal(refused: Refused, count: usize) -> Answer
-    ensures { result ≡ refusal_of (number refused.refusal) (file_mark refused.file) refused.place count }
+pub fn refusal(number: u32, file: u32, place: usize, count: usize) -> Answer
+    ensures { result ≡ refusal_of number file place count }
 {
     Answer {
-        number: refused.refusal.number() as u32,
-        file: refused.file_mark() as u32,
-        place: refused.place,
+        number,
+        file,
+        place,
         cost: 0,
         length: 0,
         count,

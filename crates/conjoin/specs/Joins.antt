@@ -74,7 +74,7 @@ unfolding cleared
 cleared_long pairs work h = length-append (replicate {A = ℕ} pairs NONE) (drop pairs work) ∙ omega (arith, length-replicate {A = ℕ} pairs NONE, length-drop pairs work)
 
 module _ {work : List ℕ} {o : Operands} {pairs : ℕ} {roots : Pair} (x : Joinable work o pairs roots) where
-  pairs_inside : pairs ≤ length work
+  pub pairs_inside : pairs ≤ length work
   pairs_inside = omega (arith, x.needs, x.inside.room)
 
   -- the work entries are cleared, and the table is without nodes

@@ -4,7 +4,7 @@ ghost use Rattle.conjoin.specs.Joins.{Joinable, Joins};
 
 use crate::load::load_two;
 use apply::{Operands, Pair, apply};
-use checks::{Refused, refusal};
+use checks::Refused;
 use definitions::{Answer, Refusal};
 use diagram_writer::write_diagram;
 use entries::clear;
@@ -27,7 +27,7 @@ pub fn join(
     clear(work, pairs);
     match apply(operands, work, &mut table, roots) {
         Some(root) => write_diagram(file, &table, root),
-        None => refusal(Refused::of_call(Refusal::ManyNodes), 0),
+        None => Refused::of_call(Refusal::ManyNodes).answer(0),
     }
 }
 
@@ -41,7 +41,7 @@ pub fn conjoin(chart: &[u8], rules: &[u8], more: &[u8], work: &mut [u32], file: 
     let mut left = [0u32; 512];
     let mut right = [0u32; 512];
     match load_two(chart, rules, more, work.len(), &mut left, &mut right) {
-        Err(refused) => refusal(refused, 0),
+        Err(refused) => refused.answer(0),
         Ok(got) => {
             let operands = Operands {
                 left: &left,

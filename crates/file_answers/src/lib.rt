@@ -4,7 +4,7 @@
 ghost use Rattle.std.specs.Prelude.{◌≡◌};
 ghost use Rattle.definitions.specs.Answers.{file_answer};
 
-use checks::{Refused, accepted, refusal};
+use checks::{Refused, accepted};
 use definitions::{Answer, Refusal};
 
 // For a file of so many bytes and a buffer of `room` bytes: 7 where the buffer is too short.
@@ -13,7 +13,7 @@ pub fn file_answer(bytes: usize, room: usize) -> Answer
     ensures { result ≡ file_answer bytes room }
 {
     if room < bytes {
-        return refusal(Refused::of_call(Refusal::ShortSlice), 0);
+        return Refused::of_call(Refusal::ShortSlice).answer(0);
     }
     accepted(0, bytes, 0)
 }

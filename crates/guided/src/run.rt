@@ -7,7 +7,7 @@ ghost use Rattle.guided_loop.specs.Views.{SameLent};
 ghost use Rattle.guided.specs.Runs.{with_plan, Room, Runs};
 
 use chart_fields::StepTable;
-use checks::{WalkTables, load, refusal};
+use checks::{WalkTables, load};
 use definitions::{Answer, Shape};
 use guided_ends::{Ended, conclude};
 use guided_loop::Slices;
@@ -94,6 +94,6 @@ pub fn guided(
             };
             run(&mut slices, plan, z, &steps, &inner)
         }
-        Err(refused) => refusal(refused, 0),
+        Err(refused) => refused.answer(0),
     }
 }

@@ -5,7 +5,7 @@ ghost use Rattle.chart.specs.Tables.{steps_in};
 ghost use Rattle.guided_ends.specs.Ends.{Ending, Concludes};
 
 use chart_fields::StepTable;
-use checks::{Refused, accepted, refusal};
+use checks::{Refused, accepted};
 use definitions::{Answer, Node, Refusal, Shape};
 use trace::write_plan;
 
@@ -37,7 +37,7 @@ pub fn conclude<'a>(
         Concludes z via.now table row.now ended plan.old plan.new result }
 {
     match ended.goal {
-        None => refusal(Refused::of_call(Refusal::NoLegalPlan), ended.count),
+        None => Refused::of_call(Refusal::NoLegalPlan).answer(ended.count),
         Some(goal) => {
             let length = write_plan(via, steps, row, z.start, z.end, goal.node, plan);
             accepted(goal.cost, length, ended.count)

@@ -15,7 +15,7 @@ ghost use Rattle.planner_c.specs.Exports.{Given, BothGiven};
 
 use answer_arrays::{store, store_both, store_field, store_space};
 use chart_fields::StepTable;
-use checks::{WalkTables, accepted, refusal};
+use checks::{WalkTables, accepted};
 use cycles::entry::answered;
 use cycles::once::prepare;
 use definitions::Cycle;
@@ -28,7 +28,7 @@ pub extern "C" fn planner_space_needed(chart: &[u8], rules: &[u8], space: &mut [
     ensures { let needed = space_needed (read_files strict chart.now rules.now) in
         (result ≡ needed.number) × (space.new ≡ space_numbers needed) }
 {
-    let s = space::space_needed(chart, rules);
+    let s = space::told(space::space_needed(chart, rules));
     store_space(s, space)
 }
 
@@ -124,7 +124,7 @@ pub extern "C" fn planner_cycles(
     );
     let z = match prepared {
         Ok(z) => z,
-        Err(refused) => return store(refusal(refused, 0), answer),
+        Err(refused) => return store(refused.answer(0), answer),
     };
     let tables = WalkTables {
         steps: &steps,

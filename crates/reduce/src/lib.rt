@@ -7,7 +7,7 @@ ghost use Rattle.diagram.specs.Files.{Room};
 ghost use Rattle.reduce.specs.Reducing.{LoadsAs};
 
 use apply::{Operands, Pair};
-use checks::{InFile, Refused, in_file, refusal};
+use checks::{InFile, Refused, in_file};
 use conjoin::{check_chart, join};
 use definitions::Answer;
 use diagram::{DiagramSizes, read_diagram};
@@ -29,7 +29,7 @@ pub fn reduce(chart: &[u8], rules: &[u8], file: &mut [u8]) -> Answer
 {
     let mut nodes = [0u32; 512];
     match load(chart, rules, &mut nodes) {
-        Err(refused) => refusal(refused, 0),
+        Err(refused) => refused.answer(0),
         Ok(d) => {
             let always = [leaf_word(); 512];
             let operands = Operands {

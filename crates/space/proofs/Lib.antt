@@ -1,1 +1,1 @@
-mod Needed
+mod Needing

@@ -1,19 +1,12 @@
 -- How much space the searches need for two files.
 -- Assumes nothing.
-use Rattle.std.specs.Prelude.{ℕ, Result, Ok, Err}
+use Rattle.std.specs.Prelude.{Result, Ok, Err}
 use Rattle.definitions.specs.Answers.{Load, ready, refused, work_need, plan_need}
 use Rattle.definitions.specs.Refusals.{number}
 use Rattle.checks.specs.Refusing.{file_mark}
 use Rattle.checks.specs.declared.answers.Refused.{Refused}
 use Rattle.space.specs.declared.Space.{Space}
-
--- a refusal's number, file and place, or 0; and the entries that each work slice and the plan slice need, 0 where the files are refused
-pub record Needed : Type 0 where
-  pub number : ℕ
-  pub file : ℕ
-  pub place : ℕ
-  pub work : ℕ
-  pub plan : ℕ
+use Rattle.space.specs.declared.Needed.{Needed}
 
 -- the refusal, or what both files need
 abbrev pub space_needed : Load → Needed

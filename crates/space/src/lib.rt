@@ -16,6 +16,38 @@ pub struct Space {
     pub plan: usize,
 }
 
+// The same in numbers, as C is told it: a refusal's number, file and place, or 0; and the entries, 0 where the files are refused.
+#[derive(Clone, Copy)]
+pub struct Needed {
+    pub number: u32,
+    pub file: u32,
+    pub place: usize,
+    pub work: usize,
+    pub plan: usize,
+}
+
+// What the call below answers, in numbers.
+pub fn told(needed: Result<Space, Refused>) -> Needed
+    ensures { result ≡ told needed }
+{
+    match needed {
+        Ok(space) => Needed {
+            number: 0,
+            file: 0,
+            place: 0,
+            work: space.work,
+            plan: space.plan,
+        },
+        Err(refused) => Needed {
+            number: refused.refusal.number() as u32,
+            file: refused.file_mark() as u32,
+            place: refused.place,
+            work: 0,
+            plan: 0,
+        },
+    }
+}
+
 // The most pairs and the longest plan that any accepted files have: 256 stages × 512 nodes, and 255 steps.
 const MOST_PAIRS: usize = 131072;
 

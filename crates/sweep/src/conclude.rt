@@ -4,7 +4,7 @@ ghost use Rattle.sweep_offers.specs.Offers.{held};
 ghost use Rattle.checks.specs.Ready.{walked};
 ghost use Rattle.sweep.specs.Runs.{Final, Concludes};
 
-use checks::{Refused, WalkTables, accepted, refusal};
+use checks::{Refused, WalkTables, accepted};
 use definitions::{Answer, Refusal, Shape};
 use nodes::fill_finishing;
 use sweep_ends::{cheapest_goal, total_count};
@@ -24,7 +24,7 @@ pub fn conclude(rows: &Rows<'_>, tables: WalkTables<'_>, z: Shape, plan: &mut [u
     let base = tables.row[end] as usize;
     let listed = rows.counts[end] as usize;
     match cheapest_goal(rows, &yes, base, listed) {
-        None => refusal(Refused::of_call(Refusal::NoLegalPlan), count),
+        None => Refused::of_call(Refusal::NoLegalPlan).answer(count),
         Some(best) => {
             let length = write_plan(
                 rows.via,

@@ -13,7 +13,7 @@ ghost use Rattle.sweep.specs.Runs.{Space};
 use crate::conclude::conclude;
 use chart_fields::StepTable;
 use chart_stages::fill_first_steps;
-use checks::{WalkTables, load, refusal};
+use checks::{WalkTables, load};
 use definitions::{Answer, NONE, Shape};
 use rows::fill_row_starts;
 use sweep_ends::begin;
@@ -93,6 +93,6 @@ pub fn sweep(
     let work = cost.len().min(via.len()).min(nodes.len());
     match load(chart, rules, work, plan.len(), &mut steps, &mut inner) {
         Ok(z) => run(cost, via, nodes, plan, z, &steps, &inner),
-        Err(refused) => refusal(refused, 0),
+        Err(refused) => refused.answer(0),
     }
 }

@@ -1,6 +1,6 @@
 -- `planner_c::planner_space_needed` meets its contract.
 use mathlib.Core.Path.{◌∙◌, ap}
-use Rattle.space.specs.Space.{Needed}
+use Rattle.space.specs.declared.Needed.{Needed}
 use Rattle.answer_arrays.specs.Numbers.{space_numbers}
 use Rattle.planner_c.proofs.planner_space_needed.Goals as goal
 

@@ -6,7 +6,7 @@ use Rattle.std.proofs.lemmas.Result.{err_from_is_err_and}
 use Rattle.definitions.specs.Answers.{Load, load}
 use Rattle.space.specs.Space.{space_needed}
 use Rattle.space.specs.Enough.{load_most}
-use Rattle.space.proofs.Needed.{needed_ready, small}
+use Rattle.space.proofs.Needing.{needed_ready, small}
 use Rattle.space.proofs.space_needed.Goals as goal
 
 pub returns-in_err-z : goal.returns-in_err-z

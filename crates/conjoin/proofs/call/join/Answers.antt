@@ -22,4 +22,4 @@ returns-in-Some c =
 pub returns-in-None : goal.returns-in-None
 returns-in-None c =
     λ x. joins_full x _ c.clear.ensures c.over-table.ensures.blank (c.in-None.ensures.walked (walk_ready x _ c.clear.ensures c.over-table.ensures.blank))
-    (c.refusal.ensures ∙ ap (λ (z : Refused). refusal (number z.refusal) (file_mark z.file) z.place 0) c.of_call.ensures) _
+    (c.answer.ensures ∙ ap (λ (z : Refused). refusal (number z.refusal) (file_mark z.file) z.place 0) c.of_call.ensures) _

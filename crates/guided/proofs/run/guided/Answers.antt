@@ -30,4 +30,4 @@ returns-in-Err c =
     let a = c.args in
     let x = guided_slices a.keys.now a.via.now a.heap.now a.pos.now a.stack.now a.log.now a.plan.now in
     let lent = shortest_of _ _ _ _ _ _ c.min.ensures c.min-2.ensures c.min-shorter.ensures c.min-3.ensures c.min-work.ensures in
-    call_refused a.chart.now a.rules.now x lent _ c.in-Err.ensures c.refusal.ensures
+    call_refused a.chart.now a.rules.now x lent _ c.in-Err.ensures c.answer.ensures

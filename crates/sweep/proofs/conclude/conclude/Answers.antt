@@ -21,7 +21,7 @@ write_plan-length-requires-clause-traceable c =
 pub returns-in-None : goal.returns-in-None
 returns-in-None c =
     concludes_none c.requires.done c.fill_finishing.ensures c.in-None.ensures c.total_count-count.ensures
-    (c.refusal.ensures ∙ ap (λ (x : Refused). refusal (number x.refusal) (file_mark x.file) x.place c.total_count-count.result) c.of_call.ensures)
+    (c.answer.ensures ∙ ap (λ (x : Refused). refusal (number x.refusal) (file_mark x.file) x.place c.total_count-count.result) c.of_call.ensures)
 
 pub returns-in-Some : goal.returns-in-Some
 returns-in-Some c =

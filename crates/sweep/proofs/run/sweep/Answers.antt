@@ -23,4 +23,4 @@ pub returns-in-Err : goal.returns-in-Err
 returns-in-Err c =
     let lent = sweep_slices c.args.cost.now c.args.via.now c.args.nodes.now c.args.plan.now in
     let shortest = c.min-work.ensures ∙ ap (λ (k : ℕ). min k (length c.args.nodes.now)) c.min.ensures in
-    call_refused c.args.chart.now c.args.rules.now lent shortest _ c.in-Err.ensures c.refusal.ensures
+    call_refused c.args.chart.now c.args.rules.now lent shortest _ c.in-Err.ensures c.answer.ensures

@@ -8,7 +8,8 @@ use Rattle.definitions.specs.Answers.{Load, ready, work_need}
 use Rattle.definitions.specs.declared.Shape.{Shape}
 use Rattle.checks.specs.Tables.{Read, Tables, chart_in, diagram_in}
 use Rattle.checks.specs.Ready.{few_stages, few_nodes, width_is}
-use Rattle.space.specs.Space.{Needed, space_needed}
+use Rattle.space.specs.declared.Needed.{Needed}
+use Rattle.space.specs.Space.{space_needed}
 
 module _ (t : Read) (z : Shape) (in_tables : Tables z t) where
   -- the space that accepted files need
