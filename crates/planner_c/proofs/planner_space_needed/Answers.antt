@@ -6,4 +6,4 @@ use Rattle.planner_c.proofs.planner_space_needed.Goals as goal
 
 pub returns : goal.returns
 returns c =
-    (c.store_space.ensures.0 ∙ ap (λ (n : Needed). n.number) c.space_needed-s.ensures, c.store_space.ensures.1 ∙ ap space_numbers c.space_needed-s.ensures)
+    (c.store_space.ensures.0 ∙ ap (λ (n : Needed). n.number) (c.told-s.ensures ∙ c.space_needed.ensures), c.store_space.ensures.1 ∙ ap space_numbers (c.told-s.ensures ∙ c.space_needed.ensures))
