@@ -26,7 +26,7 @@ pub fn join(
     let mut table = UniqueTable::over(&mut nodes);
     clear(work, pairs);
     match apply(operands, work, &mut table, roots) {
-        Some(root) => write_diagram(file, &table, root),
+        Some(root) => write_diagram(file, &*table.nodes, &table.chains, root),
         None => Refused::of_call(Refusal::ManyNodes).answer(0),
     }
 }

@@ -52,18 +52,18 @@ pub(crate) fn low_24(x: u64) -> u32
     (x % 16777216) as u32
 }
 
-// A factor times the low two bytes of a number.
-fn times(factor: u16, x: u64) -> u64
+// The product of the low two bytes of two numbers.
+pub fn times(a: u64, b: u64) -> u64
     ensures { result < 4294967296 }
 {
-    u64::from(factor) * u64::from(low(x))
+    u64::from(low(a)) * u64::from(low(b))
 }
 
 fn step(i: u64, fan: u64, reach: u32, spread: u16, value: u32, rise: u16) -> Field {
     let fan = fan.max(1);
     let from = (i / fan).min(254);
-    let to = from + u64::from(reach) + times(spread, i % fan);
-    let value = (u64::from(value) + times(rise, i)) % 1000001;
+    let to = from + u64::from(reach) + times(u64::from(spread), i % fan);
+    let value = (u64::from(value) + times(u64::from(rise), i)) % 1000001;
     Field::Step {
         from: low(from),
         to: low(to.min(255)),
@@ -102,10 +102,10 @@ impl Rule {
             } => {
                 let fan = fan.max(1);
                 node(
-                    1023u64.saturating_sub(times(fall, i / fan)),
+                    1023u64.saturating_sub(times(u64::from(fall), i / fan)),
                     u64::from(low_24(i)) + 2,
                     lo,
-                    u64::from(hi) + times(spread, i % fan),
+                    u64::from(hi) + times(u64::from(spread), i % fan),
                 )
             }
             Rule::Chain {
@@ -115,7 +115,7 @@ impl Rule {
                 lo,
                 hi,
             } => node(
-                group.saturating_sub(times(fall, i)),
+                group.saturating_sub(times(u64::from(fall), i)),
                 u64::from(first) + u64::from(low_24(i)),
                 lo,
                 hi,
