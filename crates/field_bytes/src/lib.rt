@@ -22,7 +22,9 @@ pub fn write_u16(w: &mut Writer, n: u16)
     requires { w.old.at + 2 ≤ length w.old.out.now }
     ensures { Wrote w.old (le2 n) w.new }
 {
-    w.copy(&n.to_le_bytes());
+    let bytes = n.to_le_bytes();
+    write_u8(w, bytes[0]);
+    write_u8(w, bytes[1]);
 }
 
 // A number in four bytes, low byte first.
@@ -30,7 +32,8 @@ pub fn write_u32(w: &mut Writer, value: u32)
     requires { w.old.at + 4 ≤ length w.old.out.now }
     ensures { Wrote w.old (le4 value) w.new }
 {
-    w.copy(&value.to_le_bytes());
+    write_u16(w, (value % 65536) as u16);
+    write_u16(w, (value / 65536) as u16);
 }
 
 // Numbers in two bytes each.
