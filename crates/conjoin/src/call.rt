@@ -6,7 +6,7 @@ use crate::load::load_two;
 use apply::{Operands, Pair, apply};
 use checks::Refused;
 use definitions::{Answer, Refusal};
-use diagram_writer::write_diagram;
+use diagram_writer::write_table;
 use entries::clear;
 use unique_table::UniqueTable;
 
@@ -26,7 +26,7 @@ pub fn join(
     let mut table = UniqueTable::over(&mut nodes);
     clear(work, pairs);
     match apply(operands, work, &mut table, roots) {
-        Some(root) => write_diagram(file, &*table.nodes, &table.chains, root),
+        Some(root) => write_table(file, &table, root),
         None => Refused::of_call(Refusal::ManyNodes).answer(0),
     }
 }

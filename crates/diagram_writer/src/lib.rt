@@ -6,6 +6,7 @@ ghost use Rattle.definitions.specs.Answers.{Filed};
 ghost use Rattle.definitions.specs.Basics.{each};
 ghost use Rattle.definitions.specs.Bytes.{node_bytes, diagram_bytes};
 ghost use Rattle.buffer.specs.Writing.{Wrote};
+ghost use Rattle.unique_table.specs.Held.{held};
 ghost use Rattle.unique_table.specs.Tables.{unique_table, Table, count_in, nodes_in};
 ghost use Rattle.diagram_writer.specs.Files.{drawn};
 
@@ -14,7 +15,7 @@ use definitions::{Answer, Node, Step};
 use diagram_fields::{hi_of, lo_of, step_of};
 use field_writer::{write_diagram_head, write_node};
 use file_answers::file_answer;
-use unique_table::count;
+use unique_table::{UniqueTable, count};
 
 // The inner nodes in the order of the table.
 fn write_nodes(file: &mut Writer, nodes: &[u32; 512], chains: &[u16; 1024])
@@ -48,4 +49,13 @@ pub fn write_diagram<'a>(
     write_diagram_head(&mut file, Node(root));
     write_nodes(&mut file, nodes, chains);
     answer
+}
+
+// The same of a table as it stands in its struct.
+pub fn write_table(out: &mut [u8], table: &UniqueTable, root: u16) -> Answer
+    requires { Table (held table.now) }
+    ensures { let made = drawn root (held table.now) in
+        Filed (diagram_bytes made) out.old out.new result }
+{
+    write_diagram(out, &*table.nodes, &table.chains, root)
 }

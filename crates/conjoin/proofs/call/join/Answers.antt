@@ -11,13 +11,13 @@ pub apply-requires : goal.apply-requires
 apply-requires c =
     walk_ready c.requires _ c.clear.ensures c.over-table.ensures.blank
 
-pub write_diagram-requires : goal.write_diagram-requires
-write_diagram-requires c =
+pub write_table-requires : goal.write_table-requires
+write_table-requires c =
     (c.in-Some.ensures.walked (walk_ready c.requires _ c.clear.ensures c.over-table.ensures.blank)).entries
 
 pub returns-in-Some : goal.returns-in-Some
 returns-in-Some c =
-    λ x. joins_made x _ c.clear.ensures c.over-table.ensures.blank (c.in-Some.ensures.walked (walk_ready x _ c.clear.ensures c.over-table.ensures.blank)) c.write_diagram.ensures
+    λ x. joins_made x _ c.clear.ensures c.over-table.ensures.blank (c.in-Some.ensures.walked (walk_ready x _ c.clear.ensures c.over-table.ensures.blank)) c.write_table.ensures
 
 pub returns-in-None : goal.returns-in-None
 returns-in-None c =
