@@ -39,7 +39,7 @@ pub fn conclude<'a>(
     match ended.goal {
         None => Refused::of_call(Refusal::NoLegalPlan).answer(ended.count),
         Some(goal) => {
-            let length = write_plan(via, steps, row, z.start, z.end, goal.node, plan);
+            let length = write_plan(via, &steps.ends, row, z.start, z.end, goal.node, plan);
             accepted(goal.cost, length, ended.count)
         }
     }

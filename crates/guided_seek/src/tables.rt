@@ -47,7 +47,7 @@ pub fn fill_tables<'a>(
     requires tables { Tables z (read steps.now inner.now) }
     ensures { Prepared z (walk (read steps.now inner.now) first.new row.new) by_node.new }
 {
-    fill_first_steps(first, steps, z.steps, z.stages);
+    fill_first_steps(first, &steps.ends, z.steps, z.stages);
     estimate_nodes(by_node, z, steps, inner);
     fill_row_starts(row, z.stages as usize, z.nodes + 2);
 }

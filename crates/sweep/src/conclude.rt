@@ -28,7 +28,7 @@ pub fn conclude(rows: &Rows<'_>, tables: WalkTables<'_>, z: Shape, plan: &mut [u
         Some(best) => {
             let length = write_plan(
                 rows.via,
-                tables.steps,
+                &tables.steps.ends,
                 tables.row,
                 z.start,
                 z.end,

@@ -52,7 +52,7 @@ fn run(
         SweepPromise (ready (chart_in z t) (diagram_in z t)) before after result }
 {
     let mut first = [0u16; 257];
-    fill_first_steps(&mut first, steps, z.steps, z.stages);
+    fill_first_steps(&mut first, &steps.ends, z.steps, z.stages);
     let mut row = [0u32; 256];
     fill_row_starts(&mut row, z.stages as usize, z.nodes + 2);
     let tables = WalkTables {

@@ -5,7 +5,7 @@ ghost use Rattle.std.specs.Prelude.{◌≡◌, ◌+◌, ◌-◌, ◌≤◌, ◌<
 ghost use Rattle.chart_fields.specs.Ends.{froms};
 ghost use Rattle.trace.specs.Trails.{CameFrom, Traceable};
 
-use chart_fields::StepTable;
+use chart_fields::from_at;
 use definitions::{Node, Stage, Step};
 use via_marks::{node_in, step_in};
 
@@ -26,13 +26,13 @@ pub fn pair_at(row: &[u32; 256], s: Stage, n: Node) -> usize
 }
 
 // What a pair was reached from, by the mark that it keeps.
-fn came_from(steps: &StepTable, mark: u32) -> Predecessor
-    ensures { CameFrom (froms steps.now.ends) mark result }
+fn came_from(ends: &[u32; 1024], mark: u32) -> Predecessor
+    ensures { CameFrom (froms ends.now) mark result }
 {
     let step = step_in(mark);
     Predecessor {
         step,
-        stage: steps.from(step),
+        stage: from_at(ends, step.0 as usize),
         node: node_in(mark),
     }
 }
@@ -41,16 +41,16 @@ fn came_from(steps: &StepTable, mark: u32) -> Predecessor
 // they are.
 fn trace_back<'a>(
     via: &'a [u32],
-    steps: &'a StepTable,
+    ends: &'a [u32; 1024],
     row: &'a [u32; 256],
     start: Stage,
     stage: Stage,
     node: Node,
     plan: &mut [u16],
 ) -> usize
-    requires traceable { Traceable via.now (froms steps.now.ends) row.now start.0 stage.0 node.0 }
+    requires traceable { Traceable via.now (froms ends.now) row.now start.0 stage.0 node.0 }
     requires fits { stage.0 - start.0 ≤ length plan.old }
-    ensures { (x : Traceable via.now (froms steps.now.ends) row.now start.0 stage.0 node.0)
+    ensures { (x : Traceable via.now (froms ends.now) row.now start.0 stage.0 node.0)
         → (result ≡ length x.steps) × (plan.new ≡ reverse x.steps ++ drop result plan.old) }
 {
     let mut s = stage;
@@ -58,7 +58,7 @@ fn trace_back<'a>(
     let mut count: usize = 0;
     // No `for`: the loop ends at the start's stage, and only there the number of steps is known.
     while start.0 < s.0 {
-        let before = came_from(steps, via[pair_at(row, s, n)]);
+        let before = came_from(ends, via[pair_at(row, s, n)]);
         plan[count] = before.step.0;
         s = before.stage;
         n = before.node;
@@ -70,19 +70,19 @@ fn trace_back<'a>(
 // Writes the steps that lead from the start to a pair to the front of the plan, and answers how many they are.
 pub fn write_plan<'a>(
     via: &'a [u32],
-    steps: &'a StepTable,
+    ends: &'a [u32; 1024],
     row: &'a [u32; 256],
     start: Stage,
     stage: Stage,
     node: Node,
     plan: &mut [u16],
 ) -> usize
-    requires traceable { Traceable via.now (froms steps.now.ends) row.now start.0 stage.0 node.0 }
+    requires traceable { Traceable via.now (froms ends.now) row.now start.0 stage.0 node.0 }
     requires fits { stage.0 - start.0 ≤ length plan.old }
-    ensures { (x : Traceable via.now (froms steps.now.ends) row.now start.0 stage.0 node.0)
+    ensures { (x : Traceable via.now (froms ends.now) row.now start.0 stage.0 node.0)
         → (result ≡ length x.steps) × (plan.new ≡ x.steps ++ drop result plan.old) }
 {
-    let length = trace_back(via, steps, row, start, stage, node, plan);
+    let length = trace_back(via, ends, row, start, stage, node, plan);
     plan[..length].reverse();
     length
 }

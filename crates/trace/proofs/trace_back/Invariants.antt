@@ -10,7 +10,7 @@ use Rattle.trace.proofs.trace_back.Given as goal
 
 abbrev pub invariant-loop-s : goal.invariant-loop-s
 invariant-loop-s l =
-    ((x : Traceable l.via (froms l.steps.ends) l.row l.start.0 l.initial.s.0 l.initial.n.0) → (taken : List ℕ) × Follows x l.s.0 l.n.0 taken
+    ((x : Traceable l.via (froms l.ends) l.row l.start.0 l.initial.s.0 l.initial.n.0) → (taken : List ℕ) × Follows x l.s.0 l.n.0 taken
     × (length taken ≡ l.count) × (l.plan ≡ reverse taken ++ drop l.count l.initial.plan))
     × (l.count + l.s.0 ≤ l.initial.s.0) × (length l.plan ≡ length l.initial.plan)
 

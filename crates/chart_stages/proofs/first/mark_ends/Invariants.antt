@@ -7,4 +7,4 @@ use Rattle.chart_stages.specs.FirstSteps.{EndTable}
 use Rattle.chart_stages.proofs.first.mark_ends.Given as goal
 
 abbrev pub invariant-loop-e : goal.invariant-loop-e
-invariant-loop-e l = (l.e ≤ l.count) × (length l.first ≡ 257) × EndTable l.e (froms l.steps.ends) l.first
+invariant-loop-e l = (l.e ≤ l.count) × (length l.first ≡ 257) × EndTable l.e (froms l.ends) l.first
