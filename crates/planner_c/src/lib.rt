@@ -104,18 +104,15 @@ pub extern "C" fn planner_cycles(
     let mut first = [0u16; 257];
     let mut row = [0u32; 256];
     let mut by_node = [0u32; 512];
-    let mut slices = Slices {
-        keys,
-        via,
-        heap,
-        pos,
-        stack,
-        log,
-    };
     let prepared = prepare(
         chart,
         rules,
-        &slices,
+        keys.len(),
+        via.len(),
+        heap.len(),
+        pos.len(),
+        stack.len(),
+        log.len(),
         &mut steps,
         &mut inner,
         &mut first,
@@ -125,6 +122,14 @@ pub extern "C" fn planner_cycles(
     let z = match prepared {
         Ok(z) => z,
         Err(refused) => return store(refused.answer(0), answer),
+    };
+    let mut slices = Slices {
+        keys,
+        via,
+        heap,
+        pos,
+        stack,
+        log,
     };
     let tables = WalkTables {
         steps: &steps,

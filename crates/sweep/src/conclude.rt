@@ -23,7 +23,7 @@ pub fn conclude(rows: &Rows<'_>, tables: WalkTables<'_>, z: Shape, plan: &mut [u
     let end = z.end.0 as usize;
     let base = tables.row[end] as usize;
     let listed = rows.counts[end] as usize;
-    match cheapest_goal(rows, &yes, base, listed) {
+    match cheapest_goal(rows.costs, rows.nodes, &yes, base, listed) {
         None => Refused::of_call(Refusal::NoLegalPlan).answer(count),
         Some(best) => {
             let length = write_plan(

@@ -30,7 +30,14 @@ fn least_costs(rows: &mut Rows<'_>, tables: WalkTables<'_>, z: Shape)
     ensures same { SameSlices rows.old rows.new }
 {
     let base = tables.row[z.start.0 as usize] as usize;
-    begin(rows, base, z.start, z.root);
+    begin(
+        rows.costs,
+        rows.nodes,
+        &mut rows.counts,
+        base,
+        z.start,
+        z.root,
+    );
     relax_rows(rows, tables, z);
 }
 

@@ -5,7 +5,6 @@ ghost use Rattle.sweep_ends.specs.Goals.{Better, Chosen, Listed};
 ghost use Rattle.sweep_rows.specs.Standing.{at};
 
 use definitions::Node;
-use sweep_offers::Rows;
 
 // A goal pair's cost, and its node.
 #[derive(Clone, Copy)]
@@ -25,15 +24,21 @@ fn better(best: Option<Best>, n: Node, v: u32, yes: bool) -> Option<Best>
 }
 
 // The cheapest goal pair among the first `count` nodes of the list of the row that starts at `base`.
-pub fn cheapest_goal(rows: &Rows<'_>, yes: &[bool; 512], base: usize, count: usize) -> Option<Best>
-    requires { Listed base count rows.now.costs.now rows.now.nodes.now }
-    ensures { Chosen base count rows.now.costs.now rows.now.nodes.now yes.now result }
+pub fn cheapest_goal(
+    costs: &[u32],
+    nodes: &[u32],
+    yes: &[bool; 512],
+    base: usize,
+    count: usize,
+) -> Option<Best>
+    requires { Listed base count costs.now nodes.now }
+    ensures { Chosen base count costs.now nodes.now yes.now result }
 {
     let mut best = None;
     // By index: where no node is listed, `Listed` does not promise that the list's slice begins inside `nodes`.
     for k in 0..count {
-        let n = rows.nodes[base + k] as usize;
-        let v = rows.costs[base + n];
+        let n = nodes[base + k] as usize;
+        let v = costs[base + n];
         best = better(best, Node(n as u16), v, yes[n]);
     }
     best

@@ -1,6 +1,7 @@
 -- What an offer asks of the tables, and what a step leaves in them.
 -- Assumes nothing.
 use Rattle.std.specs.Prelude.{ℕ, ◌+◌, ◌<◌, ◌≡◌, List, eqb, length, get_or}
+use Rattle.std.specs.Borrow.{MutBor}
 use Rattle.definitions.specs.Basics.{NONE, pick}
 use Rattle.via_marks.specs.Marks.{packed}
 use Rattle.sweep_model.specs.Model.{Rows, rows, offer}
@@ -11,9 +12,13 @@ use Rattle.sweep_offers.specs.declared.Rows as declared
 abbrev pub held : declared.Rows → Rows
 held r = rows r.costs.now r.via.now r.nodes.now r.counts
 
+-- the same slice is lent, and as long, whatever stands in it
+abbrev pub SameSlice : MutBor (List ℕ) → MutBor (List ℕ) → Type 0
+SameSlice s s' = (s'.ghost_name ≡ s.ghost_name) × (length s'.now ≡ length s.now)
+
 -- both lie over the same lent slices
 abbrev pub SameSlices : declared.Rows → declared.Rows → Type 0
-SameSlices r r' = (r'.costs.ghost_name ≡ r.costs.ghost_name) × (r'.via.ghost_name ≡ r.via.ghost_name) × (r'.nodes.ghost_name ≡ r.nodes.ghost_name)
+SameSlices r r' = SameSlice r.costs r'.costs × SameSlice r.via r'.via × SameSlice r.nodes r'.nodes
 
 -- the pair of stage s, whose row starts at `base`, and node t can take an offer: it stands in the slices, and if it is new its row's list has room
 pub record Open (base s t : ℕ) (r : Rows) : Type 0 where

@@ -12,8 +12,8 @@ begin-requires-clause-list_in c =
 
 pub relax_rows-requires : goal.relax_rows-requires
 relax_rows-requires c =
-    begun_row c.requires.ready c.requires.fresh c.begin.ensures.becomes
+    begun_row c.requires.ready c.requires.fresh (c.begin.ensures c.args.rows.now.via.now)
 
 pub returns-clause-becomes : goal.returns-clause-becomes
 returns-clause-becomes c =
-    swept_is c.requires.ready c.requires.fresh c.begin.ensures.becomes c.relax_rows.ensures.becomes
+    swept_is c.requires.ready c.requires.fresh (c.begin.ensures c.args.rows.now.via.now) c.relax_rows.ensures.becomes
