@@ -22,8 +22,8 @@ returns-in-Err c =
     let a = c.args in
     let given = cycle_slices a.keys.now a.via.now a.heap.now a.pos.now a.stack.now a.log.now in
     record {
-      answer = c.refusal.result;
-      kept = subst (λ (r : Answer). CyclesCall a.chart.now a.rules.now given given a.list.now a.list.now r) (sym c.refusal.ensures)
+      answer = c.answer.result;
+      kept = subst (λ (r : Answer). CyclesCall a.chart.now a.rules.now given given a.list.now a.list.now r) (sym c.answer.ensures)
           (none_answered a.chart.now a.rules.now given a.list.now c.in-Err.refused c.in-Err.ensures);
       held = c.store.ensures.1;
       returned = c.store.ensures.0;
