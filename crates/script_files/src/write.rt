@@ -147,15 +147,24 @@ impl Files {
         self.making = self.chart;
     }
 
-    // Adds bytes at the end of the file in the making, as far as the buffer goes; the file grows past it too.
+    // Adds a byte at the end of the file in the making, if the buffer goes so far; the file grows past it too.
     // No script of 65,536 bytes makes a size of 2^64: its numbers are below 10^19, and what it adds below 10^17.
+    fn append_byte(&mut self, byte: u8)
+        ensures grown { Grown self.old self.new }
+    {
+        if self.making < BUFFER {
+            self.buffer[self.making] = byte;
+        }
+        self.making = self.making.saturating_add(1);
+    }
+
+    // Adds bytes, one by one: most are two.
     fn append(&mut self, bytes: &[u8])
         ensures grown { Grown self.old self.new }
     {
-        let start = self.making.min(BUFFER);
-        let count = bytes.len().min(BUFFER - start);
-        self.buffer[start..start + count].copy_from_slice(&bytes[..count]);
-        self.making = self.making.saturating_add(bytes.len());
+        for byte in bytes {
+            self.append_byte(*byte);
+        }
     }
 
     // Adds a field's tag and the length of its body.

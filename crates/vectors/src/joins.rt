@@ -44,6 +44,7 @@ fn own(number: u32, pairs: usize, lent: usize) -> usize {
 }
 
 // The conjunction.
+#[inline(never)]
 pub fn show_join(
     rt: &impl Print,
     chart: &[u8],

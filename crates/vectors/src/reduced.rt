@@ -5,6 +5,7 @@ use crate::written::{MOST_BYTES, show_written};
 use std::io;
 
 // The reduction, into so many bytes of the buffer.
+#[inline(never)]
 pub fn show_reduced(
     rt: &impl Print,
     chart: &[u8],

@@ -15,7 +15,7 @@ fn add(files: &mut Files, count: u32, rule: Rule) {
     }
 }
 
-// What a call answers.
+// What a call answers. Those with slices of their own are not inlined: so large a frame costs each of the others too.
 fn show(rt: &impl Print, files: &Files, call: Call) -> io::Result<()> {
     let making = files.making();
     let chart = files.file(Role::Chart);

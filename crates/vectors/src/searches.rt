@@ -42,6 +42,7 @@ fn show_log(rt: &impl Print, a: Answer, log: &[u32; MOST], free: bool) -> io::Re
 }
 
 // The sweep: its answer and its cost slice, and which entries past the plan and past the search's own have changed.
+#[inline(never)]
 pub fn show_sweep(
     rt: &impl Print,
     chart: &[u8],
@@ -75,6 +76,7 @@ pub fn show_sweep(
 
 // The guided search: its answer and its log, and which entries past the plan, past the log and past the search's own have
 // changed.
+#[inline(never)]
 pub fn show_guided(
     rt: &impl Print,
     chart: &[u8],
