@@ -1,9 +1,7 @@
 -- `space::space_needed` meets its contract.
 use native.Mathlib.Omega.{arith}
 use mathlib.Core.Path.{sym, ◌∙◌, ap}
-use mathlib.Core.List.{[], ◌∷◌}
 use Rattle.std.proofs.lemmas.Result.{err_from_is_err_and}
-use Rattle.definitions.specs.Answers.{Load, load}
 use Rattle.space.specs.Space.{space_needed}
 use Rattle.space.specs.Enough.{load_most}
 use Rattle.space.proofs.Needing.{needed_ready, small}
