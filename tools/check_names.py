@@ -2,7 +2,7 @@
 """Checks that every file, function, definition and law that the pages name is in the tree.
 
     tools/check_names.py             README.md, docs/*.md and the README.md of each folder. Those that tell history
-                                     (docs/changes/, docs/PORT*.md, docs/DESIGN-PASS.md) name what there was at their time, and are left out
+                                     (docs/changes/, docs/PORT*.md, docs/DESIGN-PASS.md, docs/LOOK-BACK.md) name what there was at their time, and are left out
     tools/check_names.py PAGE...     these pages
 
 Looked at, in each page: what stands between backquotes, the paths in blocks of code, the targets of links, and the sections
@@ -32,6 +32,8 @@ OUTSIDE = {
     "requires", "ensures", "now", "entry", "exit", "main", "match", "switch", "default", "non_exhaustive", "Vec", "Ok", "Err", "None",
     "memcpy", "memset", "errno", "PATH", "SIGSEGV", "std",
 }
+# pages that tell history
+HISTORY = ("docs/PORT*.md", "docs/DESIGN-PASS.md", "docs/LOOK-BACK.md")
 CODE = {".rt", ".antt", ".rs", ".py", ".h", ".c", ".toml", ".bash", ""}
 COMMENT = {".antt": r"--.*", ".py": r"#.*|\"{3}[\s\S]*?\"{3}", ".toml": r"#.*", ".bash": r"#.*", "": r"#.*"}
 WORD = r"[A-Za-z_][\w′]*(?:[-·][\w′]+)*"
@@ -129,7 +131,7 @@ def sections():
 
 def is_history(page):
     """Whether a page tells what was, so that its names need not be in the tree."""
-    return page.parts[:2] == ("docs", "changes") or page.match("docs/PORT*.md") or page.match("docs/DESIGN-PASS.md")
+    return page.parts[:2] == ("docs", "changes") or any(page.match(name) for name in HISTORY)
 
 
 # ---- what is wrong with a name, or None
