@@ -12,8 +12,8 @@ pub struct Writer<'a> {
 }
 
 impl<'a> Writer<'a> {
-    // Copies bytes into the buffer from the place on, as far as there is room, and goes on behind them. Byte by byte: most are two
-    // or nine, and the library for C is to need no function of the C library for it.
+    // Copies bytes into the buffer from the place on, as far as there is room, and goes on behind them. One by one: a copy of the
+    // whole is a call of `memcpy`, which the library for C does not ask for.
     pub fn copy(&mut self, bytes: &[u8])
         requires { self.old.at ≤ length self.old.out.now }
         ensures { Wrote self.old bytes.now self.new }
