@@ -42,7 +42,7 @@ SEARCHES = {
         {
             "sweep::run::least_costs",
             "sweep_rows::relax_row",
-            "sweep_offers::Rows::relax_step",
+            "sweep_offers::relax_step",
             "sweep::conclude::conclude",
             "trace::pair_at",
         },
